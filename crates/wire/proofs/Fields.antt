@@ -1,0 +1,26 @@
+-- A run of fields, each a number of its width: one step of reading what stands there, and one of knowing that what is read stands there.
+-- The place of the next field is an argument with an equation, so that no sum of places has to be brought into one shape.
+use mathlib.Core.Path.{_≡_, sym, ap, _∙_}
+use mathlib.Core.List.{List, _++_}
+use Prim.Native.Nat.{ℕ, _+_, _^_, _≤_, _<_}
+use lib.ListN.{length}
+use Rattle.wire.specs.Parts.{part}
+use Rattle.wire.specs.Numbers.{number, bytes, numberAt, AllBytes}
+use Rattle.wire.proofs.Parts.{length-part}
+use Rattle.wire.proofs.Numbers.{length-bytes, number-bytes, bytes-number, all-part}
+use Rattle.wire.proofs.Stands.{Stands, stands-left, stands-right, stands-joined}
+
+-- the field that stands there is read, and the rest stands behind it
+pub field-read : (width x : ℕ) (s : List ℕ) (at to : ℕ) (ws : List ℕ) → x < 256 ^ width → at + width ≡ to → Stands s at (bytes width x ++ ws) → (numberAt s at width ≡ x) × Stands s to ws
+unfolding Stands numberAt
+field-read width x s at to ws hx e h = (
+  ap number (rw length-bytes at (stands-left s at (bytes width x) ws h)) ∙ number-bytes width x hx,
+  rw (← e) (rw length-bytes at (stands-right s at (bytes width x) ws h)),
+)
+
+-- the field that is read stands there, before the rest
+pub field-stands : (width : ℕ) (s : List ℕ) (at to : ℕ) (ws : List ℕ) → AllBytes s → at + width ≤ length s → at + width ≡ to → Stands s to ws → Stands s at (bytes width (numberAt s at width) ++ ws)
+unfolding Stands numberAt
+field-stands width s at to ws a l e h =
+    let v = rw (length-part s at width l) at (bytes-number (part s at width) (all-part s at width a)) in
+    stands-joined s at (bytes width (number (part s at width))) ws (rw length-bytes (sym v)) (rw (length-bytes, e) h)

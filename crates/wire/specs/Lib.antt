@@ -1,0 +1,2 @@
+pub mod Parts
+pub mod Numbers
