@@ -1,0 +1,104 @@
+//! What the tests of the repository share: where it is, which crates it lists, and what its papers cite.
+
+use std::fs;
+use std::path::{Path, PathBuf};
+
+/// The repository's top folder.
+pub fn top() -> PathBuf {
+    Path::new(env!("CARGO_MANIFEST_DIR"))
+        .join("../..")
+        .canonicalize()
+        .expect("the repository's top folder")
+}
+
+/// The text of a file of the repository.
+pub fn text(path: &str) -> String {
+    fs::read_to_string(top().join(path)).unwrap_or_else(|error| panic!("{}: {}", path, error))
+}
+
+/// The crates of crates.txt, in its order.
+pub fn crates() -> Vec<String> {
+    text("crates.txt")
+        .lines()
+        .map(|line| line.split('#').next().unwrap_or(""))
+        .filter_map(|line| line.split_once(':'))
+        .map(|(name, _)| name.trim().to_string())
+        .collect()
+}
+
+/// The files below a folder of the repository whose names end so, with their paths from the top.
+pub fn files(folder: &str, ending: &str) -> Vec<String> {
+    let mut found = Vec::new();
+    let mut open = vec![top().join(folder)];
+    while let Some(here) = open.pop() {
+        for entry in fs::read_dir(&here).into_iter().flatten().flatten() {
+            let path = entry.path();
+            if path.is_dir() {
+                open.push(path);
+            } else if path.to_string_lossy().ends_with(ending) {
+                let from_top = path.strip_prefix(top()).expect("a path below the top");
+                found.push(from_top.to_string_lossy().into_owned());
+            }
+        }
+    }
+    found.sort();
+    found
+}
+
+/// The words that a paper sets in backticks.
+pub fn cited(paper: &str) -> Vec<String> {
+    text(paper)
+        .split('`')
+        .skip(1)
+        .step_by(2)
+        .map(str::to_string)
+        .collect()
+}
+
+/// Whether what a citation names is there. `None` for words that name nothing of the tree.
+///
+/// `wire::u32_at` is a function of a crate, `wire/proofs/Numbers.read-back` a definition or a theorem, `wire/must-fail/..`
+/// an edit, and a path that begins with one of the repository's folders is that file.
+pub fn stands(citation: &str) -> Option<bool> {
+    let crates = crates();
+    if let Some((name, function)) = citation.split_once("::") {
+        if !crates.iter().any(|c| c == name) {
+            return None;
+        }
+        let declared = format!("fn {}(", function);
+        let sources = files(&format!("crates/{}/src", name), ".rt");
+        return Some(sources.iter().any(|file| text(file).contains(&declared)));
+    }
+    let (first, rest) = citation.split_once('/')?;
+    if crates.iter().any(|c| c == first) {
+        return Some(stands_in_crate(first, rest));
+    }
+    let folders = [".ci", "crates", "docs", "host", "include", "tools"];
+    if folders.contains(&first) {
+        return Some(top().join(citation).exists());
+    }
+    None
+}
+
+fn stands_in_crate(name: &str, rest: &str) -> bool {
+    if let Some(label) = rest.strip_prefix("must-fail/") {
+        return top()
+            .join(format!("crates/{}/must-fail/{}.edit", name, label))
+            .is_file();
+    }
+    let (file, item) = match rest.rsplit_once('.') {
+        Some(parts) => parts,
+        None => return false,
+    };
+    let path = top().join(format!("crates/{}/{}.antt", name, file));
+    fs::read_to_string(path)
+        .map(|text| text.lines().any(|line| declares(line, item)))
+        .unwrap_or(false)
+}
+
+/// Whether a line of antt declares this name: `pub name : ..`, `record Name ..`, with any marks before it.
+fn declares(line: &str, item: &str) -> bool {
+    let mut words = line.split_whitespace();
+    let word = words.find(|w| !["abbrev", "unfoldable", "pub", "record", "data"].contains(w));
+    word == Some(item) && words.next().is_some()
+}

@@ -1,0 +1,198 @@
+//! The gate's word can be trusted: its last line reads '0 failed' only after every step went well.
+//!
+//! Each test runs the project's own `.ci/run` and `test` in a folder of its own, where `rt` and `cargo` are stand-ins that end as
+//! the test wants, and looks at the exit status and the very last line.
+
+use std::env;
+use std::fs;
+use std::os::unix::fs::{symlink, PermissionsExt};
+use std::path::{Path, PathBuf};
+use std::process::Command;
+
+const WELL: &str = "mkdir -p target/log\n\
+    echo 'logic=proved functions=16 sum=0' > target/log/wire.out\n\
+    echo 'proved: all'\n\
+    echo '7 passed, 0 failed'\n";
+
+/// A copy of the gate with stand-ins for what it calls.
+struct Gate {
+    folder: PathBuf,
+}
+
+impl Gate {
+    fn new(name: &str) -> Gate {
+        let folder = env::temp_dir().join(format!("sprondilu-gate-{}-{}", name, std::process::id()));
+        let _ = fs::remove_dir_all(&folder);
+        for sub in [".ci", "tools", "bin", "host"] {
+            fs::create_dir_all(folder.join(sub)).unwrap();
+        }
+        for file in [".ci/run", "test", "tools/install"] {
+            fs::copy(house::top().join(file), folder.join(file)).unwrap();
+        }
+        let gate = Gate { folder };
+        // Nothing of this machine is on the gate's PATH but these, so that a tool can be missing there.
+        for tool in ["bash", "env", "dirname", "grep", "mkdir", "mktemp", "tee", "sed", "tail", "rm"] {
+            symlink(which(tool), gate.folder.join("bin").join(tool)).unwrap();
+        }
+        gate.rt("exit 0", WELL);
+        gate.tool("cargo", "echo 'test result: ok. 3 passed; 0 failed'\n");
+        gate.tool("cc", "exit 0\n");
+        gate
+    }
+
+    fn tool(&self, name: &str, body: &str) {
+        let path = self.folder.join("bin").join(name);
+        let _ = fs::remove_file(&path);
+        fs::write(&path, format!("#!/usr/bin/env bash\n{}", body)).unwrap();
+        fs::set_permissions(&path, fs::Permissions::from_mode(0o755)).unwrap();
+    }
+
+    fn rt(&self, fmt: &str, ci: &str) {
+        self.tool("rt", &format!("if [ \"$1\" = fmt ]; then {}; fi\n{}", fmt, ci));
+    }
+
+    fn without(&self, name: &str) {
+        fs::remove_file(self.folder.join("bin").join(name)).unwrap();
+    }
+
+    /// Whether the gate passed, its very last line, and all that it printed.
+    fn run(&self) -> (bool, String, String) {
+        let done = Command::new(self.folder.join("bin/bash"))
+            .arg(self.folder.join(".ci/run"))
+            .env("PATH", self.folder.join("bin"))
+            .current_dir(env::temp_dir())
+            .output()
+            .unwrap();
+        let printed = String::from_utf8(done.stdout).unwrap();
+        let said = String::from_utf8(done.stderr).unwrap();
+        let last = printed.lines().last().unwrap_or("").to_string();
+        (done.status.success(), last, printed + &said)
+    }
+
+    /// The gate is red, and names the step at which it stopped.
+    fn is_red_at(&self, step: &str) {
+        let (passed, last, all) = self.run();
+        assert!(!passed, "{}", all);
+        assert!(!last.contains("0 failed"), "{}", all);
+        assert!(last.contains(step), "{}", all);
+    }
+}
+
+impl Drop for Gate {
+    fn drop(&mut self) {
+        let _ = fs::remove_dir_all(&self.folder);
+    }
+}
+
+fn which(tool: &str) -> PathBuf {
+    let path = env::var_os("PATH").expect("a PATH");
+    env::split_paths(&path)
+        .map(|folder| folder.join(tool))
+        .find(|file| Path::new(file).is_file())
+        .unwrap_or_else(|| panic!("no {} on the PATH", tool))
+}
+
+#[test]
+fn all_well_ends_with_the_verdict_of_rt() {
+    let (passed, last, all) = Gate::new("well").run();
+    assert!(passed, "{}", all);
+    assert_eq!(last, "7 passed, 0 failed");
+    assert_eq!(all.matches("7 passed, 0 failed").count(), 1, "{}", all);
+    assert!(all.contains("proved: all"), "{}", all);
+}
+
+#[test]
+fn an_unproved_crate_is_red() {
+    let gate = Gate::new("unproved");
+    gate.rt("exit 0", "echo '6 passed, 1 failed'\nexit 1\n");
+    gate.is_red_at("rt ci");
+}
+
+#[test]
+fn a_failed_rt_is_red_whatever_it_printed() {
+    let gate = Gate::new("status");
+    gate.rt("exit 0", "echo '7 passed, 0 failed'\nexit 3\n");
+    gate.is_red_at("rt ci");
+}
+
+#[test]
+fn an_rt_that_broke_off_is_red() {
+    let gate = Gate::new("broke-off");
+    gate.rt("exit 0", "echo '7 passed, 0 failed'\necho 'rt: no disk'\nexit 0\n");
+    gate.is_red_at("rt ci");
+    gate.rt("exit 0", "exit 0\n");
+    gate.is_red_at("rt ci");
+}
+
+#[test]
+fn an_rt_that_proved_nothing_is_red() {
+    let gate = Gate::new("nothing");
+    gate.rt("exit 0", "echo '0 passed, 0 failed'\n");
+    gate.is_red_at("rt ci");
+}
+
+#[test]
+fn a_proof_that_assumes_something_is_red() {
+    let gate = Gate::new("assumes");
+    for word in ["axioms=1", "foreign=wire::write axioms=1"] {
+        gate.rt("exit 0", &WELL.replace("sum=0", word));
+        gate.is_red_at("assumptions");
+    }
+}
+
+#[test]
+fn a_check_that_left_no_log_is_red() {
+    let gate = Gate::new("log");
+    gate.rt("exit 0", "echo '7 passed, 0 failed'\n");
+    gate.is_red_at("assumptions");
+}
+
+#[test]
+fn a_failed_host_test_is_red_after_all_is_proved() {
+    let gate = Gate::new("host");
+    gate.tool("cargo", "echo 'test result: FAILED. 2 passed; 1 failed'\nexit 101\n");
+    gate.is_red_at("cargo test");
+    gate.tool("cargo", "echo '9 passed, 0 failed'\nexit 1\n");
+    gate.is_red_at("cargo test");
+}
+
+#[test]
+fn a_file_out_of_layout_is_red() {
+    let gate = Gate::new("layout");
+    gate.rt("exit 1", WELL);
+    gate.is_red_at("rt fmt");
+}
+
+#[test]
+fn a_machine_without_the_kit_is_told_so() {
+    let gate = Gate::new("kit");
+    gate.without("rt");
+    gate.is_red_at("tools/install");
+    assert!(gate.run().2.contains("Rattle's kit"));
+}
+
+#[test]
+fn what_is_missing_is_installed_by_name() {
+    let gate = Gate::new("install");
+    gate.without("cargo");
+    gate.is_red_at("tools/install");
+    assert!(gate.run().2.contains("install these by hand: cargo"));
+    let cargo = gate.folder.join("bin/cargo");
+    let installs = format!(
+        "if [ \"$1\" = install ]; then\n\
+         for word in \"$@\"; do\n\
+         if [ \"$word\" = cargo ]; then\n\
+         {ln} -s {yes} {cargo}\n\
+         fi\ndone\nfi\n",
+        ln = which("ln").display(),
+        yes = which("true").display(),
+        cargo = cargo.display()
+    );
+    gate.tool("apt-get", &installs);
+    let (passed, last, all) = gate.run();
+    assert!(passed, "{}", all);
+    assert_eq!(last, "7 passed, 0 failed");
+    gate.without("cargo");
+    gate.tool("apt-get", "exit 100\n");
+    gate.is_red_at("tools/install");
+}

@@ -1,0 +1,101 @@
+//! The papers are true of the tree: what they cite is there, and what is there is cited.
+
+use house::{cited, crates, files, stands, text};
+
+const PAPERS: [&str; 4] = [
+    "README.md",
+    "docs/CLAIMS.md",
+    "docs/DECISIONS.md",
+    "docs/ROADMAP.md",
+];
+
+/// The rows of the tables of CLAIMS.md, without headings and rules.
+fn claims() -> Vec<Vec<String>> {
+    text("docs/CLAIMS.md")
+        .lines()
+        .filter(|line| line.starts_with("| ") && !line.starts_with("| id "))
+        .map(|line| {
+            let inner = line.trim().trim_start_matches('|').trim_end_matches('|');
+            inner.split('|').map(|cell| cell.trim().to_string()).collect()
+        })
+        .collect()
+}
+
+#[test]
+fn what_a_paper_cites_is_there() {
+    let mut seen = 0;
+    for paper in PAPERS {
+        for citation in cited(paper) {
+            if let Some(there) = stands(&citation) {
+                assert!(there, "{} cites `{}`, which is not there", paper, citation);
+                seen += 1;
+            }
+        }
+    }
+    assert!(seen > 20, "only {} citations were understood", seen);
+}
+
+#[test]
+fn a_citation_of_nothing_is_noticed() {
+    for wrong in [
+        "wire::no_such_function",
+        "wire/proofs/Numbers.no-such-law",
+        "wire/proofs/NoSuchFile.read-back",
+        "wire/must-fail/no_such_edit",
+        "host/no/such/file",
+    ] {
+        assert_eq!(stands(wrong), Some(false), "{}", wrong);
+    }
+    assert_eq!(stands("wire/proofs/Numbers.read-back"), Some(true));
+    assert_eq!(stands("a word"), None);
+}
+
+#[test]
+fn every_crate_is_on_the_map_of_the_readme() {
+    let readme = text("README.md");
+    for name in crates() {
+        let row = format!("| `{}` |", name);
+        assert!(readme.contains(&row), "README.md has no row for {}", name);
+    }
+}
+
+#[test]
+fn every_must_fail_edit_is_cited_by_a_claim() {
+    let cited = cited("docs/CLAIMS.md");
+    for file in files("crates", ".edit") {
+        let name = file
+            .trim_start_matches("crates/")
+            .trim_end_matches(".edit")
+            .to_string();
+        assert!(cited.contains(&name), "CLAIMS.md does not cite {}", name);
+    }
+}
+
+#[test]
+fn every_claim_has_all_its_cells() {
+    let rows = claims();
+    assert!(rows.len() > 100, "only {} rows were found", rows.len());
+    for row in &rows {
+        assert_eq!(row.len(), 6, "{:?}", row);
+        assert!(row.iter().all(|cell| !cell.is_empty()), "{:?}", row);
+    }
+    let mut ids: Vec<&String> = rows.iter().map(|row| &row[0]).collect();
+    ids.sort();
+    for pair in ids.windows(2) {
+        assert_ne!(pair[0], pair[1], "two claims have one id");
+    }
+}
+
+#[test]
+fn the_decisions_are_numbered_once() {
+    let text = text("docs/DECISIONS.md");
+    let numbers: Vec<&str> = text
+        .lines()
+        .filter(|line| line.starts_with("**D"))
+        .filter_map(|line| line[2..].split('.').next())
+        .collect();
+    assert!(numbers.len() > 5, "only {} decisions were found", numbers.len());
+    for (place, number) in numbers.iter().enumerate() {
+        assert_eq!(*number, format!("D{}", place + 1));
+    }
+}

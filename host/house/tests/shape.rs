@@ -1,0 +1,59 @@
+//! The house rules that a machine can hold the sources to.
+
+use house::{files, text};
+
+/// The lines of each function of a Rattle source, from `fn` to the closing brace, with its name.
+fn functions(source: &str) -> Vec<(String, usize)> {
+    let mut found = Vec::new();
+    let mut open: Option<(String, usize, usize)> = None;
+    for line in source.lines() {
+        let depth = line.len() - line.trim_start().len();
+        if let Some((name, indent, lines)) = open.take() {
+            if depth == indent && line.trim_end() == format!("{}}}", " ".repeat(indent)) {
+                found.push((name, lines + 1));
+            } else {
+                open = Some((name, indent, lines + 1));
+            }
+        } else if let Some(name) = function_name(line) {
+            open = Some((name, depth, 1));
+        }
+    }
+    found
+}
+
+fn function_name(line: &str) -> Option<String> {
+    let words = line.trim_start().split_once("fn ")?;
+    if !words.0.split_whitespace().all(|w| ["pub", "extern", "\"C\""].contains(&w)) {
+        return None;
+    }
+    Some(words.1.split('(').next()?.to_string())
+}
+
+#[test]
+fn a_function_has_at_most_forty_lines() {
+    let mut seen = 0;
+    for file in files("crates", ".rt") {
+        for (name, lines) in functions(&text(&file)) {
+            assert!(lines <= 40, "{}: {} has {} lines", file, name, lines);
+            seen += 1;
+        }
+    }
+    assert!(seen > 10, "only {} functions were found", seen);
+}
+
+#[test]
+fn a_long_function_would_be_noticed() {
+    let long = format!("pub fn long(\n    x: u8,\n) -> u8\n{{\n{}}}\n", "    x;\n".repeat(40));
+    assert_eq!(functions(&long), vec![("long".to_string(), 45)]);
+}
+
+#[test]
+fn no_proof_assumes_anything() {
+    for file in files("crates", ".antt") {
+        for (number, line) in text(&file).lines().enumerate() {
+            let code = line.split("--").next().unwrap_or("");
+            let bad = code.trim_start().starts_with("axiom ") || code.contains("Prim.Axiom");
+            assert!(!bad, "{}:{}: {}", file, number + 1, line);
+        }
+    }
+}
