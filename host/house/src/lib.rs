@@ -45,14 +45,18 @@ pub fn files(folder: &str, ending: &str) -> Vec<String> {
     found
 }
 
-/// The words that a paper sets in backticks.
+/// The words that a paper sets in backticks, outside its blocks of code.
 pub fn cited(paper: &str) -> Vec<String> {
-    text(paper)
-        .split('`')
-        .skip(1)
-        .step_by(2)
-        .map(str::to_string)
-        .collect()
+    let mut in_code = false;
+    let mut found = Vec::new();
+    for line in text(paper).lines() {
+        if line.trim_start().starts_with("```") {
+            in_code = !in_code;
+        } else if !in_code {
+            found.extend(line.split('`').skip(1).step_by(2).map(str::to_string));
+        }
+    }
+    found
 }
 
 /// Whether what a citation names is there. `None` for words that name nothing of the tree.

@@ -21,7 +21,8 @@ struct Gate {
 
 impl Gate {
     fn new(name: &str) -> Gate {
-        let folder = env::temp_dir().join(format!("sprondilu-gate-{}-{}", name, std::process::id()));
+        let folder =
+            env::temp_dir().join(format!("sprondilu-gate-{}-{}", name, std::process::id()));
         let _ = fs::remove_dir_all(&folder);
         for sub in [".ci", "tools", "bin", "host"] {
             fs::create_dir_all(folder.join(sub)).unwrap();
@@ -31,7 +32,9 @@ impl Gate {
         }
         let gate = Gate { folder };
         // Nothing of this machine is on the gate's PATH but these, so that a tool can be missing there.
-        for tool in ["bash", "env", "dirname", "grep", "mkdir", "mktemp", "tee", "sed", "tail", "rm"] {
+        for tool in [
+            "bash", "env", "dirname", "grep", "mkdir", "mktemp", "tee", "sed", "tail", "rm",
+        ] {
             symlink(which(tool), gate.folder.join("bin").join(tool)).unwrap();
         }
         gate.rt("exit 0", WELL);
@@ -48,7 +51,10 @@ impl Gate {
     }
 
     fn rt(&self, fmt: &str, ci: &str) {
-        self.tool("rt", &format!("if [ \"$1\" = fmt ]; then {}; fi\n{}", fmt, ci));
+        self.tool(
+            "rt",
+            &format!("if [ \"$1\" = fmt ]; then {}; fi\n{}", fmt, ci),
+        );
     }
 
     fn without(&self, name: &str) {
@@ -118,7 +124,10 @@ fn a_failed_rt_is_red_whatever_it_printed() {
 #[test]
 fn an_rt_that_broke_off_is_red() {
     let gate = Gate::new("broke-off");
-    gate.rt("exit 0", "echo '7 passed, 0 failed'\necho 'rt: no disk'\nexit 0\n");
+    gate.rt(
+        "exit 0",
+        "echo '7 passed, 0 failed'\necho 'rt: no disk'\nexit 0\n",
+    );
     gate.is_red_at("rt ci");
     gate.rt("exit 0", "exit 0\n");
     gate.is_red_at("rt ci");
@@ -150,7 +159,10 @@ fn a_check_that_left_no_log_is_red() {
 #[test]
 fn a_failed_host_test_is_red_after_all_is_proved() {
     let gate = Gate::new("host");
-    gate.tool("cargo", "echo 'test result: FAILED. 2 passed; 1 failed'\nexit 101\n");
+    gate.tool(
+        "cargo",
+        "echo 'test result: FAILED. 2 passed; 1 failed'\nexit 101\n",
+    );
     gate.is_red_at("cargo test");
     gate.tool("cargo", "echo '9 passed, 0 failed'\nexit 1\n");
     gate.is_red_at("cargo test");

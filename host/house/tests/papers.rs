@@ -16,7 +16,10 @@ fn claims() -> Vec<Vec<String>> {
         .filter(|line| line.starts_with("| ") && !line.starts_with("| id "))
         .map(|line| {
             let inner = line.trim().trim_start_matches('|').trim_end_matches('|');
-            inner.split('|').map(|cell| cell.trim().to_string()).collect()
+            inner
+                .split('|')
+                .map(|cell| cell.trim().to_string())
+                .collect()
         })
         .collect()
 }
@@ -94,7 +97,11 @@ fn the_decisions_are_numbered_once() {
         .filter(|line| line.starts_with("**D"))
         .filter_map(|line| line[2..].split('.').next())
         .collect();
-    assert!(numbers.len() > 5, "only {} decisions were found", numbers.len());
+    assert!(
+        numbers.len() > 5,
+        "only {} decisions were found",
+        numbers.len()
+    );
     for (place, number) in numbers.iter().enumerate() {
         assert_eq!(*number, format!("D{}", place + 1));
     }

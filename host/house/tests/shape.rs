@@ -23,7 +23,11 @@ fn functions(source: &str) -> Vec<(String, usize)> {
 
 fn function_name(line: &str) -> Option<String> {
     let words = line.trim_start().split_once("fn ")?;
-    if !words.0.split_whitespace().all(|w| ["pub", "extern", "\"C\""].contains(&w)) {
+    if !words
+        .0
+        .split_whitespace()
+        .all(|w| ["pub", "extern", "\"C\""].contains(&w))
+    {
         return None;
     }
     Some(words.1.split('(').next()?.to_string())
@@ -43,7 +47,10 @@ fn a_function_has_at_most_forty_lines() {
 
 #[test]
 fn a_long_function_would_be_noticed() {
-    let long = format!("pub fn long(\n    x: u8,\n) -> u8\n{{\n{}}}\n", "    x;\n".repeat(40));
+    let long = format!(
+        "pub fn long(\n    x: u8,\n) -> u8\n{{\n{}}}\n",
+        "    x;\n".repeat(40)
+    );
     assert_eq!(functions(&long), vec![("long".to_string(), 45)]);
 }
 

@@ -17,7 +17,7 @@ abbrev μ-loop : tie.MeasureT-loop
 μ-loop s₀ from to n moved₀ s moved = n - moved
 
 loop-holds : tie.Need-loop-holds Inv-loop μ-loop
-loop-holds c = (omega arith, refl, rw (add-zero, add-zero, sub-zero))
+loop-holds c = (omega arith, refl, simp (add-zero, sub-zero))
 
 add-s : tie.Need-add-s Inv-loop μ-loop
 add-s c = omega arith
