@@ -32,6 +32,7 @@ pub fn number_at(s: &[u8], at: usize, width: usize) -> u64
     x
 }
 
+// The numbers of one, two, four and eight bytes, each in its own type.
 pub fn u8_at(s: &[u8], at: usize) -> u8
     requires { ⌜ at + 1 ≤ length (now s) ⌝ }
     ensures { λ r. ⌜ r ≡ numberAt (now (s .entry)) at 1 ⌝ }
@@ -75,6 +76,7 @@ pub fn put_number(s: &mut [u8], at: usize, width: usize, x: u64)
     }
 }
 
+// A number of each type takes as many bytes as the type has, so that it always fits.
 pub fn put_u8(s: &mut [u8], at: usize, x: u8)
     requires { ⌜ at + 1 ≤ length (now s) ⌝ }
     ensures { λ _. ⌜ now (s .exit) ≡ replaced (now (s .entry)) at (bytes 1 x) ⌝ }
