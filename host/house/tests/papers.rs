@@ -1,6 +1,7 @@
 //! The papers are true of the tree: what they cite is there, and what is there is cited.
 
-use house::{cited, crates, files, stands, text};
+use house::{cited, crates, files, stands, text, top};
+use std::process::Command;
 
 const PAPERS: [&str; 4] = [
     "README.md",
@@ -60,6 +61,20 @@ fn every_crate_is_on_the_map_of_the_readme() {
         let row = format!("| `{}` |", name);
         assert!(readme.contains(&row), "README.md has no row for {}", name);
     }
+}
+
+#[test]
+fn the_first_command_shows_every_crate() {
+    let done = Command::new(top().join("demo")).output().unwrap();
+    let printed = String::from_utf8(done.stdout).unwrap();
+    assert!(done.status.success(), "{}", printed);
+    assert!(done.stderr.is_empty(), "{}", printed);
+    for name in crates() {
+        let heading = printed.lines().any(|line| line == name);
+        assert!(heading, "./demo says nothing of {}: {}", name, printed);
+    }
+    assert!(printed.contains("- u32_at(s: &[u8]"), "{}", printed);
+    assert!(printed.contains("claims: "), "{}", printed);
 }
 
 #[test]

@@ -34,11 +34,11 @@ fn function_name(line: &str) -> Option<String> {
 }
 
 #[test]
-fn a_function_has_at_most_forty_lines() {
+fn a_function_has_under_forty_lines() {
     let mut seen = 0;
     for file in files("crates", ".rt") {
         for (name, lines) in functions(&text(&file)) {
-            assert!(lines <= 40, "{}: {} has {} lines", file, name, lines);
+            assert!(lines < 40, "{}: {} has {} lines", file, name, lines);
             seen += 1;
         }
     }
