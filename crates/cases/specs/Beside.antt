@@ -1,0 +1,48 @@
+-- Beside the marked cases: the codes of a row, and two merges.
+use mathlib.Core.Bool.{Bool, true, false, cond}
+use mathlib.Core.List.{List, [], _∷_, map}
+use Prim.Native.Nat.{ℕ}
+use Rattle.rules.specs.Tables.{Result, Result.OK, Result.ABORT, Result.ABSTAIN, Result.RETRY, Prepare, Prepare.noPrepare, Prepare.tentative, Prepare.final, Verdict.commit, Verdict.abort, Outcome, Outcome.noOutcome, Outcome.noted, Outcome.done, Row, Table}
+use Rattle.cases.specs.Kinds.{Case, Case.merged}
+use Rattle.cases.specs.Marked.{reads, writes, row, prepared, changing}
+
+-- the nine prepare bytes and the five outcome bytes, in the order of their codes
+abbrev pub prepares : List Prepare
+prepares = noPrepare ∷ tentative OK ∷ tentative ABORT ∷ tentative ABSTAIN ∷ tentative (RETRY 30) ∷ final OK ∷ final ABORT ∷ final ABSTAIN ∷ final (RETRY 30) ∷ []
+
+abbrev pub outcomes : List Outcome
+outcomes = noOutcome ∷ noted commit ∷ noted abort ∷ done commit ∷ done abort ∷ []
+
+pub data Counts : Type 0 where
+  c p n : Counts  -- committed, prepared, neither
+
+unfoldable pub countsAs : Row → Counts
+countsAs r = cond (Rattle.rules.specs.Check.committed r) c (cond (Rattle.rules.specs.Check.prepared r) p n)
+
+-- prepare bytes down, outcome bytes across
+unfoldable pub all : List (List Counts)
+all = map (λ prepare. map (λ outcome. countsAs (row 10 writes prepare outcome)) outcomes) prepares
+
+-- a table of an older view does not count: neither its result nor its further row
+abbrev pub older : List Table
+older =
+    changing 3 2 0 1 (row 20 (reads 0) (final OK) noOutcome ∷ [])
+    ∷ changing 3 2 1 0 (row 20 (reads 0) (final ABORT) noOutcome ∷ row 30 writes (final OK) noOutcome ∷ [])
+    ∷ []
+
+-- two tables hold RETRY for stamp 20, with these retry stamps, the third holds nothing
+abbrev pub retries : ℕ → ℕ → List Table
+retries s t =
+    changing 5 1 0 0 (row 20 writes (tentative (RETRY s)) noOutcome ∷ [])
+    ∷ changing 5 1 1 0 (row 20 writes (tentative (RETRY t)) noOutcome ∷ [])
+    ∷ changing 5 1 2 0 []
+    ∷ []
+
+unfoldable pub beside : List Case
+beside =
+    merged 2 older 20 (final OK)
+    ∷ merged 2 older 30 noPrepare
+    -- equal retry stamps are agreed; unequal ones are not, so the row is checked, and nothing is there that clashes
+    ∷ merged 1 (retries 30 30) 20 (final (RETRY 30))
+    ∷ merged 1 (retries 30 40) 20 (final OK)
+    ∷ []

@@ -1,0 +1,45 @@
+-- 01, 'Judging the promises': "Marked cases, one table and a single statement, on the definitions". The register k is 5.
+use mathlib.Core.List.{List, [], _∷_}
+use Prim.Native.Nat.{ℕ}
+use Rattle.rules.specs.Stamps.{Access, Body}
+use Rattle.rules.specs.Tables.{Result, Result.OK, Result.ABORT, Result.ABSTAIN, Result.RETRY, Prepare, Prepare.tentative, Prepare.final, Verdict.commit, Outcome, Outcome.noOutcome, Outcome.done, Row, Table, changingMode}
+use Rattle.cases.specs.Kinds.{Case, Case.counts, Case.checked, Case.merged}
+
+abbrev pub reads : ℕ → Body
+reads version = record { reads = record { register = 5; number = version } ∷ []; writes = [] }
+
+abbrev pub writes : Body
+writes = record { reads = []; writes = record { register = 5; number = 7 } ∷ [] }
+
+abbrev pub row : ℕ → Body → Prepare → Outcome → Row
+row s x p o = record { stamp = s; body = x; prepare = p; outcome = o }
+
+abbrev pub committed : ℕ → Body → Row
+committed s x = row s x (final OK) (done commit)
+
+abbrev pub prepared : ℕ → Body → Row
+prepared s x = row s x (tentative OK) noOutcome
+
+-- box b of n, in view `view`, changing to view v
+abbrev pub changing : ℕ → ℕ → ℕ → ℕ → List Row → Table
+changing n v box view rows = record { box = box; n = n; mode = changingMode; view = view; promised = v; start = 0; rows = rows }
+
+unfoldable pub marked : List Case
+marked =
+    -- M1 to M3: "the count rows above"
+    counts 1 2 3 2
+    ∷ counts 2 3 4 2
+    ∷ counts 3 4 6 3
+    -- M4: "committed write of k at 10; s 20 read k at 0: ABORT". M5: "read at 10: OK". M6: "s 8 read at 0: OK"
+    ∷ checked (committed 10 writes ∷ []) 20 (reads 0) ABORT
+    ∷ checked (committed 10 writes ∷ []) 20 (reads 10) OK
+    ∷ checked (committed 10 writes ∷ []) 8 (reads 0) OK
+    -- M7: "committed read of k at 10 by 30; write at 20: RETRY 30". M8: "write at 31: OK". M9: "write at 9: OK"
+    ∷ checked (committed 30 (reads 10) ∷ []) 20 writes (RETRY 30)
+    ∷ checked (committed 30 (reads 10) ∷ []) 31 writes OK
+    ∷ checked (committed 30 (reads 10) ∷ []) 9 writes OK
+    -- M10: "M4 with the write prepared: ABSTAIN"
+    ∷ checked (prepared 10 writes ∷ []) 20 (reads 0) ABSTAIN
+    -- M11: "f 2; t1 tentative OK in two tables, clashing t2 final OK in the third, no outcomes: t1 ABSTAIN"
+    ∷ merged 1 (changing 5 1 0 0 (prepared 20 (reads 0) ∷ []) ∷ changing 5 1 1 0 (prepared 20 (reads 0) ∷ []) ∷ changing 5 1 2 0 (row 10 writes (final OK) noOutcome ∷ []) ∷ []) 20 (final ABSTAIN)
+    ∷ []

@@ -1,0 +1,4 @@
+pub mod Logic
+pub mod Lists
+pub mod Same
+pub mod Groups

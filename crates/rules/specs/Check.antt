@@ -1,0 +1,50 @@
+-- 01, 'The check'.
+use mathlib.Core.Bool.{Bool, true, false, cond}
+use mathlib.Core.List.{List, [], _∷_}
+use Prim.Native.Nat.{ℕ}
+use lib.Dec.{eqb, ltb, leb}
+use Rattle.rules.specs.Tests.{both, either, any, those, greatest}
+use Rattle.rules.specs.Stamps.{Access, Body}
+use Rattle.rules.specs.Tables.{Result, Result.OK, Result.ABORT, Result.ABSTAIN, Result.RETRY, prepareCode, outcomeCode, Row}
+
+-- "Committed: outcome 3."
+unfoldable pub committed : Row → Bool
+committed r = eqb (outcomeCode (r .outcome)) 3
+
+-- "Prepared: prepare byte 1 or 5 and outcome 0, 1 or 2."
+unfoldable pub prepared : Row → Bool
+prepared r = both (either (eqb (prepareCode (r .prepare)) 1) (eqb (prepareCode (r .prepare)) 5)) (leb (outcomeCode (r .outcome)) 2)
+
+-- a transaction at s read a register k at version v, another at w writes k, and "v < w < s"
+unfoldable pub overwrites : ℕ → List Access → ℕ → List Access → Bool
+overwrites w writes s reads = any (λ read. any (λ write. both (eqb (read .register) (write .register)) (both (ltb (read .number) w) (ltb w s))) writes) reads
+
+-- "A. T read register k at version v and a committed write of k has stamp w, v < w < s", for rows that count as committed
+unfoldable pub ruleA : (Row → Bool) → ℕ → Body → Row → Bool
+ruleA counts s x r = both (counts r) (overwrites (r .stamp) (r .body .writes) s (x .reads))
+
+-- "B. T writes k and a committed transaction at s' read k at v', v' < s < s'", for rows that count as committed
+unfoldable pub ruleB : (Row → Bool) → ℕ → Body → Row → Bool
+ruleB counts s x r = both (counts r) (overwrites s (x .writes) (r .stamp) (r .body .reads))
+
+-- "the greatest such s'"
+unfoldable pub retryStamp : List Row → ℕ → Body → ℕ
+retryStamp rows s x = greatest (λ r. r .stamp) (those (ruleB committed s x) rows)
+
+-- "C. A or B holds with prepared for committed"
+unfoldable pub ruleC : ℕ → Body → Row → Bool
+ruleC s x r = either (ruleA prepared s x r) (ruleB prepared s x r)
+
+-- "in this order: A .. ABORT. B .. RETRY with the greatest such s'. C .. ABSTAIN. D. Otherwise OK."
+unfoldable pub check : List Row → ℕ → Body → Result
+check rows s x =
+    cond (any (ruleA committed s x) rows) ABORT
+    (cond (any (ruleB committed s x) rows) (RETRY (retryStamp rows s x)) (cond (any (ruleC s x) rows) ABSTAIN OK))
+
+-- two transactions clash if either overwrites what the other read: rules A and B, seen from either side
+unfoldable pub clash : ℕ → Body → ℕ → Body → Bool
+clash s x t y = either (overwrites t (y .writes) s (x .reads)) (overwrites s (x .writes) t (y .reads))
+
+-- committed or prepared
+unfoldable pub accepted : Row → Bool
+accepted r = either (committed r) (prepared r)

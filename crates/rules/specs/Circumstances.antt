@@ -1,0 +1,155 @@
+-- 01, 'Numbers returned', row by row: when each number is given to a message or to a fresh table. Rows 1 and 2, and what of row 3 is seen on bytes alone, are said by the calls.
+use mathlib.Core.Bool.{Bool, true, false, not}
+use mathlib.Core.List.{List, [], _∷_}
+use mathlib.Core.Option.{Option, none, some}
+use Prim.Native.Nat.{ℕ, _%_}
+use lib.Dec.{eqb, ltb, leb}
+use lib.ListN.{length}
+use Rattle.rules.specs.Tests.{both, either, every, isSome}
+use Rattle.rules.specs.Groups.{isGroup, fOf}
+use Rattle.rules.specs.Stamps.{Body, isStamp, isRegister, bodyByRule, sameBody}
+use Rattle.rules.specs.Tables.{Result, Prepare, Prepare.noPrepare, Prepare.tentative, Prepare.final, Verdict, Outcome, Outcome.noOutcome, Outcome.noted, Outcome.done, prepareCode, outcomeCode, verdictCode, sameResult, resultByRule, Row, Model, Table, normalMode, changingMode, isView, tableByRule}
+use Rattle.rules.specs.Numbers.{smallBuffer, badMessage, changing, otherBody, contradiction, full, unknown, otherView, oldView, Circumstance}
+use Rattle.rules.specs.Messages.{Message, Message.proposePrepare, Message.finalisePrepare, Message.proposeOutcome, Message.finaliseOutcome, Message.changeView, Message.startView, Message.readRegister, held, prepareOf, outcomeOf}
+
+-- ---- "1 small buffer: table or output buffer (not a merge's run) below 49,176, or reply buffer below 24"
+
+unfoldable pub tooSmall : Model → ℕ → Bool
+tooSmall M length = ltb length (M .leastBuffer)
+
+unfoldable pub replyTooSmall : ℕ → Bool
+replyTooSmall length = ltb length 24
+
+-- ---- "3 bad message: kind, length, stamp, body, register or code breaks a rule; fresh: bad n or box"
+
+unfoldable pub badGroup : ℕ → ℕ → Bool
+badGroup n box = not (both (isGroup n) (ltb box n))
+
+-- "prepare bytes 0 or 5 to 8, outcomes 0, 3 or 4"
+unfoldable pub settled : Row → Bool
+settled r = both (either (eqb (prepareCode (r .prepare)) 0) (leb 5 (prepareCode (r .prepare)))) (either (eqb (outcomeCode (r .outcome)) 0) (leb 3 (outcomeCode (r .outcome))))
+
+-- "The image must be normal, view v, box v mod n, the same n, start rows equal to rows, prepare bytes 0 or 5 to 8, outcomes 0, 3 or 4; otherwise bad message."
+unfoldable pub startsView : ℕ → ℕ → Table → Bool
+startsView n v I =
+    both (eqb (I .mode) normalMode)
+    (both (eqb (I .view) v)
+    (both (eqb (I .box) (v % n)) (both (eqb (I .n) n) (both (eqb (I .start) (length (I .rows))) (every settled (I .rows))))))
+
+-- the rule of a message to a box of a group of n
+unfoldable pub messageByRule : Model → ℕ → Message → Bool
+messageByRule M n (proposePrepare s x) = both (isStamp s) (bodyByRule s x)
+messageByRule M n (finalisePrepare s v r) = both (isStamp s) (both (isView v) (resultByRule r))
+messageByRule M n (proposeOutcome s o x) = both (isStamp s) (bodyByRule s x)
+messageByRule M n (finaliseOutcome s v o) = both (isStamp s) (isView v)
+messageByRule M n (changeView v) = isView v
+messageByRule M n (startView v I) = both (isView v) (both (tableByRule M I) (startsView n v I))
+messageByRule M n (readRegister s k) = both (isStamp s) (isRegister k)
+
+-- ---- "4 changing: messages 1 to 4 and 7 while mode is 1"
+
+unfoldable pub isChanging : Table → Bool
+isChanging T = eqb (T .mode) changingMode
+
+-- ---- "5 other body: the stamp is held with another body"
+
+abbrev pub unlike : Body → Option Row → Bool
+unlike x none = false
+unlike x (some r) = not (sameBody x (r .body))
+
+unfoldable pub heldWithOtherBody : Table → ℕ → Body → Bool
+heldWithOtherBody T s x = unlike x (held (T .rows) s)
+
+-- ---- "6 contradiction: an unequal final result or an opposite outcome is held"
+
+abbrev pub unequalFinal : Result → Prepare → Bool
+unequalFinal r noPrepare = false
+unequalFinal r (tentative q) = false
+unequalFinal r (final q) = not (sameResult r q)
+
+abbrev pub oppositeOutcome : Verdict → Outcome → Bool
+oppositeOutcome v noOutcome = false
+oppositeOutcome v (noted u) = not (eqb (verdictCode v) (verdictCode u))
+oppositeOutcome v (done u) = not (eqb (verdictCode v) (verdictCode u))
+
+unfoldable pub heldUnequalFinal : Table → ℕ → Result → Bool
+heldUnequalFinal T s r = unequalFinal r (prepareOf (held (T .rows) s))
+
+unfoldable pub heldOppositeOutcome : Table → ℕ → Verdict → Bool
+heldOppositeOutcome T s v = oppositeOutcome v (outcomeOf (held (T .rows) s))
+
+-- ---- "7 full: a new stamp with 512 rows held"
+
+-- whether one more row has room: by the row limit, f, the start rows and the rows
+abbrev pub Room : Type 0
+Room = ℕ → ℕ → ℕ → ℕ → Bool
+
+unfoldable pub belowLimit : Room
+belowLimit limit f start rows = ltb rows limit
+
+unfoldable pub newButFull : Model → Room → Table → ℕ → Bool
+newButFull M room T s = both (not (isSome (held (T .rows) s))) (not (room (M .rowLimit) (fOf (T .n)) (T .start) (length (T .rows))))
+
+-- ---- "8 unknown: finalising a part that the table doesn't hold"
+
+unfoldable pub prepareNotHeld : Table → ℕ → Bool
+prepareNotHeld T s = eqb (prepareCode (prepareOf (held (T .rows) s))) 0
+
+unfoldable pub outcomeNotHeld : Table → ℕ → Bool
+outcomeNotHeld T s = eqb (outcomeCode (outcomeOf (held (T .rows) s))) 0
+
+-- ---- "9 other view: message 2 or 4 for a view that isn't the box's"
+
+unfoldable pub forOtherView : Table → ℕ → Bool
+forOtherView T v = not (eqb v (T .view))
+
+-- ---- "10 old view: message 5 with v at or below promised; 6 with v below promised or at or below view"
+
+unfoldable pub changesToOldView : Table → ℕ → Bool
+changesToOldView T v = leb v (T .promised)
+
+unfoldable pub startsOldView : Table → ℕ → Bool
+startsOldView T v = either (ltb v (T .promised)) (leb v (T .view))
+
+-- ---- which of them a message can meet. Numbers.number says which one wins, so their order here means nothing
+
+unfoldable pub circumstances : Model → Room → Table → Message → List Circumstance
+circumstances M room T (proposePrepare s x) =
+    (badMessage, not (messageByRule M (T .n) (proposePrepare s x)))
+    ∷ (changing, isChanging T)
+    ∷ (otherBody, heldWithOtherBody T s x)
+    ∷ (full, newButFull M room T s)
+    ∷ []
+circumstances M room T (finalisePrepare s v r) =
+    (badMessage, not (messageByRule M (T .n) (finalisePrepare s v r)))
+    ∷ (changing, isChanging T)
+    ∷ (otherView, forOtherView T v)
+    ∷ (unknown, prepareNotHeld T s)
+    ∷ (contradiction, heldUnequalFinal T s r)
+    ∷ []
+circumstances M room T (proposeOutcome s o x) =
+    (badMessage, not (messageByRule M (T .n) (proposeOutcome s o x)))
+    ∷ (changing, isChanging T)
+    ∷ (otherBody, heldWithOtherBody T s x)
+    ∷ (contradiction, heldOppositeOutcome T s o)
+    ∷ (full, newButFull M room T s)
+    ∷ []
+circumstances M room T (finaliseOutcome s v o) =
+    (badMessage, not (messageByRule M (T .n) (finaliseOutcome s v o)))
+    ∷ (changing, isChanging T)
+    ∷ (otherView, forOtherView T v)
+    ∷ (unknown, outcomeNotHeld T s)
+    ∷ (contradiction, heldOppositeOutcome T s o)
+    ∷ []
+circumstances M room T (changeView v) =
+    (badMessage, not (messageByRule M (T .n) (changeView v)))
+    ∷ (oldView, changesToOldView T v)
+    ∷ []
+circumstances M room T (startView v I) =
+    (badMessage, not (messageByRule M (T .n) (startView v I)))
+    ∷ (oldView, startsOldView T v)
+    ∷ []
+circumstances M room T (readRegister s k) =
+    (badMessage, not (messageByRule M (T .n) (readRegister s k)))
+    ∷ (changing, isChanging T)
+    ∷ []

@@ -1,0 +1,11 @@
+pub mod Tests
+pub mod Groups
+pub mod Stamps
+pub mod Tables
+pub mod Numbers
+pub mod Messages
+pub mod Circumstances
+pub mod Answers
+pub mod Check
+pub mod Merge
+pub mod Count
