@@ -1,7 +1,7 @@
 -- The cases, computed.
 use mathlib.Core.Path.{_≡_, refl}
 use mathlib.Core.Bool.{true}
-use mathlib.Core.List.{List, [], _∷_}
+use mathlib.Core.List.{[], _∷_}
 use Rattle.rules.specs.Tests.{both, either, any, every, count, those, greatest, somePair, twice, firstOf, allOf}
 use Rattle.rules.specs.Stamps.{sameAccesses, sameBody}
 use Rattle.rules.specs.Tables.{sameResult, somethingHeld}
@@ -9,18 +9,21 @@ use Rattle.rules.specs.Numbers.{applies, first, number}
 use Rattle.rules.specs.Messages.{held, changed}
 use Rattle.rules.specs.Check.{committed, prepared, overwrites, ruleA, ruleB, ruleC, retryStamp, check}
 use Rattle.rules.specs.Merge.{used, withStamp, withStamps, stamps, rowsOf, mergedOutcome, finalOf, isAgreed, agreedOf, standing, uncheckedRow, uncheckedRows, toCheck, settledRows, checkedAt, checkedInTurn, mergedRows, mergedTable, areWrong, twoBodies, contradictory, mergeCircumstances, mergeNumber, merge}
-use Rattle.cases.specs.Kinds.{Case, holds}
+use Rattle.cases.specs.Kinds.{holds}
 use Rattle.cases.specs.Marked.{marked}
-use Rattle.cases.specs.Beside.{Counts, Counts.c, Counts.p, Counts.n, countsAs, all, beside}
+use Rattle.cases.specs.Beside.{Counts.c, Counts.p, Counts.n, countsAs, all, beside}
+
+computed : (every holds marked ≡ true) × (every holds beside ≡ true)
+unfolding marked beside holds both either any every count those greatest somePair twice firstOf allOf sameAccesses sameBody sameResult somethingHeld applies first number held changed committed prepared overwrites ruleA ruleB ruleC retryStamp check used withStamp withStamps stamps rowsOf mergedOutcome finalOf isAgreed agreedOf standing uncheckedRow uncheckedRows toCheck settledRows checkedAt checkedInTurn mergedRows mergedTable areWrong twoBodies contradictory mergeCircumstances mergeNumber merge
+computed = (refl, refl)
 
 -- the single statement: every marked case holds
 pub marked-cases : every holds marked ≡ true
-unfolding marked holds both either any every count those greatest somePair twice firstOf allOf sameAccesses sameBody sameResult somethingHeld applies first number held changed committed prepared overwrites ruleA ruleB ruleC retryStamp check used withStamp withStamps stamps rowsOf mergedOutcome finalOf isAgreed agreedOf standing uncheckedRow uncheckedRows toCheck settledRows checkedAt checkedInTurn mergedRows mergedTable areWrong twoBodies contradictory mergeCircumstances mergeNumber merge
-marked-cases = refl
+marked-cases = computed .0
 
+-- an older view's table does not count; a RETRY whose stamps differ is not agreed
 pub beside-cases : every holds beside ≡ true
-unfolding beside holds both either any every count those greatest somePair twice firstOf allOf sameAccesses sameBody sameResult somethingHeld applies first number held changed committed prepared overwrites ruleA ruleB ruleC retryStamp check used withStamp withStamps stamps rowsOf mergedOutcome finalOf isAgreed agreedOf standing uncheckedRow uncheckedRows toCheck settledRows checkedAt checkedInTurn mergedRows mergedTable areWrong twoBodies contradictory mergeCircumstances mergeNumber merge
-beside-cases = refl
+beside-cases = computed .1
 
 -- all 9 by 5 codes: prepare bytes 0 to 8 down, outcome bytes 0 to 4 across
 pub codes : all ≡

@@ -1,8 +1,8 @@
 -- Beside the marked cases: the codes of a row, and two merges.
-use mathlib.Core.Bool.{Bool, true, false, cond}
+use mathlib.Core.Bool.{cond}
 use mathlib.Core.List.{List, [], _∷_, map}
 use Prim.Native.Nat.{ℕ}
-use Rattle.rules.specs.Tables.{Result, Result.OK, Result.ABORT, Result.ABSTAIN, Result.RETRY, Prepare, Prepare.noPrepare, Prepare.tentative, Prepare.final, Verdict.commit, Verdict.abort, Outcome, Outcome.noOutcome, Outcome.noted, Outcome.done, Row, Table}
+use Rattle.rules.specs.Tables.{Result.OK, Result.ABORT, Result.ABSTAIN, Result.RETRY, Prepare, Prepare.noPrepare, Prepare.tentative, Prepare.final, Verdict.commit, Verdict.abort, Outcome, Outcome.noOutcome, Outcome.noted, Outcome.done, Row, Table}
 use Rattle.cases.specs.Kinds.{Case, Case.merged}
 use Rattle.cases.specs.Marked.{reads, writes, row, prepared, changing}
 

@@ -1,8 +1,8 @@
 -- 01, 'Judging the promises': "Marked cases, one table and a single statement, on the definitions". The register k is 5.
 use mathlib.Core.List.{List, [], _∷_}
 use Prim.Native.Nat.{ℕ}
-use Rattle.rules.specs.Stamps.{Access, Body}
-use Rattle.rules.specs.Tables.{Result, Result.OK, Result.ABORT, Result.ABSTAIN, Result.RETRY, Prepare, Prepare.tentative, Prepare.final, Verdict.commit, Outcome, Outcome.noOutcome, Outcome.done, Row, Table, changingMode}
+use Rattle.rules.specs.Stamps.{Body}
+use Rattle.rules.specs.Tables.{Result.OK, Result.ABORT, Result.ABSTAIN, Result.RETRY, Prepare, Prepare.tentative, Prepare.final, Verdict.commit, Outcome, Outcome.noOutcome, Outcome.done, Row, Table, changingMode}
 use Rattle.cases.specs.Kinds.{Case, Case.counts, Case.checked, Case.merged}
 
 abbrev pub reads : ℕ → Body

@@ -2,3 +2,8 @@ pub mod Logic
 pub mod Lists
 pub mod Same
 pub mod Groups
+pub mod Check
+pub mod Rows
+pub mod Numbers
+pub mod Tables
+pub mod Answers

@@ -1,16 +1,16 @@
 -- Laws of lists that are searched, counted and sifted: over `++`, and by their elements.
 use mathlib.Core.Path.{_≡_, refl, sym, ap, _∙_}
-use mathlib.Core.Bool.{Bool, true, false, not}
+use mathlib.Core.Bool.{Bool, true, false}
 use mathlib.Core.Logic.{_⊎_, inl, inr}
 use mathlib.Core.List.{List, [], _∷_, _++_, List·Memᴰ, List·Memᴰ·head, List·Memᴰ·tail, List·Memᴰ·cases-cons, List·Memᴰ·not-nil}
 use mathlib.Core.Option.{Option, none, some}
-use Prim.Native.Nat.{ℕ, _+_, _≤_, _<_, max}
+use Prim.Native.Nat.{ℕ, _+_, _≤_, max}
 use native.Mathlib.Omega.{arith}
 use native.Mathlib.Nat.{zero-max, max-zero, le-max-left, le-max-right, max-le, max-eq-left, max-eq-right}
-use lib.Dec.{eqb, leb}
+use lib.Dec.{leb}
 use borrow.Author.Tests.{leb-true, leb-false}
-use Rattle.rules.specs.Tests.{both, either, bit, any, every, count, kept, those, greatest, somePair, twice, isSome, provided, orElse, andAlso, firstOf, allOf}
-use Rattle.rules.proofs.Logic.{impossible, cases, both-left, both-right, both-true, both-assoc, either-cases, either-left, either-right, either-first, either-second, either-false, either-assoc}
+use Rattle.rules.specs.Tests.{both, either, any, every, count, kept, those, greatest, orElse, andAlso, firstOf, allOf}
+use Rattle.rules.proofs.Logic.{impossible, cases, both-left, both-right, both-true, both-assoc, either-cases, either-left, either-right, either-false, either-assoc}
 
 infix 20 _∈_
 abbrev pub _∈_ : {A : Type 0} → A → List A → Type 0
@@ -117,6 +117,11 @@ module _ {A : Type 0} where
       go : (b : Bool) → test y ≡ b → x ∈ kept b y (those test ys) → (x ∈ those test ys → (x ∈ ys) × (test x ≡ true)) → (x ∈ (y ∷ ys)) × (test x ≡ true)
       go true e m′ below = here e (List·Memᴰ·cases-cons m′) below
       go false e m′ below = there (below m′)
+
+  pub those-none : (test : A → Bool) (xs : List A) → any test xs ≡ false → those test xs ≡ []
+  unfolding any those
+  those-none test [] e = refl
+  those-none test (y ∷ ys) e = rw (either-left (test y) (any test ys) e) (those-none test ys (either-right (test y) (any test ys) e))
 
   pub in-those : (test : A → Bool) (xs : List A) (x : A) → x ∈ xs → test x ≡ true → x ∈ those test xs
   unfolding those

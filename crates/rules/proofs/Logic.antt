@@ -2,7 +2,6 @@
 use mathlib.Core.Path.{_≡_, refl, sym, _∙_, subst}
 use mathlib.Core.Bool.{Bool, true, false, not}
 use mathlib.Core.Logic.{_⊎_, inl, inr}
-use mathlib.Core.Option.{Option, none, some}
 use Prim.Native.Nat.{ℕ}
 use lib.Dec.{eqb, T}
 use borrow.Author.Tests.{eqb-true, eq-eqb}
@@ -29,6 +28,11 @@ both-right false b h = impossible h refl
 pub both-true : {a b : Bool} → a ≡ true → b ≡ true → both a b ≡ true
 unfolding both
 both-true {a} {b} p q = rw (p, q) refl
+
+pub both-false : (a : Bool) → both a false ≡ false
+unfolding both
+both-false true = refl
+both-false false = refl
 
 pub either-cases : (a b : Bool) → either a b ≡ true → (a ≡ true) ⊎ (b ≡ true)
 unfolding either

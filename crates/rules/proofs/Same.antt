@@ -1,7 +1,6 @@
 -- The tests of equality: they hold exactly of equal values.
-use mathlib.Core.Path.{_≡_, refl, sym, ap, ap₂, _∙_}
-use mathlib.Core.Bool.{Bool, true, false, not}
-use mathlib.Core.Logic.{_⊎_, inl, inr}
+use mathlib.Core.Path.{_≡_, refl, ap, ap₂}
+use mathlib.Core.Bool.{true, false, not}
 use mathlib.Core.List.{List, [], _∷_}
 use Prim.Native.Nat.{ℕ}
 use lib.Dec.{eqb}
@@ -9,7 +8,7 @@ use borrow.Author.Tests.{eqb-true, not-false}
 use Rattle.rules.specs.Tests.{both}
 use Rattle.rules.specs.Stamps.{Access, Body, sameAccesses, sameBody}
 use Rattle.rules.specs.Tables.{Result, Result.OK, Result.ABORT, Result.ABSTAIN, Result.RETRY, Verdict, Verdict.commit, Verdict.abort, resultCode, resultRetry, verdictCode, sameResult}
-use Rattle.rules.proofs.Logic.{impossible, cases, both-left, both-right, both-true, eqb-self}
+use Rattle.rules.proofs.Logic.{impossible, both-left, both-right, both-true, eqb-self}
 
 -- ---- results: by code and retry stamp
 

@@ -1,10 +1,9 @@
 -- 01, 'Messages to a box' and 'Numbers returned': a box's answer, whole: the number, the table after it, the reply.
-use mathlib.Core.Bool.{Bool, true, false, cond}
-use mathlib.Core.List.{List, [], _∷_}
-use mathlib.Core.Option.{Option, none, some}
+use mathlib.Core.Bool.{cond}
+use mathlib.Core.List.{[], _∷_}
 use Prim.Native.Nat.{ℕ}
 use lib.Dec.{eqb}
-use Rattle.rules.specs.Tables.{prepareCode, prepareRetry, outcomeCode, Row, Model, Table, freshTable}
+use Rattle.rules.specs.Tables.{prepareCode, prepareRetry, outcomeCode, Model, Table}
 use Rattle.rules.specs.Numbers.{badMessage, number}
 use Rattle.rules.specs.Messages.{Message, Message.proposePrepare, Message.finalisePrepare, Message.proposeOutcome, Message.finaliseOutcome, Message.changeView, Message.startView, Message.readRegister, kind, Check, held, prepareOf, outcomeOf, tableAfter, found}
 use Rattle.rules.specs.Circumstances.{Room, badGroup, circumstances}

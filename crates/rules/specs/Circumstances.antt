@@ -1,5 +1,5 @@
 -- 01, 'Numbers returned', row by row: when each number is given to a message or to a fresh table. Rows 1 and 2, and what of row 3 is seen on bytes alone, are said by the calls.
-use mathlib.Core.Bool.{Bool, true, false, not}
+use mathlib.Core.Bool.{Bool, false, not}
 use mathlib.Core.List.{List, [], _∷_}
 use mathlib.Core.Option.{Option, none, some}
 use Prim.Native.Nat.{ℕ, _%_}
@@ -9,7 +9,7 @@ use Rattle.rules.specs.Tests.{both, either, every, isSome}
 use Rattle.rules.specs.Groups.{isGroup, fOf}
 use Rattle.rules.specs.Stamps.{Body, isStamp, isRegister, bodyByRule, sameBody}
 use Rattle.rules.specs.Tables.{Result, Prepare, Prepare.noPrepare, Prepare.tentative, Prepare.final, Verdict, Outcome, Outcome.noOutcome, Outcome.noted, Outcome.done, prepareCode, outcomeCode, verdictCode, sameResult, resultByRule, Row, Model, Table, normalMode, changingMode, isView, tableByRule}
-use Rattle.rules.specs.Numbers.{smallBuffer, badMessage, changing, otherBody, contradiction, full, unknown, otherView, oldView, Circumstance}
+use Rattle.rules.specs.Numbers.{badMessage, changing, otherBody, contradiction, full, unknown, otherView, oldView, Circumstance}
 use Rattle.rules.specs.Messages.{Message, Message.proposePrepare, Message.finalisePrepare, Message.proposeOutcome, Message.finaliseOutcome, Message.changeView, Message.startView, Message.readRegister, held, prepareOf, outcomeOf}
 
 -- ---- "1 small buffer: table or output buffer (not a merge's run) below 49,176, or reply buffer below 24"
@@ -113,43 +113,17 @@ startsOldView T v = either (ltb v (T .promised)) (leb v (T .view))
 
 -- ---- which of them a message can meet. Numbers.number says which one wins, so their order here means nothing
 
+unfoldable pub furtherCircumstances : Model → Room → Table → Message → List Circumstance
+furtherCircumstances M room T (proposePrepare s x) = (changing, isChanging T) ∷ (otherBody, heldWithOtherBody T s x) ∷ (full, newButFull M room T s) ∷ []
+furtherCircumstances M room T (finalisePrepare s v r) =
+    (changing, isChanging T) ∷ (otherView, forOtherView T v) ∷ (unknown, prepareNotHeld T s) ∷ (contradiction, heldUnequalFinal T s r) ∷ []
+furtherCircumstances M room T (proposeOutcome s o x) =
+    (changing, isChanging T) ∷ (otherBody, heldWithOtherBody T s x) ∷ (contradiction, heldOppositeOutcome T s o) ∷ (full, newButFull M room T s) ∷ []
+furtherCircumstances M room T (finaliseOutcome s v o) =
+    (changing, isChanging T) ∷ (otherView, forOtherView T v) ∷ (unknown, outcomeNotHeld T s) ∷ (contradiction, heldOppositeOutcome T s o) ∷ []
+furtherCircumstances M room T (changeView v) = (oldView, changesToOldView T v) ∷ []
+furtherCircumstances M room T (startView v I) = (oldView, startsOldView T v) ∷ []
+furtherCircumstances M room T (readRegister s k) = (changing, isChanging T) ∷ []
+
 unfoldable pub circumstances : Model → Room → Table → Message → List Circumstance
-circumstances M room T (proposePrepare s x) =
-    (badMessage, not (messageByRule M (T .n) (proposePrepare s x)))
-    ∷ (changing, isChanging T)
-    ∷ (otherBody, heldWithOtherBody T s x)
-    ∷ (full, newButFull M room T s)
-    ∷ []
-circumstances M room T (finalisePrepare s v r) =
-    (badMessage, not (messageByRule M (T .n) (finalisePrepare s v r)))
-    ∷ (changing, isChanging T)
-    ∷ (otherView, forOtherView T v)
-    ∷ (unknown, prepareNotHeld T s)
-    ∷ (contradiction, heldUnequalFinal T s r)
-    ∷ []
-circumstances M room T (proposeOutcome s o x) =
-    (badMessage, not (messageByRule M (T .n) (proposeOutcome s o x)))
-    ∷ (changing, isChanging T)
-    ∷ (otherBody, heldWithOtherBody T s x)
-    ∷ (contradiction, heldOppositeOutcome T s o)
-    ∷ (full, newButFull M room T s)
-    ∷ []
-circumstances M room T (finaliseOutcome s v o) =
-    (badMessage, not (messageByRule M (T .n) (finaliseOutcome s v o)))
-    ∷ (changing, isChanging T)
-    ∷ (otherView, forOtherView T v)
-    ∷ (unknown, outcomeNotHeld T s)
-    ∷ (contradiction, heldOppositeOutcome T s o)
-    ∷ []
-circumstances M room T (changeView v) =
-    (badMessage, not (messageByRule M (T .n) (changeView v)))
-    ∷ (oldView, changesToOldView T v)
-    ∷ []
-circumstances M room T (startView v I) =
-    (badMessage, not (messageByRule M (T .n) (startView v I)))
-    ∷ (oldView, startsOldView T v)
-    ∷ []
-circumstances M room T (readRegister s k) =
-    (badMessage, not (messageByRule M (T .n) (readRegister s k)))
-    ∷ (changing, isChanging T)
-    ∷ []
+circumstances M room T m = (badMessage, not (messageByRule M (T .n) m)) ∷ furtherCircumstances M room T m

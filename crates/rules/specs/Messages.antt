@@ -1,10 +1,9 @@
 -- 01, 'Messages to a box': the seven messages, and the table after each one that is taken.
-use mathlib.Core.Bool.{Bool, true, false, cond}
+use mathlib.Core.Bool.{cond}
 use mathlib.Core.List.{List, [], _∷_}
 use mathlib.Core.Option.{Option, none, some}
 use Prim.Native.Nat.{ℕ}
 use lib.Dec.{eqb, ltb, leb}
-use lib.ListN.{length}
 use Rattle.rules.specs.Tests.{both, isSome, provided, firstOf}
 use Rattle.rules.specs.Stamps.{Access, Body}
 use Rattle.rules.specs.Tables.{Result, Result.OK, Result.ABORT, Prepare, Prepare.noPrepare, Prepare.tentative, Prepare.final, Verdict, Verdict.commit, Verdict.abort, Outcome, Outcome.noOutcome, Outcome.noted, Outcome.done, Row, Table, changingMode}

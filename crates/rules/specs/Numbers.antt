@@ -1,11 +1,9 @@
 -- 01, 'Numbers returned': the numbers by their names, and their order. The circumstances of each stand in Circumstances, in Merge and in Count.
-use mathlib.Core.Bool.{Bool, true, false, not, cond}
+use mathlib.Core.Bool.{Bool, false, cond}
 use mathlib.Core.List.{List, [], _∷_}
 use Prim.Native.Nat.{ℕ}
-use lib.Dec.{eqb, ltb}
+use lib.Dec.{eqb}
 use Rattle.rules.specs.Tests.{both, either}
-use Rattle.rules.specs.Groups.{isGroup}
-use Rattle.rules.specs.Tables.{Model}
 
 abbrev pub smallBuffer : ℕ
 smallBuffer = 1

@@ -1,5 +1,5 @@
 -- 01, 'The table image: contents first, bodies after': what a table holds and the rules that it keeps. Where its bytes stand is not said here.
-use mathlib.Core.Bool.{Bool, true, false, not}
+use mathlib.Core.Bool.{Bool, true}
 use mathlib.Core.List.{List, [], _∷_}
 use Prim.Native.Nat.{ℕ, _+_, _^_}
 use lib.Dec.{eqb, ltb, leb}

@@ -1,0 +1,261 @@
+-- A box's answer: the table after it is a table by the rules again, of the same box and group.
+use mathlib.Core.Path.{_≡_, refl, sym, ap, _∙_}
+use mathlib.Core.Bool.{Bool, true, false, cond}
+use mathlib.Core.Logic.{_⊎_, inl, inr}
+use mathlib.Core.List.{List, List·Memᴰ·head, List·Memᴰ·tail}
+use mathlib.Core.Option.{Option, none, some}
+use Prim.Native.Nat.{ℕ, _+_, _≤_, _<_}
+use native.Mathlib.Omega.{arith}
+use lib.Dec.{eqb, ltb}
+use lib.ListN.{length}
+use borrow.Author.Tests.{eqb-true, ltb-true, leb-false, lt-ltb, not-false}
+use Rattle.rules.specs.Tests.{both, either, every, isSome}
+use Rattle.rules.specs.Groups.{isGroup, fOf}
+use Rattle.rules.specs.Stamps.{Body, isStamp, bodyByRule}
+use Rattle.rules.specs.Tables.{Result, Result.OK, Result.ABORT, Result.ABSTAIN, Result.RETRY, resultCode, verdictCode, Prepare, Prepare.noPrepare, Prepare.tentative, Prepare.final, Verdict, Verdict.commit, Verdict.abort, Outcome, Outcome.noOutcome, Outcome.noted, Outcome.done, prepareCode, outcomeCode, resultByRule, retryByRule, somethingHeld, Row, rowByRule, rising, Model, Table, normalMode, changingMode, isView, modeByRule, tableByRule, freshTable}
+use Rattle.rules.specs.Numbers.{badMessage, full, oldView, order}
+use Rattle.rules.specs.Messages.{Message, Message.proposePrepare, Message.finalisePrepare, Message.proposeOutcome, Message.finaliseOutcome, Message.changeView, Message.startView, Message.readRegister, Check, held, changed, added, withPrepare, withOutcome, resultFor, answered, notedAs, prepareProposed, prepareFinalised, outcomeProposed, outcomeFinalised, withRows, promising, keepingBox, tableAfter}
+use Rattle.rules.specs.Circumstances.{Room, badGroup, belowLimit, messageByRule, startsView, newButFull, changesToOldView, furtherCircumstances, circumstances}
+use Rattle.rules.specs.Answers.{answerNumber, taken, refused, answer}
+use Rattle.rules.proofs.Logic.{impossible, cases, both-left, both-right, both-true, either-cases, either-second}
+use Rattle.rules.proofs.Lists.{_∈_, every-one, all-every}
+use Rattle.rules.proofs.Check.{CheckByRule}
+use Rattle.rules.proofs.Rows.{rising-added, rising-changed, length-added, length-changed, added-from, changed-from}
+use Rattle.rules.proofs.Numbers.{in-badMessage, in-oldView, in-full, number-done}
+use Rattle.rules.proofs.Tables.{stamp-positive, RowByRule, row-facts, row-by, ByRule, table-facts, table-by}
+
+-- what later layers ask of any rule of room: that it never goes past the row limit
+abbrev pub RoomFits : Room → Type 0
+RoomFits room = (limit f start rows : ℕ) → room limit f start rows ≡ true → rows < limit
+
+pub below-limit-fits : RoomFits belowLimit
+unfolding belowLimit
+below-limit-fits limit f start rows h = ltb-true rows limit h
+
+pub fresh-by-rule : (M : Model) (n box : ℕ) → badGroup n box ≡ false → tableByRule M (freshTable n box) ≡ true
+unfolding badGroup freshTable isView modeByRule rising every both either
+fresh-by-rule M n box h =
+    let g = not-false _ h in
+    table-by
+    (record { group = both-left (isGroup n) (ltb box n) g; box = ltb-true box n (both-right (isGroup n) (ltb box n) g); view = refl; promised = refl; mode = refl; start = omega arith; limit = omega arith; rise = refl; rows = refl })
+
+-- ---- rows by the rule, changed and added
+
+every-changed : (s : ℕ) (change : Row → Row) (rows : List Row) → ((r : Row) → rowByRule r ≡ true → rowByRule (change r) ≡ true) → every rowByRule rows ≡ true → every rowByRule (changed s change rows) ≡ true
+every-changed s change rows keeps h = all-every rowByRule (changed s change rows) (λ q m. go q (changed-from s change rows q m))
+  where
+    go : (q : Row) → (r : Row) × (r ∈ rows) × (((r .stamp ≡ s) × (q ≡ change r)) ⊎ ((eqb (r .stamp) s ≡ false) × (q ≡ r))) → rowByRule q ≡ true
+    go q (r, m, inl (k, e)) = rw e (keeps r (every-one rowByRule rows h r m))
+    go q (r, m, inr (k, e)) = rw e (every-one rowByRule rows h r m)
+
+every-added : (r : Row) (rows : List Row) → rowByRule r ≡ true → every rowByRule rows ≡ true → every rowByRule (added r rows) ≡ true
+every-added r rows k h = all-every rowByRule (added r rows) (λ q m. go q (added-from r rows q m))
+  where
+    go : (q : Row) → (q ≡ r) ⊎ (q ∈ rows) → rowByRule q ≡ true
+    go q (inl e) = rw e k
+    go q (inr m) = every-one rowByRule rows h q m
+
+module _ (M : Model) (T : Table) (t : ByRule M T) where
+  -- a row is changed, with its stamp kept
+  changed-rule : (s : ℕ) (change : Row → Row) → ((r : Row) → change r .stamp ≡ r .stamp) → ((r : Row) → rowByRule r ≡ true → rowByRule (change r) ≡ true) → ByRule M (withRows T (changed s change (T .rows)))
+  changed-rule s change same keeps =
+      let n = length-changed s change (T .rows) in
+      record {
+        group = t .group;
+        box = t .box;
+        view = t .view;
+        promised = t .promised;
+        mode = t .mode;
+        start = omega (arith, t .start);
+        limit = omega (arith, t .limit);
+        rise = rising-changed s change same 0 (T .rows) ∙ t .rise;
+        rows = every-changed s change (T .rows) keeps (t .rows);
+      }
+
+  -- a row of a new stamp is added, where there is room
+  added-rule : (r : Row) → rowByRule r ≡ true → held (T .rows) (r .stamp) ≡ none → length (T .rows) < M .rowLimit → ByRule M (withRows T (added r (T .rows)))
+  added-rule r k new room =
+      let n = length-added r (T .rows) in
+      record {
+        group = t .group;
+        box = t .box;
+        view = t .view;
+        promised = t .promised;
+        mode = t .mode;
+        start = omega (arith, t .start);
+        limit = omega (arith, room);
+        rise = rising-added r 0 (T .rows) (stamp-positive (r .stamp) (row-facts r k .stamp)) new (t .rise);
+        rows = every-added r (T .rows) k (t .rows);
+      }
+
+-- ---- what messages do to a row keeps its rule
+
+verdict-counts : (v : Verdict) → 0 < verdictCode v
+verdict-counts commit = omega arith
+verdict-counts abort = omega arith
+
+result-counts : (r : Result) → 0 < resultCode r
+result-counts OK = omega arith
+result-counts ABORT = omega arith
+result-counts ABSTAIN = omega arith
+result-counts (RETRY s) = omega arith
+
+with-prepare : (p : Prepare) (r : Row) → 0 < prepareCode p → retryByRule p ≡ true → rowByRule r ≡ true → rowByRule (withPrepare p r) ≡ true
+unfolding somethingHeld
+with-prepare p r l k h =
+    let f = row-facts r h in
+    row-by (record { stamp = f .stamp; counts = f .counts; held = lt-ltb 0 (prepareCode p + outcomeCode (r .outcome)) (omega arith); retry = k; contents = f .contents })
+
+with-outcome : (o : Outcome) (r : Row) → 0 < outcomeCode o → rowByRule r ≡ true → rowByRule (withOutcome o r) ≡ true
+unfolding somethingHeld
+with-outcome o r l h =
+    let f = row-facts r h in
+    row-by (record { stamp = f .stamp; counts = f .counts; held = lt-ltb 0 (prepareCode (r .prepare) + outcomeCode o) (omega arith); retry = f .retry; contents = f .contents })
+
+answered-row : (r : Row) → rowByRule r ≡ true → rowByRule (withPrepare (answered (r .prepare) (r .outcome)) r) ≡ true
+unfolding retryByRule resultByRule somethingHeld
+answered-row r h = go (r .prepare) (r .outcome) refl refl
+  where
+    f : RowByRule r
+    f = row-facts r h
+
+    verdict : (v : Verdict) → rowByRule (withPrepare (tentative (resultFor v)) r) ≡ true
+    verdict commit = with-prepare (tentative OK) r (omega arith) refl h
+    verdict abort = with-prepare (tentative ABORT) r (omega arith) refl h
+
+    go : (p : Prepare) (o : Outcome) → r .prepare ≡ p → r .outcome ≡ o → rowByRule (withPrepare (answered p o) r) ≡ true
+    go (tentative q) o e i = with-prepare (tentative q) r (result-counts q) (ap retryByRule (sym e) ∙ f .retry) h
+    go (final q) o e i = with-prepare (final q) r (omega arith) (ap retryByRule (sym e) ∙ f .retry) h
+    go noPrepare (noted v) e i = verdict v
+    go noPrepare (done v) e i = verdict v
+    go noPrepare noOutcome e i = impossible (f .held) (rw (e, i) refl)
+
+noted-row : (v : Verdict) (r : Row) → rowByRule r ≡ true → rowByRule (withOutcome (notedAs v (r .outcome)) r) ≡ true
+noted-row v r h = with-outcome (notedAs v (r .outcome)) r (go (r .outcome)) h
+  where
+    go : (o : Outcome) → 0 < outcomeCode (notedAs v o)
+    go noOutcome = verdict-counts v
+    go (noted u) = verdict-counts u
+    go (done u) = omega arith
+
+-- ---- the table after a message that was taken
+
+module _ (M : Model) (room : Room) (check : Check) (fits : RoomFits room) (checks : CheckByRule check) (T : Table) (t : ByRule M T) where
+  -- there is room for a new stamp, since the message was not refused as full
+  has-room : (s : ℕ) → newButFull M room T s ≡ false → held (T .rows) s ≡ none → length (T .rows) < M .rowLimit
+  unfolding newButFull both
+  has-room s h e = fits (M .rowLimit) (fOf (T .n)) (T .start) (length (T .rows)) (not-false _ (rw e at h))
+
+  new-row : (s : ℕ) (x : Body) (p : Prepare) (o : Outcome) → both (isStamp s) (bodyByRule s x) ≡ true → 0 < prepareCode p + outcomeCode o → retryByRule p ≡ true → rowByRule (record { stamp = s; body = x; prepare = p; outcome = o }) ≡ true
+  unfolding bodyByRule somethingHeld
+  new-row s x p o m l k =
+      let b = both-right _ _ m in
+      row-by (record { stamp = both-left _ _ m; counts = both-left _ _ b; held = lt-ltb 0 (prepareCode p + outcomeCode o) l; retry = k; contents = both-right _ _ b })
+
+  after-1 : (s : ℕ) (x : Body) → both (isStamp s) (bodyByRule s x) ≡ true → newButFull M room T s ≡ false → ByRule M (withRows T (prepareProposed check (T .rows) s x))
+  unfolding prepareProposed retryByRule
+  after-1 s x m n = go (held (T .rows) s) refl
+    where
+      go : (h : Option Row) → held (T .rows) s ≡ h → ByRule M (withRows T (cond (isSome h) (changed s (λ r. withPrepare (answered (r .prepare) (r .outcome)) r) (T .rows)) (added (record { stamp = s; body = x; prepare = tentative (check (T .rows) s x); outcome = noOutcome }) (T .rows))))
+      go (some r) e = changed-rule M T t s _ (λ q. refl) answered-row
+      go none e = added-rule M T t _ (new-row s x (tentative (check (T .rows) s x)) noOutcome m (omega (arith, result-counts (check (T .rows) s x))) (checks (T .rows) s x (t .rows))) e (has-room s n e)
+
+  after-3 : (s : ℕ) (v : Verdict) (x : Body) → both (isStamp s) (bodyByRule s x) ≡ true → newButFull M room T s ≡ false → ByRule M (withRows T (outcomeProposed (T .rows) s v x))
+  unfolding outcomeProposed retryByRule
+  after-3 s v x m n = go (held (T .rows) s) refl
+    where
+      go : (h : Option Row) → held (T .rows) s ≡ h → ByRule M (withRows T (cond (isSome h) (changed s (λ r. withOutcome (notedAs v (r .outcome)) r) (T .rows)) (added (record { stamp = s; body = x; prepare = noPrepare; outcome = noted v }) (T .rows))))
+      go (some r) e = changed-rule M T t s _ (λ q. refl) (noted-row v)
+      go none e = added-rule M T t _ (new-row s x noPrepare (noted v) m (omega (arith, verdict-counts v)) refl) e (has-room s n e)
+
+  changing-by-rule : (view v : ℕ) → view < v → modeByRule changingMode view v ≡ true
+  unfolding modeByRule
+  changing-by-rule view v l = either-second _ _ (both-true refl (lt-ltb view v l))
+
+  view-promised : (mode view promised : ℕ) → modeByRule mode view promised ≡ true → view ≤ promised
+  unfolding modeByRule
+  view-promised mode view promised h = go (either-cases (both (eqb mode normalMode) (eqb promised view)) (both (eqb mode changingMode) (ltb view promised)) h)
+    where
+      go : (both (eqb mode normalMode) (eqb promised view) ≡ true) ⊎ (both (eqb mode changingMode) (ltb view promised) ≡ true) → view ≤ promised
+      go (inl k) = let e = eqb-true promised view (both-right _ _ k) in omega arith
+      go (inr k) = let l = ltb-true view promised (both-right _ _ k) in omega arith
+
+  after-5 : (v : ℕ) → isView v ≡ true → changesToOldView T v ≡ false → ByRule M (promising T v)
+  unfolding changesToOldView
+  after-5 v m n =
+      let l = leb-false v (T .promised) n in
+      let k = view-promised (T .mode) (T .view) (T .promised) (t .mode) in
+      record {
+        group = t .group;
+        box = t .box;
+        view = t .view;
+        promised = m;
+        mode = changing-by-rule (T .view) v (omega arith);
+        start = t .start;
+        limit = t .limit;
+        rise = t .rise;
+        rows = t .rows;
+      }
+
+  after-6 : (v : ℕ) (I : Table) → tableByRule M I ≡ true → startsView (T .n) v I ≡ true → ByRule M (keepingBox I (T .box)) × (I .n ≡ T .n)
+  unfolding startsView
+  after-6 v I m k =
+      let i = table-facts M I m in
+      let e = eqb-true (I .n) (T .n) (both-left _ _ (both-right _ _ (both-right _ _ (both-right _ _ k)))) in (
+        record {
+          group = i .group;
+          box = rw e (t .box);
+          view = i .view;
+          promised = i .promised;
+          mode = i .mode;
+          start = i .start;
+          limit = i .limit;
+          rise = i .rise;
+          rows = i .rows;
+        },
+        e,
+      )
+
+  -- what a message that was taken did not meet
+  met-none : (m : Message) → answerNumber M room T m ≡ 0 → (k : ℕ) (given : Bool) → k ∈ order → (k, given) ∈ circumstances M room T m → given ≡ false
+  unfolding answerNumber
+  met-none m h = number-done (circumstances M room T m) h
+
+  pub taken-by-rule : (m : Message) → answerNumber M room T m ≡ 0 → messageByRule M (T .n) m ≡ true
+  unfolding circumstances
+  taken-by-rule m h = not-false _ (met-none m h badMessage _ in-badMessage (List·Memᴰ·head refl))
+
+  -- by the rules again, of the same group and the same box
+  abbrev pub Kept : Table → Type 0
+  Kept U = ByRule M U × (U .box ≡ T .box) × (U .n ≡ T .n)
+
+  taken-kept : (m : Message) → answerNumber M room T m ≡ 0 → messageByRule M (T .n) m ≡ true → Kept (tableAfter check T m)
+  unfolding circumstances furtherCircumstances messageByRule tableAfter prepareFinalised outcomeFinalised retryByRule
+  taken-kept (proposePrepare s x) h k = (after-1 s x k (met-none (proposePrepare s x) h full _ in-full (List·Memᴰ·tail (List·Memᴰ·tail (List·Memᴰ·tail (List·Memᴰ·head refl))))), refl, refl)
+  taken-kept (finalisePrepare s v r) h k =
+      let p = both-right _ _ (both-right _ _ k) in
+      (changed-rule M T t s _ (λ q. refl) (λ q. with-prepare (final r) q (omega arith) p), refl, refl)
+  taken-kept (proposeOutcome s v x) h k = (after-3 s v x k (met-none (proposeOutcome s v x) h full _ in-full (List·Memᴰ·tail (List·Memᴰ·tail (List·Memᴰ·tail (List·Memᴰ·tail (List·Memᴰ·head refl)))))), refl, refl)
+  taken-kept (finaliseOutcome s v u) h k = (changed-rule M T t s _ (λ q. refl) (λ q. with-outcome (done u) q (omega arith)), refl, refl)
+  taken-kept (changeView v) h k = (after-5 v k (met-none (changeView v) h oldView _ in-oldView (List·Memᴰ·tail (List·Memᴰ·head refl))), refl, refl)
+  taken-kept (startView v I) h k =
+      let p = both-right _ _ k in
+      let (i, e) = after-6 v I (both-left _ _ p) (both-right _ _ p) in
+      (i, refl, e)
+  taken-kept (readRegister s r) h k = (t, refl, refl)
+
+  -- whatever the message, taken or refused
+  pub answer-kept : (m : Message) → Kept (answer M room check T m .table)
+  unfolding answer taken refused
+  answer-kept m = go (cases (eqb (answerNumber M room T m) 0))
+    where
+      go : (eqb (answerNumber M room T m) 0 ≡ true) ⊎ (eqb (answerNumber M room T m) 0 ≡ false) → Kept (answer M room check T m .table)
+      go (inl e) = let h = eqb-true (answerNumber M room T m) 0 e in rw e (taken-kept m h (taken-by-rule m h))
+      go (inr e) = rw e (t, refl, refl)
+
+-- the table after an answer is a table by the rules, with the same box and the same n
+pub answer-by-rule : (M : Model) (room : Room) (check : Check) → RoomFits room → CheckByRule check → (T : Table) (m : Message) → tableByRule M T ≡ true → tableByRule M (answer M room check T m .table) ≡ true
+answer-by-rule M room check fits checks T m h = table-by (answer-kept M room check fits checks T (table-facts M T h) m .0)
+
+pub answer-same-box : (M : Model) (room : Room) (check : Check) → RoomFits room → CheckByRule check → (T : Table) (m : Message) → tableByRule M T ≡ true → (answer M room check T m .table .box ≡ T .box) × (answer M room check T m .table .n ≡ T .n)
+answer-same-box M room check fits checks T m h = let k = answer-kept M room check fits checks T (table-facts M T h) m in (k .1, k .2)

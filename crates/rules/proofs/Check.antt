@@ -1,0 +1,182 @@
+-- The check: its parts over `++`, the clash behind its rules, and what each answer says of the rows.
+use mathlib.Core.Path.{_≡_, refl, sym, ap, _∙_}
+use mathlib.Core.Bool.{Bool, true, false}
+use mathlib.Core.Logic.{_⊎_, inl, inr}
+use mathlib.Core.List.{List, [], _∷_, _++_, List·Memᴰ·not-nil}
+use Prim.Native.Nat.{ℕ, _≤_, _<_, max}
+use native.Mathlib.Omega.{arith}
+use lib.Dec.{eqb, ltb}
+use borrow.Author.Tests.{ltb-true, lt-ltb}
+use Rattle.rules.specs.Tests.{both, either, any, every, those, greatest}
+use Rattle.rules.specs.Stamps.{Access, Body, isStamp}
+use Rattle.rules.specs.Tables.{Result.OK, Result.ABORT, Result.ABSTAIN, Result.RETRY, Outcome.noOutcome, Outcome.noted, Verdict, Verdict.commit, Verdict.abort, resultByRule, Row, rowByRule}
+use Rattle.rules.specs.Messages.{Check, withOutcome}
+use Rattle.rules.specs.Check.{committed, prepared, overwrites, ruleA, ruleB, ruleC, retryStamp, check, clash, accepted}
+use Rattle.rules.proofs.Logic.{impossible, cases, both-left, both-right, both-true, either-first, either-second, either-false, either-comm}
+use Rattle.rules.proofs.Lists.{_∈_, any-append, those-append, greatest-append, any-none, any-some, some-any, every-one, those-of, those-none, in-those, greatest-above, greatest-is}
+
+-- ---- over ++: A and C are Lists.any-append at their rules, and B's stamp is the greater one
+
+pub abort-append : (xs ys : List Row) (s : ℕ) (x : Body) → any (ruleA committed s x) (xs ++ ys) ≡ either (any (ruleA committed s x) xs) (any (ruleA committed s x) ys)
+abort-append xs ys s x = any-append (ruleA committed s x) xs ys
+
+pub retry-append : (xs ys : List Row) (s : ℕ) (x : Body) → retryStamp (xs ++ ys) s x ≡ max (retryStamp xs s x) (retryStamp ys s x)
+unfolding retryStamp
+retry-append xs ys s x =
+    ap (greatest (λ (r : Row). r .stamp)) (those-append (ruleB committed s x) xs ys)
+    ∙ greatest-append (λ (r : Row). r .stamp) (those (ruleB committed s x) xs) (those (ruleB committed s x) ys)
+
+pub abstain-append : (xs ys : List Row) (s : ℕ) (x : Body) → any (ruleC s x) (xs ++ ys) ≡ either (any (ruleC s x) xs) (any (ruleC s x) ys)
+abstain-append xs ys s x = any-append (ruleC s x) xs ys
+
+-- ---- what overwrites is told by the stamps
+
+module _ (w : ℕ) (writes : List Access) (s : ℕ) (reads : List Access) where
+  abbrev pub Between : Access → Access → Type 0
+  Between read write = (eqb (read .register) (write .register) ≡ true) × (read .number < w) × (w < s)
+
+  pub overwrites-at : overwrites w writes s reads ≡ true → (read : Access) × (read ∈ reads) × ((write : Access) × (write ∈ writes) × Between read write)
+  unfolding overwrites
+  overwrites-at h =
+      let (read, m, k) = any-some _ reads h in
+      let (write, n, t) = any-some _ writes k in
+      let u = both-right _ _ t in
+      (read, m, (write, n, (both-left _ _ t, ltb-true _ _ (both-left _ _ u), ltb-true _ _ (both-right _ _ u))))
+
+  pub overwrites-if : (read write : Access) → read ∈ reads → write ∈ writes → Between read write → overwrites w writes s reads ≡ true
+  unfolding overwrites
+  overwrites-if read write m n (e, l, g) = some-any _ reads read m (some-any _ writes write n (both-true e (both-true (lt-ltb _ _ l) (lt-ltb _ _ g))))
+
+  pub overwrites-below : overwrites w writes s reads ≡ true → w < s
+  overwrites-below h = let (read, m, (write, n, (e, l, g))) = overwrites-at h in g
+
+-- ---- the clash
+
+pub clash-sym : (s : ℕ) (x : Body) (t : ℕ) (y : Body) → clash s x t y ≡ clash t y s x
+unfolding clash
+clash-sym s x t y = either-comm _ _
+
+-- a write at the reader's own stamp is not below it
+overwrites-self : (s : ℕ) (writes reads : List Access) → overwrites s writes s reads ≡ false
+overwrites-self s writes reads = go (cases (overwrites s writes s reads))
+  where
+    go : (overwrites s writes s reads ≡ true) ⊎ (overwrites s writes s reads ≡ false) → overwrites s writes s reads ≡ false
+    go (inl h) = let l = overwrites-below s writes s reads h in absurd (omega arith)
+    go (inr h) = h
+
+pub clash-irreflexive : (s : ℕ) (x y : Body) → clash s x s y ≡ false
+unfolding clash
+clash-irreflexive s x y = either-false (overwrites-self s (y .writes) (x .reads)) (overwrites-self s (x .writes) (y .reads))
+
+-- ---- committed, prepared, accepted
+
+-- a noted outcome, commit or abort, leaves a row as prepared as it was without one
+pub noted-stays-prepared : (r : Row) (v : Verdict) → prepared (withOutcome (noted v) r) ≡ prepared (withOutcome noOutcome r)
+unfolding prepared
+noted-stays-prepared r commit = refl
+noted-stays-prepared r abort = refl
+
+-- A, B and C together are: some accepted row clashes
+pub rules-clash : (s : ℕ) (x : Body) (r : Row) → either (ruleA committed s x r) (either (ruleB committed s x r) (ruleC s x r)) ≡ both (accepted r) (clash s x (r .stamp) (r .body))
+unfolding ruleA ruleB ruleC accepted clash both either
+rules-clash s x r = go (committed r) (prepared r) (overwrites (r .stamp) (r .body .writes) s (x .reads)) (overwrites s (x .writes) (r .stamp) (r .body .reads))
+  where
+    go : (c p a b : Bool) → either (both c a) (either (both c b) (either (both p a) (both p b))) ≡ both (either c p) (either a b)
+    go true true true b = refl
+    go true true false true = refl
+    go true true false false = refl
+    go true false true b = refl
+    go true false false true = refl
+    go true false false false = refl
+    go false true a b = refl
+    go false false a b = refl
+
+-- ---- what an answer says
+
+module _ (rows : List Row) (s : ℕ) (x : Body) where
+  -- OK: no accepted row clashes
+  pub check-clear : check rows s x ≡ OK → (r : Row) → r ∈ rows → accepted r ≡ true → clash s x (r .stamp) (r .body) ≡ false
+  unfolding check
+  check-clear h r m a = go (cases (any (ruleA committed s x) rows)) (cases (any (ruleB committed s x) rows)) (cases (any (ruleC s x) rows))
+    where
+      clear : ruleA committed s x r ≡ false → ruleB committed s x r ≡ false → ruleC s x r ≡ false → (clash s x (r .stamp) (r .body) ≡ true) ⊎ (clash s x (r .stamp) (r .body) ≡ false) → clash s x (r .stamp) (r .body) ≡ false
+      clear p q t (inr c) = c
+      clear p q t (inl c) = impossible (rules-clash s x r ∙ both-true a c) (either-false p (either-false q t))
+
+      go : (any (ruleA committed s x) rows ≡ true) ⊎ (any (ruleA committed s x) rows ≡ false) → (any (ruleB committed s x) rows ≡ true) ⊎ (any (ruleB committed s x) rows ≡ false) → (any (ruleC s x) rows ≡ true) ⊎ (any (ruleC s x) rows ≡ false) → clash s x (r .stamp) (r .body) ≡ false
+      go (inl p) q t = let k : ABORT ≡ OK = rw p at h in let z : _≡_ {A = ℕ} 0 1 = cc in absurd (omega arith)
+      go (inr p) (inl q) t = let k : RETRY (retryStamp rows s x) ≡ OK = rw (p, q) at h in let z : _≡_ {A = ℕ} 0 1 = cc in absurd (omega arith)
+      go (inr p) (inr q) (inl t) = let k : ABSTAIN ≡ OK = rw (p, q, t) at h in let z : _≡_ {A = ℕ} 0 1 = cc in absurd (omega arith)
+      go (inr p) (inr q) (inr t) = clear (any-none _ rows p r m) (any-none _ rows q r m) (any-none _ rows t r m) (cases (clash s x (r .stamp) (r .body)))
+
+  -- the accepted row that clashes
+  abbrev pub Against : Type 0
+  Against = (r : Row) × (r ∈ rows) × (accepted r ≡ true) × (clash s x (r .stamp) (r .body) ≡ true)
+
+  -- not OK: some accepted row clashes
+  pub check-against : (check rows s x ≡ OK → ⊥) → Against
+  unfolding check
+  check-against h = go (cases (any (ruleA committed s x) rows)) (cases (any (ruleB committed s x) rows)) (cases (any (ruleC s x) rows))
+    where
+      found : (r : Row) → r ∈ rows → either (ruleA committed s x r) (either (ruleB committed s x r) (ruleC s x r)) ≡ true → Against
+      found r m e = let k = sym (rules-clash s x r) ∙ e in (r, m, both-left _ _ k, both-right _ _ k)
+
+      go : (any (ruleA committed s x) rows ≡ true) ⊎ (any (ruleA committed s x) rows ≡ false) → (any (ruleB committed s x) rows ≡ true) ⊎ (any (ruleB committed s x) rows ≡ false) → (any (ruleC s x) rows ≡ true) ⊎ (any (ruleC s x) rows ≡ false) → Against
+      go (inl p) q t = let (r, m, e) = any-some _ rows p in found r m (either-first _ _ e)
+      go (inr p) (inl q) t = let (r, m, e) = any-some _ rows q in found r m (either-second _ _ (either-first _ _ e))
+      go (inr p) (inr q) (inl t) = let (r, m, e) = any-some _ rows t in found r m (either-second _ _ (either-second _ _ e))
+      go (inr p) (inr q) (inr t) = absurd (h (rw (p, q, t) refl))
+
+  -- ---- the retry stamp
+
+  -- "the greatest such s'": none that B names lies above it
+  pub retry-greatest : (r : Row) → r ∈ rows → ruleB committed s x r ≡ true → r .stamp ≤ retryStamp rows s x
+  unfolding retryStamp
+  retry-greatest r m e = greatest-above (λ (q : Row). q .stamp) (those (ruleB committed s x) rows) r (in-those _ rows r m e)
+
+  -- and it is one of them
+  pub retry-is : any (ruleB committed s x) rows ≡ true → (r : Row) × (r ∈ rows) × (ruleB committed s x r ≡ true) × (r .stamp ≡ retryStamp rows s x)
+  unfolding retryStamp
+  retry-is h =
+      let (r, m, e) = any-some _ rows h in
+      go (those (ruleB committed s x) rows) refl r (in-those _ rows r m e)
+    where
+      go : (l : List Row) → those (ruleB committed s x) rows ≡ l → (r : Row) → r ∈ those (ruleB committed s x) rows → (r : Row) × (r ∈ rows) × (ruleB committed s x r ≡ true) × (r .stamp ≡ greatest (λ (q : Row). q .stamp) (those (ruleB committed s x) rows))
+      go [] e r m = absurd (List·Memᴰ·not-nil (rw e at m))
+      go (y ∷ ys) e r m =
+          let (q, n, k) = greatest-is (λ (q : Row). q .stamp) y ys in
+          let (i, b) = those-of (ruleB committed s x) rows q (rw (sym e) at n) in
+          (q, i, b, k ∙ ap (greatest (λ (p : Row). p .stamp)) (sym e))
+
+  above : (r : Row) → ruleB committed s x r ≡ true → s < r .stamp
+  unfolding ruleB
+  above r b = overwrites-below s (x .writes) (r .stamp) (r .body .reads) (both-right _ _ b)
+
+  -- B holds exactly if there is a stamp, since what it names lies above s
+  pub retry-fires : any (ruleB committed s x) rows ≡ ltb 0 (retryStamp rows s x)
+  unfolding retryStamp greatest
+  retry-fires = go (cases (any (ruleB committed s x) rows))
+    where
+      go : (any (ruleB committed s x) rows ≡ true) ⊎ (any (ruleB committed s x) rows ≡ false) → any (ruleB committed s x) rows ≡ ltb 0 (retryStamp rows s x)
+      go (inl h) = let (r, m, b, e) = retry-is h in let l = above r b in h ∙ sym (lt-ltb 0 (retryStamp rows s x) (omega arith))
+      go (inr h) = rw (h, those-none (ruleB committed s x) rows h) refl
+
+-- ---- results of a check keep the rows' rule
+
+row-stamp : (r : Row) → rowByRule r ≡ true → isStamp (r .stamp) ≡ true
+unfolding rowByRule
+row-stamp r h = both-left _ _ h
+
+-- what later layers ask of any check that takes the place of this one
+abbrev pub CheckByRule : Check → Type 0
+CheckByRule any-check = (rows : List Row) (s : ℕ) (x : Body) → every rowByRule rows ≡ true → resultByRule (any-check rows s x) ≡ true
+
+pub check-by-rule : CheckByRule check
+unfolding check resultByRule
+check-by-rule rows s x h = go (cases (any (ruleA committed s x) rows)) (cases (any (ruleB committed s x) rows)) (cases (any (ruleC s x) rows))
+  where
+    go : (any (ruleA committed s x) rows ≡ true) ⊎ (any (ruleA committed s x) rows ≡ false) → (any (ruleB committed s x) rows ≡ true) ⊎ (any (ruleB committed s x) rows ≡ false) → (any (ruleC s x) rows ≡ true) ⊎ (any (ruleC s x) rows ≡ false) → resultByRule (check rows s x) ≡ true
+    go (inl p) q t = rw p refl
+    go (inr p) (inl q) t = let (r, m, b, e) = retry-is rows s x q in rw (p, q) (ap isStamp (sym e) ∙ row-stamp r (every-one rowByRule rows h r m))
+    go (inr p) (inr q) (inl t) = rw (p, q, t) refl
+    go (inr p) (inr q) (inr t) = rw (p, q, t) refl

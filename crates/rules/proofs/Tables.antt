@@ -1,0 +1,76 @@
+-- A row and a table by the rules, fact by fact, and back.
+use mathlib.Core.Path.{_≡_}
+use mathlib.Core.Bool.{true}
+use Prim.Native.Nat.{ℕ, _≤_, _<_}
+use lib.ListN.{length}
+use borrow.Author.Tests.{ltb-true, lt-ltb, leb-true, le-leb}
+use Rattle.rules.specs.Tests.{every}
+use Rattle.rules.specs.Groups.{isGroup}
+use Rattle.rules.specs.Stamps.{isStamp, countsByRule, contentsByRule}
+use Rattle.rules.specs.Tables.{somethingHeld, retryByRule, Row, rowByRule, rising, Model, Table, isView, modeByRule, headerByRule, tableByRule}
+use Rattle.rules.proofs.Logic.{both-left, both-right, both-true}
+
+pub stamp-positive : (s : ℕ) → isStamp s ≡ true → 0 < s
+unfolding isStamp
+stamp-positive s h = ltb-true 0 s (both-left _ _ h)
+
+-- ---- a row
+
+pub record RowByRule (r : Row) : Type 0 where
+  pub stamp : isStamp (r .stamp) ≡ true
+  pub counts : countsByRule (length (r .body .reads)) (length (r .body .writes)) ≡ true
+  pub held : somethingHeld (r .prepare) (r .outcome) ≡ true
+  pub retry : retryByRule (r .prepare) ≡ true
+  pub contents : contentsByRule (r .stamp) (r .body) ≡ true
+
+pub row-facts : (r : Row) → rowByRule r ≡ true → RowByRule r
+unfolding rowByRule
+row-facts r h =
+    let a = both-right _ _ h in
+    let b = both-right _ _ a in
+    let c = both-right _ _ b in
+    record { stamp = both-left _ _ h; counts = both-left _ _ a; held = both-left _ _ b; retry = both-left _ _ c; contents = both-right _ _ c }
+
+pub row-by : {r : Row} → RowByRule r → rowByRule r ≡ true
+unfolding rowByRule
+row-by f = both-true (f .stamp) (both-true (f .counts) (both-true (f .held) (both-true (f .retry) (f .contents))))
+
+-- ---- a table
+
+pub record ByRule (M : Model) (T : Table) : Type 0 where
+  pub group : isGroup (T .n) ≡ true
+  pub box : T .box < T .n
+  pub view : isView (T .view) ≡ true
+  pub promised : isView (T .promised) ≡ true
+  pub mode : modeByRule (T .mode) (T .view) (T .promised) ≡ true
+  pub start : T .start ≤ length (T .rows)
+  pub limit : length (T .rows) ≤ M .rowLimit
+  pub rise : rising 0 (T .rows) ≡ true
+  pub rows : every rowByRule (T .rows) ≡ true
+
+pub table-facts : (M : Model) (T : Table) → tableByRule M T ≡ true → ByRule M T
+unfolding tableByRule headerByRule
+table-facts M T h =
+    let head = both-left _ _ h in
+    let tail = both-right _ _ h in
+    let names = both-left _ _ head in
+    let views = both-left _ _ (both-right _ _ head) in
+    let rest = both-right _ _ (both-right _ _ head) in
+    record {
+      group = both-left _ _ names;
+      box = ltb-true _ _ (both-right _ _ names);
+      view = both-left _ _ views;
+      promised = both-right _ _ views;
+      mode = both-left _ _ rest;
+      start = leb-true _ _ (both-right _ _ rest);
+      limit = leb-true _ _ (both-left _ _ tail);
+      rise = both-left _ _ (both-right _ _ tail);
+      rows = both-right _ _ (both-right _ _ tail);
+    }
+
+pub table-by : {M : Model} {T : Table} → ByRule M T → tableByRule M T ≡ true
+unfolding tableByRule headerByRule
+table-by {M} {T} f =
+    both-true
+    (both-true (both-true (f .group) (lt-ltb _ _ (f .box))) (both-true (both-true (f .view) (f .promised)) (both-true (f .mode) (le-leb _ _ (f .start)))))
+    (both-true (le-leb _ _ (f .limit)) (both-true (f .rise) (f .rows)))
