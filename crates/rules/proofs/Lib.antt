@@ -2,3 +2,4 @@ pub mod Logic
 pub mod Lists
 pub mod Same
 pub mod Groups
+pub mod Reordered

@@ -16,7 +16,7 @@ infix 20 _∈_
 abbrev pub _∈_ : {A : Type 0} → A → List A → Type 0
 _∈_ a l = List·Memᴰ a l
 
-max-assoc : (a b c : ℕ) → max (max a b) c ≡ max a (max b c)
+pub max-assoc : (a b c : ℕ) → max (max a b) c ≡ max a (max b c)
 max-assoc a b c =
     let l : max (max a b) c ≤ max a (max b c) =
     max-le (max-le (le-max-left a (max b c)) (omega (arith, le-max-left b c, le-max-right a (max b c)))) (omega (arith, le-max-right b c, le-max-right a (max b c))) in
