@@ -3,3 +3,4 @@ pub mod Lists
 pub mod Same
 pub mod Groups
 pub mod Reordered
+pub mod Votes
