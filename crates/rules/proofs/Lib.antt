@@ -4,3 +4,5 @@ pub mod Same
 pub mod Groups
 pub mod Reordered
 pub mod Votes
+pub mod Numbers
+pub mod Orders

@@ -153,6 +153,15 @@ module _ {A : Type 0} where
       go (inl l) (x, m, e) = (x, List·Memᴰ·tail m, e ∙ sym (max-eq-right (leb-true _ _ l)))
       go (inr l) (x, m, e) = (y, List·Memᴰ·head refl, sym (max-eq-left (let h = leb-false (number y) (greatest number (z ∷ zs)) l in omega arith)))
 
+  -- some two of them, or one with itself
+  pub pair-none : (test : A → A → Bool) (xs : List A) → somePair test xs ≡ false → (x y : A) → x ∈ xs → y ∈ xs → test x y ≡ false
+  unfolding somePair
+  pair-none test xs e x y mx my = any-none (test x) xs (any-none (λ z. any (test z) xs) xs e x mx) y my
+
+  pub provided-some : (b : Bool) (x y : A) → provided b x ≡ some y → (b ≡ true) × (x ≡ y)
+  provided-some true x y e = (refl, cc)
+  provided-some false x y e = let c : _≡_ {A = ℕ} 0 1 = cc in absurd (omega arith)
+
 -- ---- what the first gives, and what all give
 
 module _ {A B : Type 0} (give : A → Option B) where
