@@ -6,3 +6,4 @@ pub mod Reordered
 pub mod Votes
 pub mod Numbers
 pub mod Orders
+pub mod Stamps
