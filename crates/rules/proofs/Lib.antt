@@ -1,9 +1,13 @@
 pub mod Logic
 pub mod Lists
+pub mod Reordered
 pub mod Same
 pub mod Groups
+pub mod Numbers
 pub mod Check
 pub mod Rows
-pub mod Numbers
 pub mod Tables
 pub mod Answers
+pub mod Stamps
+pub mod Votes
+pub mod Orders

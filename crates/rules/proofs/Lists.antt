@@ -9,14 +9,14 @@ use native.Mathlib.Omega.{arith}
 use native.Mathlib.Nat.{zero-max, max-zero, le-max-left, le-max-right, max-le, max-eq-left, max-eq-right}
 use lib.Dec.{leb}
 use borrow.Author.Tests.{leb-true, leb-false}
-use Rattle.rules.specs.Tests.{both, either, any, every, count, kept, those, greatest, orElse, andAlso, firstOf, allOf}
+use Rattle.rules.specs.Tests.{both, either, any, every, count, kept, those, greatest, somePair, provided, orElse, andAlso, firstOf, allOf}
 use Rattle.rules.proofs.Logic.{impossible, cases, both-left, both-right, both-true, both-assoc, either-cases, either-left, either-right, either-false, either-assoc}
 
 infix 20 _∈_
 abbrev pub _∈_ : {A : Type 0} → A → List A → Type 0
 _∈_ a l = List·Memᴰ a l
 
-max-assoc : (a b c : ℕ) → max (max a b) c ≡ max a (max b c)
+pub max-assoc : (a b c : ℕ) → max (max a b) c ≡ max a (max b c)
 max-assoc a b c =
     let l : max (max a b) c ≤ max a (max b c) =
     max-le (max-le (le-max-left a (max b c)) (omega (arith, le-max-left b c, le-max-right a (max b c)))) (omega (arith, le-max-right b c, le-max-right a (max b c))) in
@@ -157,6 +157,15 @@ module _ {A : Type 0} where
       go : (leb (number y) (greatest number (z ∷ zs)) ≡ true) ⊎ (leb (number y) (greatest number (z ∷ zs)) ≡ false) → (x : A) × (x ∈ (z ∷ zs)) × (number x ≡ greatest number (z ∷ zs)) → (x : A) × (x ∈ (y ∷ z ∷ zs)) × (number x ≡ max (number y) (greatest number (z ∷ zs)))
       go (inl l) (x, m, e) = (x, List·Memᴰ·tail m, e ∙ sym (max-eq-right (leb-true _ _ l)))
       go (inr l) (x, m, e) = (y, List·Memᴰ·head refl, sym (max-eq-left (let h = leb-false (number y) (greatest number (z ∷ zs)) l in omega arith)))
+
+  -- some two of them, or one with itself
+  pub pair-none : (test : A → A → Bool) (xs : List A) → somePair test xs ≡ false → (x y : A) → x ∈ xs → y ∈ xs → test x y ≡ false
+  unfolding somePair
+  pair-none test xs e x y mx my = any-none (test x) xs (any-none (λ z. any (test z) xs) xs e x mx) y my
+
+  pub provided-some : (b : Bool) (x y : A) → provided b x ≡ some y → (b ≡ true) × (x ≡ y)
+  provided-some true x y e = (refl, cc)
+  provided-some false x y e = let c : _≡_ {A = ℕ} 0 1 = cc in absurd (omega arith)
 
 -- ---- what the first gives, and what all give
 

@@ -13,7 +13,7 @@ use Rattle.rules.specs.Tests.{provided, orElse, firstOf}
 use Rattle.rules.specs.Tables.{Row, rising}
 use Rattle.rules.specs.Messages.{held, changed, added}
 use Rattle.rules.proofs.Logic.{cases, both-left, both-right, both-true, same?, eqb-self}
-use Rattle.rules.proofs.Lists.{_∈_, first-from, first-none, none-first, first-is}
+use Rattle.rules.proofs.Lists.{_∈_, provided-some, first-from, first-none, none-first, first-is}
 
 -- ---- rising rows
 
@@ -52,11 +52,7 @@ held-cons r rs s = go (eqb (r .stamp) s)
     go false = refl
 
 provided-is : (r q : Row) (s : ℕ) → provided (eqb (r .stamp) s) r ≡ some q → (q ≡ r) × (r .stamp ≡ s)
-provided-is r q s h = go (eqb (r .stamp) s) refl h
-  where
-    go : (b : Bool) → eqb (r .stamp) s ≡ b → provided b r ≡ some q → (q ≡ r) × (r .stamp ≡ s)
-    go true e k = (cc, eqb-true (r .stamp) s e)
-    go false e k = let z : _≡_ {A = ℕ} 0 1 = cc in absurd (omega arith)
+provided-is r q s h = let (t, e) = provided-some (eqb (r .stamp) s) r q h in (sym e, eqb-true (r .stamp) s t)
 
 pub held-from : (rows : List Row) (s : ℕ) (r : Row) → held rows s ≡ some r → (r ∈ rows) × (r .stamp ≡ s)
 unfolding held
