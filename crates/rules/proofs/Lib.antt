@@ -11,3 +11,4 @@ pub mod Answers
 pub mod Stamps
 pub mod Votes
 pub mod Orders
+pub mod Merge

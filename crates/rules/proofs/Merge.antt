@@ -1,0 +1,461 @@
+-- The merge: which tables and rows it is made of, and that it is a table by the rules that starts its view.
+use mathlib.Core.Path.{_≡_, refl, sym, ap, _∙_}
+use mathlib.Core.Bool.{Bool, true, false, cond}
+use mathlib.Core.Logic.{_⊎_, inl, inr}
+use mathlib.Core.List.{List, [], _∷_, _++_, map, List·Memᴰ·head, List·Memᴰ·tail, List·Memᴰ·cases-cons, List·Memᴰ·not-nil, Memᴰ·append-left, Memᴰ·append-right, Memᴰ·of-map}
+use mathlib.Core.Option.{Option, none, some}
+use Prim.Native.Nat.{ℕ, suc, _+_, _≤_, _<_, _%_}
+use native.Mathlib.Omega.{arith}
+use native.Mathlib.Nat.{mod-lt}
+use lib.Dec.{eqb, leb}
+use lib.ListN.{length, length-map}
+use borrow.Author.Tests.{eqb-true, eq-eqb, ltb-false, lt-ltb, not-false}
+use Rattle.rules.specs.Tests.{both, either, any, every, greatest}
+use Rattle.rules.specs.Groups.{fOf, agreementCount}
+use Rattle.rules.specs.Stamps.{isStamp, countsByRule, contentsByRule}
+use Rattle.rules.specs.Tables.{Result, Result.OK, Result.ABORT, Result.ABSTAIN, Result.RETRY, Prepare, Prepare.noPrepare, Prepare.tentative, Prepare.final, Verdict, Verdict.commit, Verdict.abort, Outcome, Outcome.noOutcome, Outcome.noted, Outcome.done, prepareCode, outcomeCode, resultByRule, retryByRule, somethingHeld, Row, rowByRule, rising, Model, Table, normalMode, modeByRule, tableByRule}
+use Rattle.rules.specs.Numbers.{full, wrongTables}
+use Rattle.rules.specs.Messages.{Check, held, changed, withPrepare}
+use Rattle.rules.specs.Circumstances.{settled, startsView}
+use Rattle.rules.specs.Merge.{used, stamps, rowsOf, holdsVerdict, mergedOutcome, finalResult, finalOf, tentativeResult, isAgreed, ifAgreed, agreedOf, holdsPrepare, Standing, Standing.hasNone, Standing.hasFinal, Standing.hasAgreed, Standing.hasOpen, standingFrom, standing, uncheckedPrepare, bodyOf, uncheckedRow, uncheckedRows, hasNoOutcome, isAgreedOK, isOpen, toCheck, settledRows, checkedAt, checkedInTurn, mergedRows, groupOf, mergedTable, areWrong, mergeCircumstances, mergeNumber, merge}
+use Rattle.rules.proofs.Logic.{impossible, cases, both-right, both-true, either-left, either-right, either-first, eqb-self}
+use Rattle.rules.proofs.Lists.{_∈_, every-one, all-every, those-of, in-those, any-none, provided-some, first-from, in-all}
+use Rattle.rules.proofs.Check.{CheckByRule}
+use Rattle.rules.proofs.Rows.{held-is, changed-from}
+use Rattle.rules.proofs.Tables.{stamp-positive, row-facts, row-by, ByRule, table-facts, table-by}
+use Rattle.rules.proofs.Numbers.{in-wrongTables, in-full, number-done}
+use Rattle.rules.proofs.Stamps.{RisingFrom, stamps-rising, stamps-from, rows-from}
+
+-- ---- the tables that are used
+
+-- only those of the greatest last normal view
+pub used-newest : (Ts : List Table) (T : Table) → T ∈ used Ts → (T ∈ Ts) × (T .view ≡ greatest (λ U. U .view) Ts)
+unfolding used
+used-newest Ts T m = let (i, e) = those-of _ Ts T m in (i, eqb-true (T .view) (greatest (λ U. U .view) Ts) e)
+
+-- and all of them
+pub used-all : (Ts : List Table) (T : Table) → T ∈ Ts → T .view ≡ greatest (λ U. U .view) Ts → T ∈ used Ts
+unfolding used
+used-all Ts T m e = in-those _ Ts T m (eq-eqb (T .view) (greatest (λ U. U .view) Ts) e)
+
+-- ---- what stands without a check
+
+-- a row that is accepted without a check was final, or has an outcome: an agreed OK alone is not enough
+pub unchecked-ok : (c : Standing) (o : Outcome) → uncheckedPrepare c o ≡ final OK → (c ≡ hasFinal OK) ⊎ (hasNoOutcome o ≡ false)
+unchecked-ok c (noted v) e = inr refl
+unchecked-ok c (done v) e = inr refl
+unchecked-ok hasNone noOutcome e = let z : _≡_ {A = ℕ} 0 1 = cc in absurd (omega arith)
+unchecked-ok (hasFinal r) noOutcome e = let q : r ≡ OK = cc in inl (ap hasFinal q)
+unchecked-ok (hasAgreed OK) noOutcome e = let z : _≡_ {A = ℕ} 0 1 = cc in absurd (omega arith)
+unchecked-ok (hasAgreed ABORT) noOutcome e = let z : _≡_ {A = ℕ} 0 1 = cc in absurd (omega arith)
+unchecked-ok (hasAgreed ABSTAIN) noOutcome e = let z : _≡_ {A = ℕ} 0 1 = cc in absurd (omega arith)
+unchecked-ok (hasAgreed (RETRY s)) noOutcome e = let z : _≡_ {A = ℕ} 0 1 = cc in absurd (omega arith)
+unchecked-ok hasOpen noOutcome e = let z : _≡_ {A = ℕ} 0 1 = cc in absurd (omega arith)
+
+-- ---- checks change results alone
+
+abbrev pub stampsOf : List Row → List ℕ
+stampsOf rows = map (λ r. r .stamp) rows
+
+stamps-changed : (s : ℕ) (change : Row → Row) → ((r : Row) → change r .stamp ≡ r .stamp) → (rows : List Row) → stampsOf (changed s change rows) ≡ stampsOf rows
+unfolding changed
+stamps-changed s change keeps [] = refl
+stamps-changed s change keeps (r ∷ rs) = rw (go (eqb (r .stamp) s), stamps-changed s change keeps rs) refl
+  where
+    go : (b : Bool) → cond b (change r) r .stamp ≡ r .stamp
+    go true = keeps r
+    go false = refl
+
+stamps-in-turn : (check : Check) (ss : List ℕ) (rows : List Row) → stampsOf (checkedInTurn check ss rows) ≡ stampsOf rows
+unfolding checkedInTurn checkedAt
+stamps-in-turn check [] rows = refl
+stamps-in-turn check (s ∷ ss) rows = stamps-in-turn check ss (checkedAt check s rows) ∙ stamps-changed s _ (λ r. refl) rows
+
+stamps-unchecked : (agreement : ℕ) (Ts : List Table) → stampsOf (uncheckedRows agreement Ts) ≡ stamps Ts
+unfolding uncheckedRows uncheckedRow
+stamps-unchecked agreement Ts = go (stamps Ts)
+  where
+    go : (ss : List ℕ) → stampsOf (map (λ s. uncheckedRow agreement s (rowsOf Ts s)) ss) ≡ ss
+    go [] = refl
+    go (s ∷ ss) = ap (λ (l : List ℕ). s ∷ l) (go ss)
+
+-- "Each stamp in them gets one row."
+pub merged-stamps : (check : Check) (agreement : ℕ) (Ts : List Table) → stampsOf (mergedRows check agreement Ts) ≡ stamps Ts
+unfolding mergedRows
+merged-stamps check agreement Ts =
+    stamps-in-turn check (toCheck isOpen agreement Ts) _ ∙ (stamps-in-turn check (toCheck isAgreedOK agreement Ts) _ ∙ stamps-unchecked agreement Ts)
+
+-- rows whose stamps rise
+rising-stamps : (low : ℕ) (rows : List Row) → RisingFrom (suc low) (stampsOf rows) → rising low rows ≡ true
+unfolding rising
+rising-stamps low [] h = refl
+rising-stamps low (r ∷ rs) (l, h) = both-true (lt-ltb low (r .stamp) l) (rising-stamps (r .stamp) rs h)
+
+-- ---- the outcome and the standing of a stamp's rows
+
+no-verdict : (o : Outcome) → holdsVerdict commit o ≡ false → holdsVerdict abort o ≡ false → o ≡ noOutcome
+no-verdict noOutcome p q = refl
+no-verdict (noted commit) p q = impossible refl p
+no-verdict (noted abort) p q = impossible refl q
+no-verdict (done commit) p q = impossible refl p
+no-verdict (done abort) p q = impossible refl q
+
+module _ (rs : List Row) where
+  -- none, and then no row holds one, or done
+  pub outcome-cases : ((mergedOutcome rs ≡ noOutcome) × ((r : Row) → r ∈ rs → r .outcome ≡ noOutcome)) ⊎ ((v : Verdict) × (mergedOutcome rs ≡ done v))
+  unfolding mergedOutcome
+  outcome-cases = go (cases (any (λ r. holdsVerdict commit (r .outcome)) rs)) (cases (any (λ r. holdsVerdict abort (r .outcome)) rs))
+    where
+      go : (any (λ r. holdsVerdict commit (r .outcome)) rs ≡ true) ⊎ (any (λ r. holdsVerdict commit (r .outcome)) rs ≡ false) → (any (λ r. holdsVerdict abort (r .outcome)) rs ≡ true) ⊎ (any (λ r. holdsVerdict abort (r .outcome)) rs ≡ false) → ((mergedOutcome rs ≡ noOutcome) × ((r : Row) → r ∈ rs → r .outcome ≡ noOutcome)) ⊎ ((v : Verdict) × (mergedOutcome rs ≡ done v))
+      go (inl p) q = inr (commit, rw p refl)
+      go (inr p) (inl q) = inr (abort, rw (p, q) refl)
+      go (inr p) (inr q) = inl (rw (p, q) refl, λ r m. no-verdict (r .outcome) (any-none _ rs p r m) (any-none _ rs q r m))
+
+  final-from : (p : Prepare) (r : Result) → finalResult p ≡ some r → p ≡ final r
+  final-from noPrepare r e = let z : _≡_ {A = ℕ} 0 1 = cc in absurd (omega arith)
+  final-from (tentative q) r e = let z : _≡_ {A = ℕ} 0 1 = cc in absurd (omega arith)
+  final-from (final q) r e = cc
+
+  agreed-from : (agreement : ℕ) (p : Prepare) (r : Result) → ifAgreed agreement rs (tentativeResult p) ≡ some r → p ≡ tentative r
+  agreed-from agreement noPrepare r e = let z : _≡_ {A = ℕ} 0 1 = cc in absurd (omega arith)
+  agreed-from agreement (tentative q) r e = ap tentative (provided-some (isAgreed agreement rs q) q r e .1)
+  agreed-from agreement (final q) r e = let z : _≡_ {A = ℕ} 0 1 = cc in absurd (omega arith)
+
+  no-prepare : (p : Prepare) → holdsPrepare p ≡ false → p ≡ noPrepare
+  no-prepare noPrepare e = refl
+  no-prepare (tentative r) e = impossible refl e
+  no-prepare (final r) e = impossible refl e
+
+  -- what each standing says of the rows
+  abbrev pub Says : Standing → Type 0
+  Says hasNone = (r : Row) → r ∈ rs → r .prepare ≡ noPrepare
+  Says (hasFinal q) = (r : Row) × (r ∈ rs) × (r .prepare ≡ final q)
+  Says (hasAgreed q) = (r : Row) × (r ∈ rs) × (r .prepare ≡ tentative q)
+  Says hasOpen = Unit {0}
+
+  pub standing-says : (agreement : ℕ) → Says (standing agreement rs)
+  unfolding standing finalOf agreedOf
+  standing-says agreement = go (finalOf rs) refl (agreedOf agreement rs) refl (any (λ r. holdsPrepare (r .prepare)) rs) refl
+    where
+      go : (f : Option Result) → finalOf rs ≡ f → (a : Option Result) → agreedOf agreement rs ≡ a → (h : Bool) → any (λ r. holdsPrepare (r .prepare)) rs ≡ h → Says (standingFrom f a h)
+      go (some q) ef a ea h eh = let (r, m, e) = first-from _ rs q ef in (r, m, final-from (r .prepare) q e)
+      go none ef (some q) ea h eh = let (r, m, e) = first-from _ rs q ea in (r, m, agreed-from agreement (r .prepare) q e)
+      go none ef none ea true eh = tt
+      go none ef none ea false eh = λ r m. no-prepare (r .prepare) (any-none _ rs eh r m)
+
+-- ---- rows on their way: by the rule, settled, and held or still to be checked
+
+pub record OnTheWay (ss : List ℕ) (r : Row) : Type 0 where
+  pub stamp : isStamp (r .stamp) ≡ true
+  pub counts : countsByRule (length (r .body .reads)) (length (r .body .writes)) ≡ true
+  pub retry : retryByRule (r .prepare) ≡ true
+  pub contents : contentsByRule (r .stamp) (r .body) ≡ true
+  pub shut : settled r ≡ true
+  pub waits : (somethingHeld (r .prepare) (r .outcome) ≡ true) ⊎ (r .stamp ∈ ss)
+
+held-rule : {ss : List ℕ} {r : Row} → OnTheWay ss r → somethingHeld (r .prepare) (r .outcome) ≡ true → rowByRule r ≡ true
+held-rule w h = row-by (record { stamp = w .stamp; counts = w .counts; held = h; retry = w .retry; contents = w .contents })
+
+abbrev pub AllOnTheWay : List ℕ → List Row → Type 0
+AllOnTheWay ss rows = (r : Row) → r ∈ rows → OnTheWay ss r
+
+settled-rows-rule : {ss : List ℕ} (rows : List Row) → AllOnTheWay ss rows → every rowByRule (settledRows rows) ≡ true
+unfolding settledRows
+settled-rows-rule rows h = all-every rowByRule (settledRows rows) (λ r m. let (i, k) = those-of _ rows r m in held-rule (h r i) k)
+
+checked-settled : (r : Row) (q : Result) → settled r ≡ true → settled (withPrepare (final q) r) ≡ true
+unfolding settled either
+checked-settled r q h = both-true (go q) (both-right _ _ h)
+  where
+    go : (q : Result) → either (eqb (prepareCode (final q)) 0) (leb 5 (prepareCode (final q))) ≡ true
+    go OK = refl
+    go ABORT = refl
+    go ABSTAIN = refl
+    go (RETRY s) = refl
+
+final-held : (q : Result) (o : Outcome) → somethingHeld (final q) o ≡ true
+unfolding somethingHeld
+final-held q o = lt-ltb 0 (prepareCode (final q) + outcomeCode o) (omega arith)
+
+module _ (check : Check) (checks : CheckByRule check) where
+  step : (s : ℕ) (ss : List ℕ) (rows : List Row) → AllOnTheWay (s ∷ ss) rows → AllOnTheWay ss (checkedAt check s rows)
+  unfolding checkedAt retryByRule
+  step s ss rows h q m = go (changed-from s _ rows q m)
+    where
+      Change : Row → Row
+      Change r = withPrepare (final (check (settledRows rows) s (r .body))) r
+
+      moved : (r : Row) → r ∈ rows → OnTheWay ss (Change r)
+      moved r i =
+          let w = h r i in
+          record {
+            stamp = w .stamp;
+            counts = w .counts;
+            retry = checks (settledRows rows) s (r .body) (settled-rows-rule rows h);
+            contents = w .contents;
+            shut = checked-settled r _ (w .shut);
+            waits = inl (final-held _ (r .outcome));
+          }
+
+      still : (r : Row) → eqb (r .stamp) s ≡ false → (somethingHeld (r .prepare) (r .outcome) ≡ true) ⊎ (r .stamp ∈ (s ∷ ss)) → (somethingHeld (r .prepare) (r .outcome) ≡ true) ⊎ (r .stamp ∈ ss)
+      still r d (inl k) = inl k
+      still r d (inr k) = past (List·Memᴰ·cases-cons k)
+        where
+          past : (r .stamp ≡ s) ⊎ (r .stamp ∈ ss) → (somethingHeld (r .prepare) (r .outcome) ≡ true) ⊎ (r .stamp ∈ ss)
+          past (inl e) = impossible (eq-eqb (r .stamp) s e) d
+          past (inr k′) = inr k′
+
+      same : (r : Row) → r ∈ rows → eqb (r .stamp) s ≡ false → OnTheWay ss r
+      same r i d = let w = h r i in record { stamp = w .stamp; counts = w .counts; retry = w .retry; contents = w .contents; shut = w .shut; waits = still r d (w .waits) }
+
+      go : (r : Row) × (r ∈ rows) × (((r .stamp ≡ s) × (q ≡ Change r)) ⊎ ((eqb (r .stamp) s ≡ false) × (q ≡ r))) → OnTheWay ss q
+      go (r, i, inl (k, e)) = rw e (moved r i)
+      go (r, i, inr (k, e)) = rw e (same r i k)
+
+  in-turn : (ss rest : List ℕ) (rows : List Row) → AllOnTheWay (ss ++ rest) rows → AllOnTheWay rest (checkedInTurn check ss rows)
+  unfolding checkedInTurn
+  in-turn [] rest rows h = h
+  in-turn (s ∷ ss) rest rows h = in-turn ss rest (checkedAt check s rows) (step s (ss ++ rest) rows h)
+
+-- ---- the rows before the checks
+
+settled-prepare : (c : Standing) (o : Outcome) → either (eqb (prepareCode (uncheckedPrepare c o)) 0) (leb 5 (prepareCode (uncheckedPrepare c o))) ≡ true
+unfolding either
+settled-prepare hasNone o = refl
+settled-prepare (hasFinal OK) o = refl
+settled-prepare (hasFinal ABORT) o = refl
+settled-prepare (hasFinal ABSTAIN) o = refl
+settled-prepare (hasFinal (RETRY s)) o = refl
+settled-prepare (hasAgreed OK) noOutcome = refl
+settled-prepare (hasAgreed OK) (noted v) = refl
+settled-prepare (hasAgreed OK) (done v) = refl
+settled-prepare (hasAgreed ABORT) o = refl
+settled-prepare (hasAgreed ABSTAIN) o = refl
+settled-prepare (hasAgreed (RETRY s)) o = refl
+settled-prepare hasOpen noOutcome = refl
+settled-prepare hasOpen (noted commit) = refl
+settled-prepare hasOpen (noted abort) = refl
+settled-prepare hasOpen (done commit) = refl
+settled-prepare hasOpen (done abort) = refl
+
+module _ (agreement s : ℕ) (rs : List Row) (good : (r : Row) → r ∈ rs → (rowByRule r ≡ true) × (r .stamp ≡ s)) where
+  settled-outcome : either (eqb (outcomeCode (mergedOutcome rs)) 0) (leb 3 (outcomeCode (mergedOutcome rs))) ≡ true
+  unfolding either
+  settled-outcome = go (outcome-cases rs)
+    where
+      verdict : (v : Verdict) → either (eqb (outcomeCode (done v)) 0) (leb 3 (outcomeCode (done v))) ≡ true
+      verdict commit = refl
+      verdict abort = refl
+
+      go : ((mergedOutcome rs ≡ noOutcome) × ((r : Row) → r ∈ rs → r .outcome ≡ noOutcome)) ⊎ ((v : Verdict) × (mergedOutcome rs ≡ done v)) → either (eqb (outcomeCode (mergedOutcome rs)) 0) (leb 3 (outcomeCode (mergedOutcome rs))) ≡ true
+      go (inl (e, h)) = rw e refl
+      go (inr (v, e)) = rw e (verdict v)
+
+  -- results come from rows by the rule
+  unchecked-retry : (c : Standing) (o : Outcome) → Says rs c → retryByRule (uncheckedPrepare c o) ≡ true
+  unfolding retryByRule resultByRule
+  unchecked-retry hasNone o h = refl
+  unchecked-retry (hasFinal q) o (r, m, e) = ap retryByRule (sym e) ∙ row-facts r (good r m .0) .retry
+  unchecked-retry (hasAgreed OK) noOutcome h = refl
+  unchecked-retry (hasAgreed OK) (noted v) h = refl
+  unchecked-retry (hasAgreed OK) (done v) h = refl
+  unchecked-retry (hasAgreed ABORT) o h = refl
+  unchecked-retry (hasAgreed ABSTAIN) o h = refl
+  unchecked-retry (hasAgreed (RETRY t)) o (r, m, e) = ap retryByRule (sym e) ∙ row-facts r (good r m .0) .retry
+  unchecked-retry hasOpen noOutcome h = refl
+  unchecked-retry hasOpen (noted commit) h = refl
+  unchecked-retry hasOpen (noted abort) h = refl
+  unchecked-retry hasOpen (done commit) h = refl
+  unchecked-retry hasOpen (done abort) h = refl
+
+  -- it holds something, or it is agreed OK or open, and without outcome
+  abbrev ToCome : Standing → Outcome → Type 0
+  ToCome c o = (somethingHeld (uncheckedPrepare c o) o ≡ true) ⊎ ((both (isAgreedOK c) (hasNoOutcome o) ≡ true) ⊎ (both (isOpen c) (hasNoOutcome o) ≡ true))
+
+  outcome-held : (p : Prepare) (v : Verdict) → somethingHeld p (done v) ≡ true
+  unfolding somethingHeld
+  outcome-held p v = lt-ltb 0 (prepareCode p + outcomeCode (done v)) (omega arith)
+
+  nothing-held : (r : Row) → r ∈ rs → r .prepare ≡ noPrepare → r .outcome ≡ noOutcome → {A : Type 0} → A
+  unfolding somethingHeld
+  nothing-held r m p o = impossible (row-facts r (good r m .0) .held) (rw (p, o) refl)
+
+  to-come : (c : Standing) (o : Outcome) → Says rs c → (q : Row) → q ∈ rs → (o ≡ noOutcome → q .outcome ≡ noOutcome) → ((v : Verdict) → o ≡ noted v → ⊥) → ToCome c o
+  unfolding both
+  to-come c (done v) h q m n d = inl (outcome-held (uncheckedPrepare c (done v)) v)
+  to-come c (noted v) h q m n d = absurd (d v refl)
+  to-come hasNone noOutcome h q m n d = nothing-held q m (h q m) (n refl)
+  to-come (hasFinal r) noOutcome h q m n d = inl (final-held r noOutcome)
+  to-come (hasAgreed OK) noOutcome h q m n d = inr (inl refl)
+  to-come (hasAgreed ABORT) noOutcome h q m n d = inl (final-held ABORT noOutcome)
+  to-come (hasAgreed ABSTAIN) noOutcome h q m n d = inl (final-held ABSTAIN noOutcome)
+  to-come (hasAgreed (RETRY t)) noOutcome h q m n d = inl (final-held (RETRY t) noOutcome)
+  to-come hasOpen noOutcome h q m n d = inr (inr refl)
+
+module _ (M : Model) (agreement : ℕ) (Ts : List Table) (rules : every (tableByRule M) Ts ≡ true) where
+  -- the rows of a stamp are by the rule
+  rows-rule : (s : ℕ) (r : Row) → r ∈ rowsOf Ts s → (rowByRule r ≡ true) × (r .stamp ≡ s)
+  rows-rule s r m =
+      let (T, i, k, e) = rows-from Ts s r m in
+      (every-one rowByRule (T .rows) (table-facts M T (every-one (tableByRule M) Ts rules T i) .rows) r k, e)
+
+  -- and there is one for each stamp
+  pub some-row : (s : ℕ) → s ∈ stamps Ts → (r : Row) × (r ∈ rowsOf Ts s)
+  unfolding rowsOf
+  some-row s m =
+      let (T, i, (r, k, e)) = stamps-from Ts s m in
+      let f = table-facts M T (every-one (tableByRule M) Ts rules T i) in
+      (r, in-all (λ U. held (U .rows) s) Ts T r i (rw e at (held-is 0 (T .rows) (f .rise) r k)))
+
+  body-rule : (s : ℕ) (rs : List Row) → ((r : Row) → r ∈ rs → (rowByRule r ≡ true) × (r .stamp ≡ s)) → (r : Row) → r ∈ rs → (isStamp s ≡ true) × (countsByRule (length (bodyOf rs .reads)) (length (bodyOf rs .writes)) ≡ true) × (contentsByRule s (bodyOf rs) ≡ true)
+  body-rule s [] good r m = absurd (List·Memᴰ·not-nil m)
+  body-rule s (q ∷ qs) good r m =
+      let (k, e) = good q (List·Memᴰ·head refl) in
+      let f = row-facts q k in
+      (rw e at (f .stamp), f .counts, rw e at (f .contents))
+
+  -- first the agreed, then the open stamps
+  abbrev turns : List ℕ
+  turns = toCheck isAgreedOK agreement Ts ++ (toCheck isOpen agreement Ts ++ [])
+
+  turn-of : (s : ℕ) → s ∈ stamps Ts → (both (isAgreedOK (standing agreement (rowsOf Ts s))) (hasNoOutcome (mergedOutcome (rowsOf Ts s))) ≡ true) ⊎ (both (isOpen (standing agreement (rowsOf Ts s))) (hasNoOutcome (mergedOutcome (rowsOf Ts s))) ≡ true) → s ∈ turns
+  unfolding toCheck
+  turn-of s m (inl h) = Memᴰ·append-left (toCheck isOpen agreement Ts ++ []) (in-those _ (stamps Ts) s m h)
+  turn-of s m (inr h) = Memᴰ·append-right (toCheck isAgreedOK agreement Ts) (Memᴰ·append-left [] (in-those _ (stamps Ts) s m h))
+
+  unchecked-way : (s : ℕ) → s ∈ stamps Ts → OnTheWay turns (uncheckedRow agreement s (rowsOf Ts s))
+  unfolding uncheckedRow settled
+  unchecked-way s m =
+      let (q, i) = some-row s m in
+      let (a, b, c) = body-rule s (rowsOf Ts s) (rows-rule s) q i in
+      let says = standing-says (rowsOf Ts s) agreement in
+      record {
+        stamp = a;
+        counts = b;
+        retry = unchecked-retry agreement s (rowsOf Ts s) (rows-rule s) (standing agreement (rowsOf Ts s)) (mergedOutcome (rowsOf Ts s)) says;
+        contents = c;
+        shut = both-true (settled-prepare (standing agreement (rowsOf Ts s)) (mergedOutcome (rowsOf Ts s))) (settled-outcome agreement s (rowsOf Ts s) (rows-rule s));
+        waits = go (outcome-cases (rowsOf Ts s)) q i says;
+      }
+    where
+      C : Standing
+      C = standing agreement (rowsOf Ts s)
+
+      place : ToCome agreement s (rowsOf Ts s) (rows-rule s) C (mergedOutcome (rowsOf Ts s)) → (somethingHeld (uncheckedPrepare C (mergedOutcome (rowsOf Ts s))) (mergedOutcome (rowsOf Ts s)) ≡ true) ⊎ (s ∈ turns)
+      place (inl h) = inl h
+      place (inr h) = inr (turn-of s m h)
+
+      go : ((mergedOutcome (rowsOf Ts s) ≡ noOutcome) × ((r : Row) → r ∈ rowsOf Ts s → r .outcome ≡ noOutcome)) ⊎ ((v : Verdict) × (mergedOutcome (rowsOf Ts s) ≡ done v)) → (q : Row) → q ∈ rowsOf Ts s → Says (rowsOf Ts s) C → (somethingHeld (uncheckedPrepare C (mergedOutcome (rowsOf Ts s))) (mergedOutcome (rowsOf Ts s)) ≡ true) ⊎ (s ∈ turns)
+      go (inl (e, h)) q i says = place (to-come agreement s (rowsOf Ts s) (rows-rule s) C (mergedOutcome (rowsOf Ts s)) says q i (λ k. h q i) (λ v k. let z : _≡_ {A = ℕ} 0 1 = cc in omega arith))
+      go (inr (v, e)) q i says = place (to-come agreement s (rowsOf Ts s) (rows-rule s) C (mergedOutcome (rowsOf Ts s)) says q i (λ k. let z : _≡_ {A = ℕ} 0 1 = cc in absurd (omega arith)) (λ u k. let z : _≡_ {A = ℕ} 0 1 = cc in omega arith))
+
+  all-on-the-way : AllOnTheWay turns (uncheckedRows agreement Ts)
+  unfolding uncheckedRows
+  all-on-the-way r m = let (s, i, e) = Memᴰ·of-map (λ s. uncheckedRow agreement s (rowsOf Ts s)) (stamps Ts) m in rw (sym e) (unchecked-way s i)
+
+  -- in the end nothing waits
+  merged-way : (check : Check) → CheckByRule check → AllOnTheWay [] (mergedRows check agreement Ts)
+  unfolding mergedRows
+  merged-way check checks =
+      in-turn check checks (toCheck isOpen agreement Ts) [] _ (in-turn check checks (toCheck isAgreedOK agreement Ts) (toCheck isOpen agreement Ts ++ []) (uncheckedRows agreement Ts) all-on-the-way)
+
+  merged-rows-rule : (check : Check) → CheckByRule check → every rowByRule (mergedRows check agreement Ts) ≡ true
+  merged-rows-rule check checks = all-every rowByRule _ (λ r m. let w = merged-way check checks r m in held-rule w (go r (w .waits)))
+    where
+      go : (r : Row) → (somethingHeld (r .prepare) (r .outcome) ≡ true) ⊎ (r .stamp ∈ []) → somethingHeld (r .prepare) (r .outcome) ≡ true
+      go r (inl h) = h
+      go r (inr m) = absurd (List·Memᴰ·not-nil m)
+
+  merged-settled : (check : Check) → CheckByRule check → every settled (mergedRows check agreement Ts) ≡ true
+  merged-settled check checks = all-every settled _ (λ r m. merged-way check checks r m .shut)
+
+  -- stamps are above 0, and rise
+  merged-rising : (check : Check) → rising 0 (mergedRows check agreement Ts) ≡ true
+  merged-rising check = rising-stamps 0 (mergedRows check agreement Ts) (rw (merged-stamps check agreement Ts) (from-one (stamps Ts) (stamps-rising Ts) (λ s m. above s (some-row s m))))
+    where
+      above : (s : ℕ) → (r : Row) × (r ∈ rowsOf Ts s) → 0 < s
+      above s (r, i) = let (k, e) = rows-rule s r i in rw e at (stamp-positive (r .stamp) (row-facts r k .stamp))
+
+      from-one : (ss : List ℕ) → RisingFrom 0 ss → ((s : ℕ) → s ∈ ss → 0 < s) → RisingFrom 1 ss
+      from-one [] h p = tt
+      from-one (s ∷ ss) (l, h) p = (p s (List·Memᴰ·head refl), h)
+
+-- ---- the merged table
+
+module _ (M : Model) (check : Check) (v : ℕ) (Ts : List Table) where
+  -- what a merge that is not refused is
+  pub merge-is : (U : Table) → merge M check v Ts ≡ some U → (mergeNumber M v Ts ≡ 0) × (U ≡ mergedTable check v Ts)
+  unfolding merge
+  merge-is U h = go (cases (eqb (mergeNumber M v Ts) 0))
+    where
+      go : (eqb (mergeNumber M v Ts) 0 ≡ true) ⊎ (eqb (mergeNumber M v Ts) 0 ≡ false) → (mergeNumber M v Ts ≡ 0) × (U ≡ mergedTable check v Ts)
+      go (inl e) = let k : some (mergedTable check v Ts) ≡ some U = rw e at h in (eqb-true (mergeNumber M v Ts) 0 e, cc)
+      go (inr e) = let k : none ≡ some U = rw e at h in let z : _≡_ {A = ℕ} 0 1 = cc in absurd (omega arith)
+
+  module _ (done : mergeNumber M v Ts ≡ 0) where
+    pub not-wrong : areWrong v Ts ≡ false
+    unfolding mergeNumber mergeCircumstances
+    not-wrong = number-done (mergeCircumstances M v Ts) done wrongTables _ in-wrongTables (List·Memᴰ·head refl)
+
+    pub not-full : length (stamps (used Ts)) ≤ M .rowLimit
+    unfolding mergeNumber mergeCircumstances
+    not-full = ltb-false _ _ (number-done (mergeCircumstances M v Ts) done full _ in-full (List·Memᴰ·tail (List·Memᴰ·tail (List·Memᴰ·tail (List·Memᴰ·head refl)))))
+
+    -- there is a first table: of its group, and it promised v
+    pub first-table : (T : Table) × (T ∈ Ts) × (groupOf Ts ≡ T .n) × (T .promised ≡ v)
+    unfolding areWrong
+    first-table = go Ts not-wrong
+      where
+        go : (Us : List Table) → areWrong v Us ≡ false → (T : Table) × (T ∈ Us) × (groupOf Us ≡ T .n) × (T .promised ≡ v)
+        go [] h = impossible refl (either-left _ _ h)
+        go (T ∷ Us) h =
+            let p = either-right _ _ (either-right _ _ (either-right _ _ (either-right _ _ h))) in
+            (T, List·Memᴰ·head refl, refl, eqb-true (T .promised) v (not-false _ (any-none _ (T ∷ Us) p T (List·Memᴰ·head refl))))
+
+  module _ (checks : CheckByRule check) (rules : every (tableByRule M) Ts ≡ true) (done : mergeNumber M v Ts ≡ 0) where
+    used-rules : every (tableByRule M) (used Ts) ≡ true
+    used-rules = all-every (tableByRule M) (used Ts) (λ T m. every-one (tableByRule M) Ts rules T (used-newest Ts T m .0))
+
+    abbrev agreement : ℕ
+    agreement = agreementCount (fOf (groupOf Ts))
+
+    -- how many rows
+    merged-length : length (mergedRows check agreement (used Ts)) ≡ length (stamps (used Ts))
+    merged-length = sym (length-map (mergedRows check agreement (used Ts)) (λ (r : Row). r .stamp)) ∙ ap length (merged-stamps check agreement (used Ts))
+
+    normal-by-rule : modeByRule normalMode v v ≡ true
+    unfolding modeByRule
+    normal-by-rule = either-first _ _ (both-true refl (eqb-self v))
+
+    pub merged-facts : ByRule M (mergedTable check v Ts)
+    unfolding mergedTable
+    merged-facts =
+        let (T, m, g, p) = first-table done in
+        let f = table-facts M T (every-one (tableByRule M) Ts rules T m) in
+        let b = f .box in
+        record {
+          group = rw g (f .group);
+          box = mod-lt v (rw g (omega arith));
+          view = rw p at (f .promised);
+          promised = rw p at (f .promised);
+          mode = normal-by-rule;
+          start = omega arith;
+          limit = omega (arith, merged-length, not-full done);
+          rise = merged-rising M agreement (used Ts) used-rules check;
+          rows = merged-rows-rule M agreement (used Ts) used-rules check checks;
+        }
+
+    pub merged-starts : startsView (groupOf Ts) v (mergedTable check v Ts) ≡ true
+    unfolding mergedTable startsView
+    merged-starts =
+        both-true refl
+        (both-true (eqb-self v)
+        (both-true (eqb-self (v % groupOf Ts))
+        (both-true (eqb-self (groupOf Ts)) (both-true (eqb-self (length (mergedRows check agreement (used Ts)))) (merged-settled M agreement (used Ts) used-rules check checks)))))
+
+-- a merge of tables by the rules is a table by the rules, of their group, and one that starts view v: normal, box v mod n, start rows equal to rows, all settled
+pub merge-by-rule : (M : Model) (check : Check) → CheckByRule check → (v : ℕ) (Ts : List Table) → every (tableByRule M) Ts ≡ true → (U : Table) → merge M check v Ts ≡ some U → (tableByRule M U ≡ true) × (U .n ≡ groupOf Ts) × (startsView (groupOf Ts) v U ≡ true)
+unfolding mergedTable
+merge-by-rule M check checks v Ts rules U h =
+    let (d, e) = merge-is M check v Ts U h in
+    rw e (table-by (merged-facts M check v Ts checks rules d), refl, merged-starts M check v Ts checks rules d)
