@@ -1,28 +1,40 @@
 -- Neither a count nor a merge depends on the order of its list.
-use mathlib.Core.Path.{_≡_, sym, ap, ap₂, fun-ext, _∙_}
-use mathlib.Core.Bool.{true, false, not}
+use mathlib.Core.Path.{_≡_, refl, sym, ap, ap₂, fun-ext, _∙_}
+use mathlib.Core.Bool.{Bool, true, false, not}
 use mathlib.Core.Logic.{_⊎_, inl, inr}
 use mathlib.Core.List.{List, List·Memᴰ·head, List·Memᴰ·tail}
-use mathlib.Core.Option.{Option}
+use mathlib.Core.Option.{Option, none, some}
 use Prim.Native.Nat.{ℕ}
+use native.Mathlib.Omega.{arith}
 use lib.Dec.{eqb, leb}
-use borrow.Author.Tests.{eqb-true}
-use Rattle.rules.specs.Tests.{both, either, provided, firstOf}
-use Rattle.rules.specs.Groups.{fOf, fastCount}
-use Rattle.rules.specs.Tables.{Result, Result.OK, Result.ABORT, resultCode, resultRetry, sameResult}
-use Rattle.rules.specs.Numbers.{badMessage, contradiction}
+use borrow.Author.Tests.{eqb-true, not-false}
+use Rattle.rules.specs.Tests.{both, either, any, somePair, provided, firstOf}
+use Rattle.rules.specs.Groups.{fOf, fastCount, agreementCount}
+use Rattle.rules.specs.Tables.{Result, Result.OK, Result.ABORT, resultCode, resultRetry, sameResult, Prepare, Prepare.noPrepare, Prepare.tentative, Prepare.final, Row, Model, Table}
+use Rattle.rules.specs.Numbers.{badMessage, wrongTables, otherBody, contradiction}
+use Rattle.rules.specs.Messages.{Check}
+use Rattle.rules.specs.Merge.{used, stamps, rowsOf, mergedOutcome, finalResult, finalOf, holdsTentative, isAgreed, tentativeResult, ifAgreed, agreedOf, holdsPrepare, standing, bodyOf, uncheckedRow, uncheckedRows, toCheck, mergedRows, groupOf, mergedTable, areWrong, twoBodies, contradictory, mergeCircumstances, mergeNumber, merge}
 use Rattle.rules.specs.Count.{Heard, unequalViews, badReplies, agreeing, isFast, unequalFinalHeard, fastBesideFinal, countCircumstances, countNumber, fastOf, finalHeard, greatestRetry, slowResult, decided, counted}
-use Rattle.rules.proofs.Logic.{cases, either-left}
-use Rattle.rules.proofs.Lists.{pair-none, provided-some}
-use Rattle.rules.proofs.Same.{not-other-result}
-use Rattle.rules.proofs.Reordered.{Reordered, any-kept, count-kept, twice-kept, somePair-kept, greatest-kept, length-kept, GiveOne, firstOf-kept}
+use Rattle.rules.proofs.Logic.{cases, either-left, either-right, either-first, either-second}
+use Rattle.rules.proofs.Lists.{_∈_, any-none, pair-none, provided-some}
+use Rattle.rules.proofs.Same.{not-other-result, not-other-body}
+use Rattle.rules.proofs.Reordered.{Reordered, reordered-in, reordered-back, head-kept, any-kept, count-kept, twice-kept, somePair-kept, greatest-kept, length-kept, those-reordered, allOf-reordered, GiveOne, firstOf-kept}
 use Rattle.rules.proofs.Numbers.{number-done}
-use Rattle.rules.proofs.Votes.{fast-one}
+use Rattle.rules.proofs.Votes.{fast-one, merge-agreed-once}
+use Rattle.rules.proofs.Stamps.{stamps-rising, stamps-from, in-stamps, rising-same, rows-nowhere}
 
 -- where an element stands in a list that is written out
 ruleset places = (List·Memᴰ·head, List·Memᴰ·tail)
 
 -- ---- the count
+
+pub count-good : (n : ℕ) (hs : List Heard) → countNumber n hs ≡ 0 → badReplies n hs ≡ false
+unfolding countNumber countCircumstances
+count-good n hs done = number-done (countCircumstances n hs) done badMessage (badReplies n hs) (search places depth 11) (search places)
+
+pub count-clear : (n : ℕ) (hs : List Heard) → countNumber n hs ≡ 0 → either (unequalFinalHeard hs) (fastBesideFinal n hs) ≡ false
+unfolding countNumber countCircumstances
+count-clear n hs done = number-done (countCircumstances n hs) done contradiction _ (search places depth 11) (search places)
 
 module _ (n : ℕ) {hs gs : List Heard} (p : Reordered hs gs) where
   agreeing-kept : (r : Result) → agreeing hs r ≡ agreeing gs r
@@ -76,11 +88,8 @@ module _ (n : ℕ) {hs gs : List Heard} (p : Reordered hs gs) where
   slow-kept = rw (any-kept (λ h. sameResult ABORT (h .result)) p, agreeing-kept OK, any-kept (λ h. eqb (resultCode (h .result)) 4) p, greatest-kept (λ h. resultRetry (h .result)) p)
 
   decided-kept : countNumber n hs ≡ 0 → decided n hs ≡ decided n gs
-  unfolding decided countNumber countCircumstances
-  decided-kept done =
-      let good = number-done (countCircumstances n hs) done badMessage (badReplies n hs) (search places depth 11) (search places) in
-      let clear = number-done (countCircumstances n hs) done contradiction (either (unequalFinalHeard hs) (fastBesideFinal n hs)) (search places depth 11) (search places) in
-      rw (fast-of-kept good, length-kept p, final-heard-kept (either-left _ _ clear), slow-kept)
+  unfolding decided
+  decided-kept done = rw (fast-of-kept (count-good n hs done), length-kept p, final-heard-kept (either-left _ _ (count-clear n hs done)), slow-kept)
 
 pub count-any-order : (n : ℕ) {hs gs : List Heard} → Reordered hs gs → counted n hs ≡ counted n gs
 unfolding counted
@@ -89,3 +98,167 @@ count-any-order n {hs} {gs} p = go (cases (eqb (countNumber n hs) 0))
     go : (eqb (countNumber n hs) 0 ≡ true) ⊎ (eqb (countNumber n hs) 0 ≡ false) → counted n hs ≡ counted n gs
     go (inl e) = rw (← (count-number-kept n p), e) (decided-kept n p (eqb-true _ 0 e))
     go (inr e) = rw (← (count-number-kept n p), e)
+
+-- ---- the merge: what a merge that is not refused has
+
+module _ (M : Model) (v : ℕ) (Ts : List Table) (done : mergeNumber M v Ts ≡ 0) where
+  pub merge-right : areWrong v Ts ≡ false
+  unfolding mergeNumber mergeCircumstances
+  merge-right = number-done (mergeCircumstances M v Ts) done wrongTables (areWrong v Ts) (search places depth 11) (search places)
+
+  pub merge-one-body : (s : ℕ) → twoBodies (rowsOf (used Ts) s) ≡ false
+  unfolding mergeNumber mergeCircumstances twoBodies somePair any
+  merge-one-body = rows-nowhere twoBodies refl (used Ts) (number-done (mergeCircumstances M v Ts) done otherBody _ (search places depth 11) (search places))
+
+  pub merge-clear : (s : ℕ) → contradictory (rowsOf (used Ts) s) ≡ false
+  unfolding mergeNumber mergeCircumstances contradictory somePair any either
+  merge-clear = rows-nowhere contradictory refl (used Ts) (number-done (mergeCircumstances M v Ts) done contradiction _ (search places depth 11) (search places))
+
+-- ---- the merge: the rows of one stamp
+
+none-some : {A B : Type 0} {a : A} → none ≡ some a → B
+none-some e = let z : _≡_ {A = ℕ} 0 1 = cc in absurd (omega arith)
+
+is-final : (p : Prepare) (r : Result) → finalResult p ≡ some r → p ≡ final r
+is-final noPrepare r e = none-some e
+is-final (tentative q) r e = none-some e
+is-final (final q) r e = cc
+
+abbrev AgreedOnce : ℕ → List Row → Type 0
+AgreedOnce agreement rs = (r q : Result) → isAgreed agreement rs r ≡ true → isAgreed agreement rs q ≡ true → r ≡ q
+
+module _ {rs qs : List Row} (p : Reordered rs qs) where
+  outcome-kept : mergedOutcome rs ≡ mergedOutcome qs
+  unfolding mergedOutcome
+  outcome-kept = rw (any-kept _ p, any-kept _ p)
+
+  bodies-kept : twoBodies rs ≡ twoBodies qs
+  unfolding twoBodies
+  bodies-kept = somePair-kept _ p
+
+  contradictory-kept : contradictory rs ≡ contradictory qs
+  unfolding contradictory
+  contradictory-kept = ap₂ either (somePair-kept _ p) (somePair-kept _ p)
+
+  final-kept : contradictory rs ≡ false → finalOf rs ≡ finalOf qs
+  unfolding finalOf contradictory
+  final-kept clear = firstOf-kept (λ r. finalResult (r .prepare)) one p
+    where
+      one : GiveOne (λ r. finalResult (r .prepare)) rs
+      one r q a b mr mq er eq =
+          let u = pair-none _ rs (either-left _ _ clear) r q mr mq in
+          not-other-result a b (rw (is-final (r .prepare) a er, is-final (q .prepare) b eq) at u)
+
+  agreed-kept : (agreement : ℕ) → AgreedOnce agreement rs → agreedOf agreement rs ≡ agreedOf agreement qs
+  unfolding agreedOf isAgreed
+  agreed-kept agreement once = firstOf-kept give one p ∙ ap (λ g. firstOf g qs) (fun-ext (λ r. alike (tentativeResult (r .prepare))))
+    where
+      give : Row → Option Result
+      give r = ifAgreed agreement rs (tentativeResult (r .prepare))
+
+      agreed : (t : Option Result) (a : Result) → ifAgreed agreement rs t ≡ some a → isAgreed agreement rs a ≡ true
+      agreed none a e = none-some e
+      agreed (some r) a e = let (h, i) = provided-some (isAgreed agreement rs r) r a e in rw i at h
+
+      one : GiveOne give rs
+      one r q a b mr mq er eq = once a b (agreed (tentativeResult (r .prepare)) a er) (agreed (tentativeResult (q .prepare)) b eq)
+
+      alike : (t : Option Result) → ifAgreed agreement rs t ≡ ifAgreed agreement qs t
+      alike none = refl
+      alike (some r) = rw (count-kept (λ q. holdsTentative r (q .prepare)) p)
+
+  body-kept : twoBodies rs ≡ false → bodyOf rs ≡ bodyOf qs
+  unfolding twoBodies
+  body-kept h = head-kept bodyOf (λ r. r .body) (λ r more. refl) rs qs p (λ r q mr mq. not-other-body (r .body) (q .body) (pair-none _ rs h r q mr mq))
+
+  standing-kept : (agreement : ℕ) → AgreedOnce agreement rs → contradictory rs ≡ false → standing agreement rs ≡ standing agreement qs
+  unfolding standing
+  standing-kept agreement once clear = rw (final-kept clear, agreed-kept agreement once, any-kept (λ r. holdsPrepare (r .prepare)) p)
+
+-- ---- the merge: the tables
+
+-- tables of different groups: which one is meant changes with the first of them, and in any order they are wrong
+abbrev mixed : List Table → Bool
+mixed Ts = any (λ T. not (eqb (T .n) (groupOf Ts))) Ts
+
+mixed-wrong : (v : ℕ) (Ts : List Table) → mixed Ts ≡ true → areWrong v Ts ≡ true
+unfolding areWrong
+mixed-wrong v Ts h = either-second _ _ (either-first _ _ h)
+
+right-group : (v : ℕ) (Ts : List Table) → areWrong v Ts ≡ false → mixed Ts ≡ false
+unfolding areWrong
+right-group v Ts h = either-left _ _ (either-right _ _ h)
+
+module _ {Ts Us : List Table} (p : Reordered Ts Us) where
+  used-reordered : Reordered (used Ts) (used Us)
+  unfolding used
+  used-reordered = rw (greatest-kept (λ U. U .view) p) (those-reordered _ p)
+
+  rows-reordered : (s : ℕ) → Reordered (rowsOf Ts s) (rowsOf Us s)
+  unfolding rowsOf
+  rows-reordered s = allOf-reordered _ p
+
+  stamps-in : (s : ℕ) → s ∈ stamps Ts → s ∈ stamps Us
+  stamps-in s m =
+      let (T, n, (r, k, e)) = stamps-from Ts s m in
+      rw e at (in-stamps Us T r (reordered-in p n) k)
+
+  group-kept : mixed Ts ≡ false → groupOf Ts ≡ groupOf Us
+  group-kept h = head-kept groupOf (λ T. T .n) (λ T more. refl) Ts Us p (λ T U mT mU. is T mT ∙ sym (is U mU))
+    where
+      is : (T : Table) → T ∈ Ts → T .n ≡ groupOf Ts
+      is T m = eqb-true _ _ (not-false _ (any-none _ Ts h T m))
+
+  wrong-same : (v : ℕ) → mixed Ts ≡ false → areWrong v Ts ≡ areWrong v Us
+  unfolding areWrong
+  wrong-same v h =
+      rw (group-kept h, length-kept p) (ap (either _) (ap₂ either (any-kept _ p) (ap₂ either (twice-kept _ p) (ap₂ either (any-kept _ p) (any-kept _ p)))))
+
+pub stamps-kept : {Ts Us : List Table} → Reordered Ts Us → stamps Ts ≡ stamps Us
+stamps-kept {Ts} {Us} p = rising-same 0 (stamps Ts) (stamps-rising Ts) 0 (stamps Us) (stamps-rising Us) (stamps-in p) (stamps-in (reordered-back p))
+
+wrong-kept : (v : ℕ) {Ts Us : List Table} → Reordered Ts Us → areWrong v Ts ≡ areWrong v Us
+wrong-kept v {Ts} {Us} p = go (cases (mixed Ts)) (cases (mixed Us))
+  where
+    go : (mixed Ts ≡ true) ⊎ (mixed Ts ≡ false) → (mixed Us ≡ true) ⊎ (mixed Us ≡ false) → areWrong v Ts ≡ areWrong v Us
+    go (inr h) k = wrong-same p v h
+    go (inl h) (inr k) = sym (wrong-same (reordered-back p) v k)
+    go (inl h) (inl k) = mixed-wrong v Ts h ∙ sym (mixed-wrong v Us k)
+
+pub merge-number-any-order : (M : Model) (v : ℕ) {Ts Us : List Table} → Reordered Ts Us → mergeNumber M v Ts ≡ mergeNumber M v Us
+unfolding mergeNumber mergeCircumstances
+merge-number-any-order M v {Ts} {Us} p = simp (wrong-kept v p, stamps-kept (used-reordered p), bodies, contradictions)
+  where
+    bodies : (s : ℕ) → twoBodies (rowsOf (used Ts) s) ≡ twoBodies (rowsOf (used Us) s)
+    bodies s = bodies-kept (rows-reordered (used-reordered p) s)
+
+    contradictions : (s : ℕ) → contradictory (rowsOf (used Ts) s) ≡ contradictory (rowsOf (used Us) s)
+    contradictions s = contradictory-kept (rows-reordered (used-reordered p) s)
+
+-- with one result agreed at most, no contradiction and one body in each stamp, the rows of the merged table
+merged-rows-kept : (check : Check) (agreement : ℕ) {Ts Us : List Table} → Reordered Ts Us → ((s : ℕ) → AgreedOnce agreement (rowsOf Ts s)) → ((s : ℕ) → twoBodies (rowsOf Ts s) ≡ false) → ((s : ℕ) → contradictory (rowsOf Ts s) ≡ false) → mergedRows check agreement Ts ≡ mergedRows check agreement Us
+unfolding mergedRows toCheck uncheckedRows uncheckedRow
+merged-rows-kept check agreement {Ts} {Us} p once bodies clear = simp (stamps-kept p, standings, outcomes, body)
+  where
+    standings : (s : ℕ) → standing agreement (rowsOf Ts s) ≡ standing agreement (rowsOf Us s)
+    standings s = standing-kept (rows-reordered p s) agreement (once s) (clear s)
+
+    outcomes : (s : ℕ) → mergedOutcome (rowsOf Ts s) ≡ mergedOutcome (rowsOf Us s)
+    outcomes s = outcome-kept (rows-reordered p s)
+
+    body : (s : ℕ) → bodyOf (rowsOf Ts s) ≡ bodyOf (rowsOf Us s)
+    body s = body-kept (rows-reordered p s) (bodies s)
+
+merged-kept : (M : Model) (check : Check) (v : ℕ) {Ts Us : List Table} → Reordered Ts Us → mergeNumber M v Ts ≡ 0 → mergedTable check v Ts ≡ mergedTable check v Us
+unfolding mergedTable
+merged-kept M check v {Ts} {Us} p done =
+    let right = merge-right M v Ts done in
+    rw (merged-rows-kept check (agreementCount (fOf (groupOf Ts))) (used-reordered p) (merge-agreed-once v Ts right) (merge-one-body M v Ts done) (merge-clear M v Ts done), group-kept p (right-group v Ts right))
+
+pub merge-any-order : (M : Model) (check : Check) (v : ℕ) {Ts Us : List Table} → Reordered Ts Us → merge M check v Ts ≡ merge M check v Us
+unfolding merge
+merge-any-order M check v {Ts} {Us} p = go (cases (eqb (mergeNumber M v Ts) 0))
+  where
+    go : (eqb (mergeNumber M v Ts) 0 ≡ true) ⊎ (eqb (mergeNumber M v Ts) 0 ≡ false) → merge M check v Ts ≡ merge M check v Us
+    go (inl e) = rw (← (merge-number-any-order M v p), e) (ap some (merged-kept M check v p (eqb-true _ 0 e)))
+    go (inr e) = rw (← (merge-number-any-order M v p), e)

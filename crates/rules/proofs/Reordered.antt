@@ -2,7 +2,7 @@
 use mathlib.Core.Path.{_≡_, refl, sym, ap, ap₂, fun-ext, _∙_}
 use mathlib.Core.Bool.{Bool, true, false}
 use mathlib.Core.Logic.{_⊎_, inl, inr}
-use mathlib.Core.List.{List, _∷_, List·Memᴰ·head, List·Memᴰ·tail, List·Memᴰ·cases-cons}
+use mathlib.Core.List.{List, [], _∷_, List·Memᴰ·head, List·Memᴰ·tail, List·Memᴰ·cases-cons, List·Memᴰ·not-nil}
 use mathlib.Core.Option.{Option, none, some}
 use Prim.Native.Nat.{ℕ, _+_, max}
 use native.Mathlib.Omega.{arith}
@@ -74,6 +74,13 @@ module _ {A : Type 0} where
       any-order f
       (λ x y xs. rw (step x (y ∷ xs), step y xs, step y (x ∷ xs), step x xs) (swap (part x) (part y) (f xs)))
       (λ x xs ys q e. rw (step x xs, step x ys, e)) p
+
+  -- and what looks at the first alone, if all look the same
+  pub head-kept : {C : Type 0} (f : List A → C) (look : A → C) → ((x : A) (xs : List A) → f (x ∷ xs) ≡ look x) → (xs ys : List A) → Reordered xs ys → ((x y : A) → x ∈ xs → y ∈ xs → look x ≡ look y) → f xs ≡ f ys
+  head-kept f look first [] [] p one = refl
+  head-kept f look first [] (y ∷ ys) p one = absurd (List·Memᴰ·not-nil (reordered-in (reordered-back p) (List·Memᴰ·head refl)))
+  head-kept f look first (x ∷ xs) [] p one = absurd (List·Memᴰ·not-nil (reordered-in p (List·Memᴰ·head refl)))
+  head-kept f look first (x ∷ xs) (y ∷ ys) p one = first x xs ∙ one x y (List·Memᴰ·head refl) (reordered-in (reordered-back p) (List·Memᴰ·head refl)) ∙ sym (first y ys)
 
   pub length-kept : {xs ys : List A} → Reordered xs ys → length xs ≡ length ys
   length-kept p = sum-kept _+_ (λ a b c. omega arith) (λ x. 1) length (λ x xs. omega arith) p

@@ -35,7 +35,7 @@ module _ {A : Type 0} where
       go false ea true eb l = omega arith
       go false ea false eb l = omega arith
 
-  -- who passes a test passes one of two others: so the counts
+  -- what passes a test passes one of two others: then no more pass it than pass those
   pub counts-cover : (p q r : A → Bool) → ((x : A) → p x ≡ true → either (q x) (r x) ≡ true) → (xs : List A) → count p xs ≤ count q xs + count r xs
   unfolding count either
   counts-cover p q r cover [] = omega arith
@@ -91,7 +91,7 @@ module _ {A : Type 0} where
       go true l = omega arith
       go false l = omega arith
 
-  -- of results that no element passes for two of, one alone is passed for by more than half of the elements
+  -- where no element counts for two results, only one can be counted for by more than half of the elements
   pub half-once : (holds : Result → A → Bool) → ((r q : Result) (x : A) → holds r x ≡ true → holds q x ≡ true → r ≡ q) → (k : ℕ) (xs : List A) (r q : Result) → length xs < k + k → leb k (count (holds r) xs) ≡ true → leb k (count (holds q) xs) ≡ true → r ≡ q
   half-once holds one k xs r q few hr hq = go (cases (sameResult r q))
     where
