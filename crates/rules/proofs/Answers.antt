@@ -2,7 +2,7 @@
 use mathlib.Core.Path.{_≡_, refl, sym, ap, _∙_}
 use mathlib.Core.Bool.{Bool, true, false, cond}
 use mathlib.Core.Logic.{_⊎_, inl, inr}
-use mathlib.Core.List.{List, List·Memᴰ·head, List·Memᴰ·tail}
+use mathlib.Core.List.{List}
 use mathlib.Core.Option.{Option, none, some}
 use Prim.Native.Nat.{ℕ, _+_, _≤_, _<_}
 use native.Mathlib.Omega.{arith}
@@ -18,10 +18,10 @@ use Rattle.rules.specs.Messages.{Message, Message.proposePrepare, Messag
 use Rattle.rules.specs.Circumstances.{Room, badGroup, belowLimit, messageByRule, startsView, newButFull, changesToOldView, furtherCircumstances, circumstances}
 use Rattle.rules.specs.Answers.{answerNumber, taken, refused, answer}
 use Rattle.rules.proofs.Logic.{impossible, cases, both-left, both-right, both-true, either-cases, either-second}
-use Rattle.rules.proofs.Lists.{_∈_, every-one, all-every}
+use Rattle.rules.proofs.Lists.{_∈_, places, every-one, all-every}
 use Rattle.rules.proofs.Check.{CheckByRule}
 use Rattle.rules.proofs.Rows.{rising-added, rising-changed, length-added, length-changed, added-from, changed-from}
-use Rattle.rules.proofs.Numbers.{in-badMessage, in-oldView, in-full, number-done}
+use Rattle.rules.proofs.Numbers.{number-done}
 use Rattle.rules.proofs.Tables.{stamp-positive, RowByRule, row-facts, row-by, ByRule, table-facts, table-by}
 
 -- what later layers ask of any rule of room: that it never goes past the row limit
@@ -223,7 +223,7 @@ module _ (M : Model) (room : Room) (check : Check) (fits : RoomFits room) (check
 
   pub taken-by-rule : (m : Message) → answerNumber M room T m ≡ 0 → messageByRule M (T .n) m ≡ true
   unfolding circumstances
-  taken-by-rule m h = not-false _ (met-none m h badMessage _ in-badMessage (List·Memᴰ·head refl))
+  taken-by-rule m h = not-false _ (met-none m h badMessage _ (search places depth 11) (search places))
 
   -- by the rules again, of the same group and the same box
   abbrev pub Kept : Table → Type 0
@@ -231,13 +231,13 @@ module _ (M : Model) (room : Room) (check : Check) (fits : RoomFits room) (check
 
   taken-kept : (m : Message) → answerNumber M room T m ≡ 0 → messageByRule M (T .n) m ≡ true → Kept (tableAfter check T m)
   unfolding circumstances furtherCircumstances messageByRule tableAfter prepareFinalised outcomeFinalised retryByRule
-  taken-kept (proposePrepare s x) h k = (after-1 s x k (met-none (proposePrepare s x) h full _ in-full (List·Memᴰ·tail (List·Memᴰ·tail (List·Memᴰ·tail (List·Memᴰ·head refl))))), refl, refl)
+  taken-kept (proposePrepare s x) h k = (after-1 s x k (met-none (proposePrepare s x) h full _ (search places depth 11) (search places)), refl, refl)
   taken-kept (finalisePrepare s v r) h k =
       let p = both-right _ _ (both-right _ _ k) in
       (changed-rule M T t s _ (λ q. refl) (λ q. with-prepare (final r) q (omega arith) p), refl, refl)
-  taken-kept (proposeOutcome s v x) h k = (after-3 s v x k (met-none (proposeOutcome s v x) h full _ in-full (List·Memᴰ·tail (List·Memᴰ·tail (List·Memᴰ·tail (List·Memᴰ·tail (List·Memᴰ·head refl)))))), refl, refl)
+  taken-kept (proposeOutcome s v x) h k = (after-3 s v x k (met-none (proposeOutcome s v x) h full _ (search places depth 11) (search places)), refl, refl)
   taken-kept (finaliseOutcome s v u) h k = (changed-rule M T t s _ (λ q. refl) (λ q. with-outcome (done u) q (omega arith)), refl, refl)
-  taken-kept (changeView v) h k = (after-5 v k (met-none (changeView v) h oldView _ in-oldView (List·Memᴰ·tail (List·Memᴰ·head refl))), refl, refl)
+  taken-kept (changeView v) h k = (after-5 v k (met-none (changeView v) h oldView _ (search places depth 11) (search places)), refl, refl)
   taken-kept (startView v I) h k =
       let p = both-right _ _ k in
       let (i, e) = after-6 v I (both-left _ _ p) (both-right _ _ p) in

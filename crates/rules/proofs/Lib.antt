@@ -9,6 +9,8 @@ pub mod Rows
 pub mod Tables
 pub mod Answers
 pub mod Stamps
+pub mod Used
+pub mod Standings
 pub mod Votes
-pub mod Orders
 pub mod Merge
+pub mod Orders

@@ -16,6 +16,9 @@ infix 20 _∈_
 abbrev pub _∈_ : {A : Type 0} → A → List A → Type 0
 _∈_ a l = List·Memᴰ a l
 
+-- where an element stands in a list that is written out: `search places`
+pub ruleset places = (List·Memᴰ·head, List·Memᴰ·tail)
+
 pub max-assoc : (a b c : ℕ) → max (max a b) c ≡ max a (max b c)
 max-assoc a b c =
     let l : max (max a b) c ≤ max a (max b c) =

@@ -2,7 +2,9 @@
 use mathlib.Core.Path.{_≡_, refl, sym, _∙_, subst}
 use mathlib.Core.Bool.{Bool, true, false, not}
 use mathlib.Core.Logic.{_⊎_, inl, inr}
+use mathlib.Core.Option.{none, some}
 use Prim.Native.Nat.{ℕ}
+use native.Mathlib.Omega.{arith}
 use lib.Dec.{eqb, T}
 use borrow.Author.Tests.{eqb-true, eq-eqb}
 use Rattle.rules.specs.Tests.{both, either}
@@ -10,6 +12,9 @@ use Rattle.rules.specs.Tests.{both, either}
 -- a test cannot be true and false
 pub impossible : {A : Type 0} {b : Bool} → b ≡ true → b ≡ false → A
 impossible {A} {b} p q = absurd (subst T (sym p ∙ q) tt)
+
+pub none-some : {A B : Type 0} {a : A} → none ≡ some a → B
+none-some e = let z : _≡_ {A = ℕ} 0 1 = cc in absurd (omega arith)
 
 pub cases : (b : Bool) → (b ≡ true) ⊎ (b ≡ false)
 cases true = inl refl

@@ -2,55 +2,29 @@
 use mathlib.Core.Path.{_≡_, refl, sym, ap, _∙_}
 use mathlib.Core.Bool.{Bool, true, false, cond}
 use mathlib.Core.Logic.{_⊎_, inl, inr}
-use mathlib.Core.List.{List, [], _∷_, _++_, map, List·Memᴰ·head, List·Memᴰ·tail, List·Memᴰ·cases-cons, List·Memᴰ·not-nil, Memᴰ·append-left, Memᴰ·append-right, Memᴰ·of-map}
-use mathlib.Core.Option.{Option, none, some}
-use Prim.Native.Nat.{ℕ, suc, _+_, _≤_, _<_, _%_}
+use mathlib.Core.List.{List, [], _∷_, _++_, map, List·Memᴰ·head, List·Memᴰ·cases-cons, List·Memᴰ·not-nil, Memᴰ·append-left, Memᴰ·append-right, Memᴰ·of-map}
+use mathlib.Core.Option.{some}
+use Prim.Native.Nat.{ℕ, suc, _+_, _<_, _%_}
 use native.Mathlib.Omega.{arith}
 use native.Mathlib.Nat.{mod-lt}
 use lib.Dec.{eqb, leb}
 use lib.ListN.{length, length-map}
-use borrow.Author.Tests.{eqb-true, eq-eqb, ltb-false, lt-ltb, not-false}
-use Rattle.rules.specs.Tests.{both, either, any, every, greatest}
+use borrow.Author.Tests.{eq-eqb, lt-ltb}
+use Rattle.rules.specs.Tests.{both, either, every}
 use Rattle.rules.specs.Groups.{fOf, agreementCount}
 use Rattle.rules.specs.Stamps.{isStamp, countsByRule, contentsByRule}
-use Rattle.rules.specs.Tables.{Result, Result.OK, Result.ABORT, Result.ABSTAIN, Result.RETRY, Prepare, Prepare.noPrepare, Prepare.tentative, Prepare.final, Verdict, Verdict.commit, Verdict.abort, Outcome, Outcome.noOutcome, Outcome.noted, Outcome.done, prepareCode, outcomeCode, resultByRule, retryByRule, somethingHeld, Row, rowByRule, rising, Model, Table, normalMode, modeByRule, tableByRule}
-use Rattle.rules.specs.Numbers.{full, wrongTables}
+use Rattle.rules.specs.Tables.{Result, Result.OK, Result.ABORT, Result.ABSTAIN, Result.RETRY, Prepare, Prepare.noPrepare, Prepare.final, Verdict, Verdict.commit, Verdict.abort, Outcome, Outcome.noOutcome, Outcome.noted, Outcome.done, prepareCode, outcomeCode, resultByRule, retryByRule, somethingHeld, Row, rowByRule, rising, Model, Table, normalMode, modeByRule, tableByRule}
 use Rattle.rules.specs.Messages.{Check, held, changed, withPrepare}
 use Rattle.rules.specs.Circumstances.{settled, startsView}
-use Rattle.rules.specs.Merge.{used, stamps, rowsOf, holdsVerdict, mergedOutcome, finalResult, finalOf, tentativeResult, isAgreed, ifAgreed, agreedOf, holdsPrepare, Standing, Standing.hasNone, Standing.hasFinal, Standing.hasAgreed, Standing.hasOpen, standingFrom, standing, uncheckedPrepare, bodyOf, uncheckedRow, uncheckedRows, hasNoOutcome, isAgreedOK, isOpen, toCheck, settledRows, checkedAt, checkedInTurn, mergedRows, groupOf, mergedTable, areWrong, mergeCircumstances, mergeNumber, merge}
-use Rattle.rules.proofs.Logic.{impossible, cases, both-right, both-true, either-left, either-right, either-first, eqb-self}
-use Rattle.rules.proofs.Lists.{_∈_, every-one, all-every, those-of, in-those, any-none, provided-some, first-from, in-all}
+use Rattle.rules.specs.Merge.{used, stamps, rowsOf, mergedOutcome, Standing, Standing.hasNone, Standing.hasFinal, Standing.hasAgreed, Standing.hasOpen, standing, uncheckedPrepare, bodyOf, uncheckedRow, uncheckedRows, hasNoOutcome, isAgreedOK, isOpen, toCheck, settledRows, checkedAt, checkedInTurn, mergedRows, groupOf, mergedTable, mergeNumber, merge}
+use Rattle.rules.proofs.Logic.{impossible, both-right, both-true, either-first, eqb-self}
+use Rattle.rules.proofs.Lists.{_∈_, every-one, all-every, those-of, in-those, in-all}
 use Rattle.rules.proofs.Check.{CheckByRule}
 use Rattle.rules.proofs.Rows.{held-is, changed-from}
 use Rattle.rules.proofs.Tables.{stamp-positive, row-facts, row-by, ByRule, table-facts, table-by}
-use Rattle.rules.proofs.Numbers.{in-wrongTables, in-full, number-done}
+use Rattle.rules.proofs.Used.{used-newest, merge-is, merge-fits, first-table}
+use Rattle.rules.proofs.Standings.{outcome-cases, Says, standing-says}
 use Rattle.rules.proofs.Stamps.{RisingFrom, stamps-rising, stamps-from, rows-from}
-
--- ---- the tables that are used
-
--- only those of the greatest last normal view
-pub used-newest : (Ts : List Table) (T : Table) → T ∈ used Ts → (T ∈ Ts) × (T .view ≡ greatest (λ U. U .view) Ts)
-unfolding used
-used-newest Ts T m = let (i, e) = those-of _ Ts T m in (i, eqb-true (T .view) (greatest (λ U. U .view) Ts) e)
-
--- and all of them
-pub used-all : (Ts : List Table) (T : Table) → T ∈ Ts → T .view ≡ greatest (λ U. U .view) Ts → T ∈ used Ts
-unfolding used
-used-all Ts T m e = in-those _ Ts T m (eq-eqb (T .view) (greatest (λ U. U .view) Ts) e)
-
--- ---- what stands without a check
-
--- a row that is accepted without a check was final, or has an outcome: an agreed OK alone is not enough
-pub unchecked-ok : (c : Standing) (o : Outcome) → uncheckedPrepare c o ≡ final OK → (c ≡ hasFinal OK) ⊎ (hasNoOutcome o ≡ false)
-unchecked-ok c (noted v) e = inr refl
-unchecked-ok c (done v) e = inr refl
-unchecked-ok hasNone noOutcome e = let z : _≡_ {A = ℕ} 0 1 = cc in absurd (omega arith)
-unchecked-ok (hasFinal r) noOutcome e = let q : r ≡ OK = cc in inl (ap hasFinal q)
-unchecked-ok (hasAgreed OK) noOutcome e = let z : _≡_ {A = ℕ} 0 1 = cc in absurd (omega arith)
-unchecked-ok (hasAgreed ABORT) noOutcome e = let z : _≡_ {A = ℕ} 0 1 = cc in absurd (omega arith)
-unchecked-ok (hasAgreed ABSTAIN) noOutcome e = let z : _≡_ {A = ℕ} 0 1 = cc in absurd (omega arith)
-unchecked-ok (hasAgreed (RETRY s)) noOutcome e = let z : _≡_ {A = ℕ} 0 1 = cc in absurd (omega arith)
-unchecked-ok hasOpen noOutcome e = let z : _≡_ {A = ℕ} 0 1 = cc in absurd (omega arith)
 
 -- ---- checks change results alone
 
@@ -90,58 +64,6 @@ rising-stamps : (low : ℕ) (rows : List Row) → RisingFrom (suc low) (stampsOf
 unfolding rising
 rising-stamps low [] h = refl
 rising-stamps low (r ∷ rs) (l, h) = both-true (lt-ltb low (r .stamp) l) (rising-stamps (r .stamp) rs h)
-
--- ---- the outcome and the standing of a stamp's rows
-
-no-verdict : (o : Outcome) → holdsVerdict commit o ≡ false → holdsVerdict abort o ≡ false → o ≡ noOutcome
-no-verdict noOutcome p q = refl
-no-verdict (noted commit) p q = impossible refl p
-no-verdict (noted abort) p q = impossible refl q
-no-verdict (done commit) p q = impossible refl p
-no-verdict (done abort) p q = impossible refl q
-
-module _ (rs : List Row) where
-  -- none, and then no row holds one, or done
-  pub outcome-cases : ((mergedOutcome rs ≡ noOutcome) × ((r : Row) → r ∈ rs → r .outcome ≡ noOutcome)) ⊎ ((v : Verdict) × (mergedOutcome rs ≡ done v))
-  unfolding mergedOutcome
-  outcome-cases = go (cases (any (λ r. holdsVerdict commit (r .outcome)) rs)) (cases (any (λ r. holdsVerdict abort (r .outcome)) rs))
-    where
-      go : (any (λ r. holdsVerdict commit (r .outcome)) rs ≡ true) ⊎ (any (λ r. holdsVerdict commit (r .outcome)) rs ≡ false) → (any (λ r. holdsVerdict abort (r .outcome)) rs ≡ true) ⊎ (any (λ r. holdsVerdict abort (r .outcome)) rs ≡ false) → ((mergedOutcome rs ≡ noOutcome) × ((r : Row) → r ∈ rs → r .outcome ≡ noOutcome)) ⊎ ((v : Verdict) × (mergedOutcome rs ≡ done v))
-      go (inl p) q = inr (commit, rw p refl)
-      go (inr p) (inl q) = inr (abort, rw (p, q) refl)
-      go (inr p) (inr q) = inl (rw (p, q) refl, λ r m. no-verdict (r .outcome) (any-none _ rs p r m) (any-none _ rs q r m))
-
-  final-from : (p : Prepare) (r : Result) → finalResult p ≡ some r → p ≡ final r
-  final-from noPrepare r e = let z : _≡_ {A = ℕ} 0 1 = cc in absurd (omega arith)
-  final-from (tentative q) r e = let z : _≡_ {A = ℕ} 0 1 = cc in absurd (omega arith)
-  final-from (final q) r e = cc
-
-  agreed-from : (agreement : ℕ) (p : Prepare) (r : Result) → ifAgreed agreement rs (tentativeResult p) ≡ some r → p ≡ tentative r
-  agreed-from agreement noPrepare r e = let z : _≡_ {A = ℕ} 0 1 = cc in absurd (omega arith)
-  agreed-from agreement (tentative q) r e = ap tentative (provided-some (isAgreed agreement rs q) q r e .1)
-  agreed-from agreement (final q) r e = let z : _≡_ {A = ℕ} 0 1 = cc in absurd (omega arith)
-
-  no-prepare : (p : Prepare) → holdsPrepare p ≡ false → p ≡ noPrepare
-  no-prepare noPrepare e = refl
-  no-prepare (tentative r) e = impossible refl e
-  no-prepare (final r) e = impossible refl e
-
-  -- what each standing says of the rows
-  abbrev pub Says : Standing → Type 0
-  Says hasNone = (r : Row) → r ∈ rs → r .prepare ≡ noPrepare
-  Says (hasFinal q) = (r : Row) × (r ∈ rs) × (r .prepare ≡ final q)
-  Says (hasAgreed q) = (r : Row) × (r ∈ rs) × (r .prepare ≡ tentative q)
-  Says hasOpen = Unit {0}
-
-  pub standing-says : (agreement : ℕ) → Says (standing agreement rs)
-  unfolding standing finalOf agreedOf
-  standing-says agreement = go (finalOf rs) refl (agreedOf agreement rs) refl (any (λ r. holdsPrepare (r .prepare)) rs) refl
-    where
-      go : (f : Option Result) → finalOf rs ≡ f → (a : Option Result) → agreedOf agreement rs ≡ a → (h : Bool) → any (λ r. holdsPrepare (r .prepare)) rs ≡ h → Says (standingFrom f a h)
-      go (some q) ef a ea h eh = let (r, m, e) = first-from _ rs q ef in (r, m, final-from (r .prepare) q e)
-      go none ef (some q) ea h eh = let (r, m, e) = first-from _ rs q ea in (r, m, agreed-from agreement (r .prepare) q e)
-      go none ef none ea true eh = tt
-      go none ef none ea false eh = λ r m. no-prepare (r .prepare) (any-none _ rs eh r m)
 
 -- ---- rows on their way: by the rule, settled, and held or still to be checked
 
@@ -383,35 +305,6 @@ module _ (M : Model) (agreement : ℕ) (Ts : List Table) (rules : every (tableBy
 -- ---- the merged table
 
 module _ (M : Model) (check : Check) (v : ℕ) (Ts : List Table) where
-  -- what a merge that is not refused is
-  pub merge-is : (U : Table) → merge M check v Ts ≡ some U → (mergeNumber M v Ts ≡ 0) × (U ≡ mergedTable check v Ts)
-  unfolding merge
-  merge-is U h = go (cases (eqb (mergeNumber M v Ts) 0))
-    where
-      go : (eqb (mergeNumber M v Ts) 0 ≡ true) ⊎ (eqb (mergeNumber M v Ts) 0 ≡ false) → (mergeNumber M v Ts ≡ 0) × (U ≡ mergedTable check v Ts)
-      go (inl e) = let k : some (mergedTable check v Ts) ≡ some U = rw e at h in (eqb-true (mergeNumber M v Ts) 0 e, cc)
-      go (inr e) = let k : none ≡ some U = rw e at h in let z : _≡_ {A = ℕ} 0 1 = cc in absurd (omega arith)
-
-  module _ (done : mergeNumber M v Ts ≡ 0) where
-    pub not-wrong : areWrong v Ts ≡ false
-    unfolding mergeNumber mergeCircumstances
-    not-wrong = number-done (mergeCircumstances M v Ts) done wrongTables _ in-wrongTables (List·Memᴰ·head refl)
-
-    pub not-full : length (stamps (used Ts)) ≤ M .rowLimit
-    unfolding mergeNumber mergeCircumstances
-    not-full = ltb-false _ _ (number-done (mergeCircumstances M v Ts) done full _ in-full (List·Memᴰ·tail (List·Memᴰ·tail (List·Memᴰ·tail (List·Memᴰ·head refl)))))
-
-    -- there is a first table: of its group, and it promised v
-    pub first-table : (T : Table) × (T ∈ Ts) × (groupOf Ts ≡ T .n) × (T .promised ≡ v)
-    unfolding areWrong
-    first-table = go Ts not-wrong
-      where
-        go : (Us : List Table) → areWrong v Us ≡ false → (T : Table) × (T ∈ Us) × (groupOf Us ≡ T .n) × (T .promised ≡ v)
-        go [] h = impossible refl (either-left _ _ h)
-        go (T ∷ Us) h =
-            let p = either-right _ _ (either-right _ _ (either-right _ _ (either-right _ _ h))) in
-            (T, List·Memᴰ·head refl, refl, eqb-true (T .promised) v (not-false _ (any-none _ (T ∷ Us) p T (List·Memᴰ·head refl))))
-
   module _ (checks : CheckByRule check) (rules : every (tableByRule M) Ts ≡ true) (done : mergeNumber M v Ts ≡ 0) where
     used-rules : every (tableByRule M) (used Ts) ≡ true
     used-rules = all-every (tableByRule M) (used Ts) (λ T m. every-one (tableByRule M) Ts rules T (used-newest Ts T m .0))
@@ -430,7 +323,7 @@ module _ (M : Model) (check : Check) (v : ℕ) (Ts : List Table) where
     pub merged-facts : ByRule M (mergedTable check v Ts)
     unfolding mergedTable
     merged-facts =
-        let (T, m, g, p) = first-table done in
+        let (T, m, g, p) = first-table M v Ts done in
         let f = table-facts M T (every-one (tableByRule M) Ts rules T m) in
         let b = f .box in
         record {
@@ -440,7 +333,7 @@ module _ (M : Model) (check : Check) (v : ℕ) (Ts : List Table) where
           promised = rw p at (f .promised);
           mode = normal-by-rule;
           start = omega arith;
-          limit = omega (arith, merged-length, not-full done);
+          limit = omega (arith, merged-length, merge-fits M v Ts done);
           rise = merged-rising M agreement (used Ts) used-rules check;
           rows = merged-rows-rule M agreement (used Ts) used-rules check checks;
         }

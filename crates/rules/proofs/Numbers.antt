@@ -2,13 +2,13 @@
 use mathlib.Core.Path.{_≡_, refl, ap, _∙_, sym}
 use mathlib.Core.Bool.{Bool, true, false, cond}
 use mathlib.Core.Logic.{_⊎_, inl, inr}
-use mathlib.Core.List.{List, [], _∷_, List·Memᴰ·head, List·Memᴰ·tail, List·Memᴰ·cases-cons, List·Memᴰ·not-nil}
+use mathlib.Core.List.{List, [], _∷_, List·Memᴰ·cases-cons, List·Memᴰ·not-nil}
 use Prim.Native.Nat.{ℕ}
 use native.Mathlib.Omega.{arith}
 use lib.Dec.{eqb, ltb}
 use borrow.Author.Tests.{ltb-true}
 use Rattle.rules.specs.Tests.{both, either, any, every}
-use Rattle.rules.specs.Numbers.{badMessage, otherBody, contradiction, full, oldView, wrongTables, order, Circumstance, applies, first, number}
+use Rattle.rules.specs.Numbers.{order, Circumstance, applies, first, number}
 use Rattle.rules.proofs.Logic.{both-left, both-right, both-false, eqb-self}
 use Rattle.rules.proofs.Lists.{_∈_, any-none, none-any}
 
@@ -26,28 +26,6 @@ first-done (j ∷ ks) pos cs e k m = go (applies cs j) refl e (List·Memᴰ·cas
     go false ea e′ (inl q) below = ap (applies cs) q ∙ ea
     go false ea e′ (inr m′) below = below e′ m′
     go true ea e′ m′ below = absurd (omega (arith, ltb-true 0 j (both-left _ _ pos)))
-
--- ---- where each number stands in the order
-
-pub in-badMessage : badMessage ∈ order
-in-badMessage = List·Memᴰ·tail (List·Memᴰ·tail (List·Memᴰ·head refl))
-
-pub in-oldView : oldView ∈ order
-in-oldView = List·Memᴰ·tail (List·Memᴰ·tail (List·Memᴰ·tail (List·Memᴰ·tail (List·Memᴰ·tail (List·Memᴰ·head refl)))))
-
-pub in-wrongTables : wrongTables ∈ order
-in-wrongTables = List·Memᴰ·tail (List·Memᴰ·tail (List·Memᴰ·tail (List·Memᴰ·tail (List·Memᴰ·tail (List·Memᴰ·tail (List·Memᴰ·head refl))))))
-
-pub in-otherBody : otherBody ∈ order
-in-otherBody = List·Memᴰ·tail (List·Memᴰ·tail (List·Memᴰ·tail (List·Memᴰ·tail (List·Memᴰ·tail (List·Memᴰ·tail (List·Memᴰ·tail (List·Memᴰ·tail (List·Memᴰ·head refl))))))))
-
-pub in-contradiction : contradiction ∈ order
-in-contradiction = List·Memᴰ·tail (List·Memᴰ·tail (List·Memᴰ·tail (List·Memᴰ·tail (List·Memᴰ·tail (List·Memᴰ·tail (List·Memᴰ·tail (List·Memᴰ·tail (List·Memᴰ·tail (List·Memᴰ·head refl)))))))))
-
-pub in-full : full ∈ order
-in-full = List·Memᴰ·tail (List·Memᴰ·tail (List·Memᴰ·tail (List·Memᴰ·tail (List·Memᴰ·tail (List·Memᴰ·tail (List·Memᴰ·tail (List·Memᴰ·tail (List·Memᴰ·tail (List·Memᴰ·tail (List·Memᴰ·head refl))))))))))
-
--- ---- 0
 
 -- a call that is done meets none of its circumstances
 pub number-done : (cs : List Circumstance) → number cs ≡ 0 → (k : ℕ) (given : Bool) → k ∈ order → (k, given) ∈ cs → given ≡ false

@@ -2,29 +2,27 @@
 use mathlib.Core.Path.{_≡_, refl, sym, ap, ap₂, fun-ext, _∙_}
 use mathlib.Core.Bool.{Bool, true, false, not}
 use mathlib.Core.Logic.{_⊎_, inl, inr}
-use mathlib.Core.List.{List, List·Memᴰ·head, List·Memᴰ·tail}
+use mathlib.Core.List.{List}
 use mathlib.Core.Option.{Option, none, some}
 use Prim.Native.Nat.{ℕ}
-use native.Mathlib.Omega.{arith}
 use lib.Dec.{eqb, leb}
 use borrow.Author.Tests.{eqb-true, not-false}
-use Rattle.rules.specs.Tests.{both, either, any, somePair, provided, firstOf}
+use Rattle.rules.specs.Tests.{both, either, any, provided, firstOf}
 use Rattle.rules.specs.Groups.{fOf, fastCount, agreementCount}
-use Rattle.rules.specs.Tables.{Result, Result.OK, Result.ABORT, resultCode, resultRetry, sameResult, Prepare, Prepare.noPrepare, Prepare.tentative, Prepare.final, Row, Model, Table}
-use Rattle.rules.specs.Numbers.{badMessage, wrongTables, otherBody, contradiction}
+use Rattle.rules.specs.Tables.{Result, Result.OK, Result.ABORT, resultCode, resultRetry, sameResult, Row, Model, Table}
+use Rattle.rules.specs.Numbers.{badMessage, contradiction}
 use Rattle.rules.specs.Messages.{Check}
 use Rattle.rules.specs.Merge.{used, stamps, rowsOf, mergedOutcome, finalResult, finalOf, holdsTentative, isAgreed, tentativeResult, ifAgreed, agreedOf, holdsPrepare, standing, bodyOf, uncheckedRow, uncheckedRows, toCheck, mergedRows, groupOf, mergedTable, areWrong, twoBodies, contradictory, mergeCircumstances, mergeNumber, merge}
 use Rattle.rules.specs.Count.{Heard, unequalViews, badReplies, agreeing, isFast, unequalFinalHeard, fastBesideFinal, countCircumstances, countNumber, fastOf, finalHeard, greatestRetry, slowResult, decided, counted}
-use Rattle.rules.proofs.Logic.{cases, either-left, either-right, either-first, either-second}
-use Rattle.rules.proofs.Lists.{_∈_, any-none, pair-none, provided-some}
+use Rattle.rules.proofs.Logic.{none-some, cases, either-left, either-right, either-first, either-second}
+use Rattle.rules.proofs.Lists.{_∈_, places, any-none, pair-none, provided-some}
 use Rattle.rules.proofs.Same.{not-other-result, not-other-body}
 use Rattle.rules.proofs.Reordered.{Reordered, reordered-in, reordered-back, head-kept, any-kept, count-kept, twice-kept, somePair-kept, greatest-kept, length-kept, those-reordered, allOf-reordered, GiveOne, firstOf-kept}
 use Rattle.rules.proofs.Numbers.{number-done}
+use Rattle.rules.proofs.Used.{merge-right, merge-one-body, merge-clear}
+use Rattle.rules.proofs.Standings.{is-final}
 use Rattle.rules.proofs.Votes.{fast-one, merge-agreed-once}
-use Rattle.rules.proofs.Stamps.{stamps-rising, stamps-from, in-stamps, rising-same, rows-nowhere}
-
--- where an element stands in a list that is written out
-ruleset places = (List·Memᴰ·head, List·Memᴰ·tail)
+use Rattle.rules.proofs.Stamps.{stamps-rising, stamps-from, in-stamps, rising-same}
 
 -- ---- the count
 
@@ -99,30 +97,7 @@ count-any-order n {hs} {gs} p = go (cases (eqb (countNumber n hs) 0))
     go (inl e) = rw (← (count-number-kept n p), e) (decided-kept n p (eqb-true _ 0 e))
     go (inr e) = rw (← (count-number-kept n p), e)
 
--- ---- the merge: what a merge that is not refused has
-
-module _ (M : Model) (v : ℕ) (Ts : List Table) (done : mergeNumber M v Ts ≡ 0) where
-  pub merge-right : areWrong v Ts ≡ false
-  unfolding mergeNumber mergeCircumstances
-  merge-right = number-done (mergeCircumstances M v Ts) done wrongTables (areWrong v Ts) (search places depth 11) (search places)
-
-  pub merge-one-body : (s : ℕ) → twoBodies (rowsOf (used Ts) s) ≡ false
-  unfolding mergeNumber mergeCircumstances twoBodies somePair any
-  merge-one-body = rows-nowhere twoBodies refl (used Ts) (number-done (mergeCircumstances M v Ts) done otherBody _ (search places depth 11) (search places))
-
-  pub merge-clear : (s : ℕ) → contradictory (rowsOf (used Ts) s) ≡ false
-  unfolding mergeNumber mergeCircumstances contradictory somePair any either
-  merge-clear = rows-nowhere contradictory refl (used Ts) (number-done (mergeCircumstances M v Ts) done contradiction _ (search places depth 11) (search places))
-
 -- ---- the merge: the rows of one stamp
-
-none-some : {A B : Type 0} {a : A} → none ≡ some a → B
-none-some e = let z : _≡_ {A = ℕ} 0 1 = cc in absurd (omega arith)
-
-is-final : (p : Prepare) (r : Result) → finalResult p ≡ some r → p ≡ final r
-is-final noPrepare r e = none-some e
-is-final (tentative q) r e = none-some e
-is-final (final q) r e = cc
 
 abbrev AgreedOnce : ℕ → List Row → Type 0
 AgreedOnce agreement rs = (r q : Result) → isAgreed agreement rs r ≡ true → isAgreed agreement rs q ≡ true → r ≡ q
