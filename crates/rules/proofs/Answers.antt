@@ -13,7 +13,7 @@ use Rattle.rules.specs.Tests.{both, either, every, isSome}
 use Rattle.rules.specs.Groups.{isGroup, fOf}
 use Rattle.rules.specs.Stamps.{Body, isStamp, bodyByRule}
 use Rattle.rules.specs.Tables.{Result, Result.OK, Result.ABORT, Result.ABSTAIN, Result.RETRY, resultCode, verdictCode, Prepare, Prepare.noPrepare, Prepare.tentative, Prepare.final, Verdict, Verdict.commit, Verdict.abort, Outcome, Outcome.noOutcome, Outcome.noted, Outcome.done, prepareCode, outcomeCode, resultByRule, retryByRule, somethingHeld, Row, rowByRule, rising, Model, Table, normalMode, changingMode, isView, modeByRule, tableByRule, freshTable}
-use Rattle.rules.specs.Numbers.{badMessage, full, oldView, order}
+use Rattle.rules.specs.Numbers.{Number, Number.badMessage, Number.full, Number.oldView, order}
 use Rattle.rules.specs.Messages.{Message, Message.proposePrepare, Message.finalisePrepare, Message.proposeOutcome, Message.finaliseOutcome, Message.changeView, Message.startView, Message.readRegister, Check, held, changed, added, withPrepare, withOutcome, resultFor, answered, notedAs, prepareProposed, prepareFinalised, outcomeProposed, outcomeFinalised, withRows, promising, keepingBox, tableAfter}
 use Rattle.rules.specs.Circumstances.{Room, badGroup, belowLimit, messageByRule, startsView, newButFull, changesToOldView, furtherCircumstances, circumstances}
 use Rattle.rules.specs.Answers.{answerNumber, taken, refused, answer}
@@ -56,37 +56,23 @@ every-added r rows k h = all-every rowByRule (added r rows) (λ q m. go q (added
     go q (inr m) = every-one rowByRule rows h q m
 
 module _ (M : Model) (T : Table) (t : ByRule M T) where
+  -- other rows in its place
+  with-rows : (rows : List Row) → T .start ≤ length rows → length rows ≤ M .rowLimit → rising 0 rows ≡ true → every rowByRule rows ≡ true → ByRule M (withRows T rows)
+  with-rows rows s l r e =
+      record { group = t .group; box = t .box; view = t .view; promised = t .promised; mode = t .mode; start = s; limit = l; rise = r; rows = e }
+
   -- a row is changed, with its stamp kept
   changed-rule : (s : ℕ) (change : Row → Row) → ((r : Row) → change r .stamp ≡ r .stamp) → ((r : Row) → rowByRule r ≡ true → rowByRule (change r) ≡ true) → ByRule M (withRows T (changed s change (T .rows)))
   changed-rule s change same keeps =
       let n = length-changed s change (T .rows) in
-      record {
-        group = t .group;
-        box = t .box;
-        view = t .view;
-        promised = t .promised;
-        mode = t .mode;
-        start = omega (arith, t .start);
-        limit = omega (arith, t .limit);
-        rise = rising-changed s change same 0 (T .rows) ∙ t .rise;
-        rows = every-changed s change (T .rows) keeps (t .rows);
-      }
+      with-rows (changed s change (T .rows)) (omega (arith, t .start)) (omega (arith, t .limit)) (rising-changed s change same 0 (T .rows) ∙ t .rise) (every-changed s change (T .rows) keeps (t .rows))
 
   -- a row of a new stamp is added, where there is room
   added-rule : (r : Row) → rowByRule r ≡ true → held (T .rows) (r .stamp) ≡ none → length (T .rows) < M .rowLimit → ByRule M (withRows T (added r (T .rows)))
   added-rule r k new room =
       let n = length-added r (T .rows) in
-      record {
-        group = t .group;
-        box = t .box;
-        view = t .view;
-        promised = t .promised;
-        mode = t .mode;
-        start = omega (arith, t .start);
-        limit = omega (arith, room);
-        rise = rising-added r 0 (T .rows) (stamp-positive (r .stamp) (row-facts r k .stamp)) new (t .rise);
-        rows = every-added r (T .rows) k (t .rows);
-      }
+      let low = stamp-positive (r .stamp) (row-facts r k .stamp) in
+      with-rows (added r (T .rows)) (omega (arith, t .start)) (omega arith) (rising-added r 0 (T .rows) low new (t .rise)) (every-added r (T .rows) k (t .rows))
 
 -- ---- what messages do to a row keeps its rule
 
@@ -217,7 +203,7 @@ module _ (M : Model) (room : Room) (check : Check) (fits : RoomFits room) (check
       )
 
   -- what a message that was taken did not meet
-  met-none : (m : Message) → answerNumber M room T m ≡ 0 → (k : ℕ) (given : Bool) → k ∈ order → (k, given) ∈ circumstances M room T m → given ≡ false
+  met-none : (m : Message) → answerNumber M room T m ≡ 0 → (k : Number) (given : Bool) → k ∈ order → (k, given) ∈ circumstances M room T m → given ≡ false
   unfolding answerNumber
   met-none m h = number-done (circumstances M room T m) h
 

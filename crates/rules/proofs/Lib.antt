@@ -14,3 +14,4 @@ pub mod Standings
 pub mod Votes
 pub mod Merge
 pub mod Orders
+pub mod Examples

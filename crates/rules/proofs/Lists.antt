@@ -1,6 +1,6 @@
 -- Laws of lists that are searched, counted and sifted: over `++`, and by their elements.
 use mathlib.Core.Path.{_≡_, refl, sym, ap, _∙_}
-use mathlib.Core.Bool.{Bool, true, false}
+use mathlib.Core.Bool.{Bool, true, false, not}
 use mathlib.Core.Logic.{_⊎_, inl, inr}
 use mathlib.Core.List.{List, [], _∷_, _++_, List·Memᴰ, List·Memᴰ·head, List·Memᴰ·tail, List·Memᴰ·cases-cons, List·Memᴰ·not-nil}
 use mathlib.Core.Option.{Option, none, some}
@@ -8,9 +8,9 @@ use Prim.Native.Nat.{ℕ, _+_, _≤_, max}
 use native.Mathlib.Omega.{arith}
 use native.Mathlib.Nat.{zero-max, max-zero, le-max-left, le-max-right, max-le, max-eq-left, max-eq-right}
 use lib.Dec.{leb}
-use borrow.Author.Tests.{leb-true, leb-false}
+use borrow.Author.Tests.{leb-true, leb-false, not-true, not-false}
 use Rattle.rules.specs.Tests.{both, either, any, every, count, kept, those, greatest, somePair, provided, orElse, andAlso, firstOf, allOf}
-use Rattle.rules.proofs.Logic.{impossible, cases, both-left, both-right, both-true, both-assoc, either-cases, either-left, either-right, either-false, either-assoc}
+use Rattle.rules.proofs.Logic.{impossible, not-true-of, not-false-of, cases, both-assoc, either-cases, either-left, either-right, either-false, either-assoc}
 
 infix 20 _∈_
 abbrev pub _∈_ : {A : Type 0} → A → List A → Type 0
@@ -91,19 +91,21 @@ module _ {A : Type 0} where
       go (inl e) = e
       go (inr e) = impossible t (any-none test xs e x m)
 
-  pub every-one : (test : A → Bool) (xs : List A) → every test xs ≡ true → (x : A) → x ∈ xs → test x ≡ true
-  unfolding every
-  every-one test [] e x m = absurd (List·Memᴰ·not-nil m)
-  every-one test (y ∷ ys) e x m = go (List·Memᴰ·cases-cons m) (λ m′. every-one test ys (both-right (test y) (every test ys) e) x m′)
+  -- all pass exactly if none fails
+  every-is : (test : A → Bool) (xs : List A) → every test xs ≡ not (any (λ x. not (test x)) xs)
+  unfolding every any both either
+  every-is test [] = refl
+  every-is test (x ∷ xs) = go (test x) (every-is test xs)
     where
-      go : (x ≡ y) ⊎ (x ∈ ys) → (x ∈ ys → test x ≡ true) → test x ≡ true
-      go (inl q) below = ap test q ∙ both-left (test y) (every test ys) e
-      go (inr m′) below = below m′
+      go : (b : Bool) → every test xs ≡ not (any (λ y. not (test y)) xs) → both b (every test xs) ≡ not (either (not b) (any (λ y. not (test y)) xs))
+      go true e = e
+      go false e = refl
+
+  pub every-one : (test : A → Bool) (xs : List A) → every test xs ≡ true → (x : A) → x ∈ xs → test x ≡ true
+  every-one test xs e x m = not-false (test x) (any-none (λ y. not (test y)) xs (not-true _ (sym (every-is test xs) ∙ e)) x m)
 
   pub all-every : (test : A → Bool) (xs : List A) → ((x : A) → x ∈ xs → test x ≡ true) → every test xs ≡ true
-  unfolding every
-  all-every test [] h = refl
-  all-every test (y ∷ ys) h = both-true (h y (List·Memᴰ·head refl)) (all-every test ys (λ x m. h x (List·Memᴰ·tail m)))
+  all-every test xs h = every-is test xs ∙ not-true-of _ (none-any (λ y. not (test y)) xs (λ x m. not-false-of _ (h x m)))
 
   pub those-of : (test : A → Bool) (xs : List A) (x : A) → x ∈ those test xs → (x ∈ xs) × (test x ≡ true)
   unfolding those

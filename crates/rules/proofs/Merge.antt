@@ -304,6 +304,11 @@ module _ (M : Model) (agreement : ℕ) (Ts : List Table) (rules : every (tableBy
 
 -- ---- the merged table
 
+-- it has a row for every stamp of the used tables, and no other
+pub merge-stamps : (check : Check) (v : ℕ) (Ts : List Table) → stampsOf (mergedTable check v Ts .rows) ≡ stamps (used Ts)
+unfolding mergedTable
+merge-stamps check v Ts = merged-stamps check (agreementCount (fOf (groupOf Ts))) (used Ts)
+
 module _ (M : Model) (check : Check) (v : ℕ) (Ts : List Table) where
   module _ (checks : CheckByRule check) (rules : every (tableByRule M) Ts ≡ true) (done : mergeNumber M v Ts ≡ 0) where
     used-rules : every (tableByRule M) (used Ts) ≡ true

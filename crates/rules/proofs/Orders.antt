@@ -10,7 +10,7 @@ use borrow.Author.Tests.{eqb-true, not-false}
 use Rattle.rules.specs.Tests.{both, either, any, provided, firstOf}
 use Rattle.rules.specs.Groups.{fOf, fastCount, agreementCount}
 use Rattle.rules.specs.Tables.{Result, Result.OK, Result.ABORT, resultCode, resultRetry, sameResult, Row, Model, Table}
-use Rattle.rules.specs.Numbers.{badMessage, contradiction}
+use Rattle.rules.specs.Numbers.{Number.badMessage, Number.contradiction}
 use Rattle.rules.specs.Messages.{Check}
 use Rattle.rules.specs.Merge.{used, stamps, rowsOf, mergedOutcome, finalResult, finalOf, holdsTentative, isAgreed, tentativeResult, ifAgreed, agreedOf, holdsPrepare, standing, bodyOf, uncheckedRow, uncheckedRows, toCheck, mergedRows, groupOf, mergedTable, areWrong, twoBodies, contradictory, mergeCircumstances, mergeNumber, merge}
 use Rattle.rules.specs.Count.{Heard, unequalViews, badReplies, agreeing, isFast, unequalFinalHeard, fastBesideFinal, countCircumstances, countNumber, fastOf, finalHeard, greatestRetry, slowResult, decided, counted}

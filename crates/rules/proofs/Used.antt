@@ -11,7 +11,7 @@ use lib.ListN.{length}
 use borrow.Author.Tests.{eqb-true, eq-eqb, ltb-false, not-false}
 use Rattle.rules.specs.Tests.{somePair, either, any, greatest}
 use Rattle.rules.specs.Tables.{Outcome.done, Model, Table}
-use Rattle.rules.specs.Numbers.{full, wrongTables, otherBody, contradiction}
+use Rattle.rules.specs.Numbers.{Number.full, Number.wrongTables, Number.otherBody, Number.contradiction}
 use Rattle.rules.specs.Messages.{Check}
 use Rattle.rules.specs.Merge.{used, stamps, rowsOf, groupOf, mergedTable, areWrong, mergeCircumstances, mergeNumber, merge, twoBodies, contradictory}
 use Rattle.rules.proofs.Logic.{impossible, cases, either-left, either-right}

@@ -4,7 +4,7 @@ use mathlib.Core.List.{[], _∷_}
 use Prim.Native.Nat.{ℕ}
 use lib.Dec.{eqb}
 use Rattle.rules.specs.Tables.{prepareCode, prepareRetry, outcomeCode, Model, Table}
-use Rattle.rules.specs.Numbers.{badMessage, number}
+use Rattle.rules.specs.Numbers.{Number.badMessage, number}
 use Rattle.rules.specs.Messages.{Message, Message.proposePrepare, Message.finalisePrepare, Message.proposeOutcome, Message.finaliseOutcome, Message.changeView, Message.startView, Message.readRegister, kind, Check, held, prepareOf, outcomeOf, tableAfter, found}
 use Rattle.rules.specs.Circumstances.{Room, badGroup, circumstances}
 
@@ -52,7 +52,7 @@ replyValue T (readRegister s k) = found (T .rows) s k .value
 unfoldable pub replyFrom : Table → Message → Reply
 replyFrom T m = record { number = 0; kind = kind m; box = T .box; state = stateByte T m; view = T .view; stamp = replyStamp T m; value = replyValue T m }
 
--- "the reply has the number in byte 0 and 23 zero bytes"
+-- "the reply has the number in byte 0 and 23 zero bytes, except number 1, which writes nothing"
 unfoldable pub refusal : ℕ → Reply
 refusal k = record { number = k; kind = 0; box = 0; state = 0; view = 0; stamp = 0; value = 0 }
 
@@ -75,6 +75,6 @@ answerNumber M room T m = number (circumstances M room T m)
 unfoldable pub answer : Model → Room → Check → Table → Message → Answer
 answer M room check T m = cond (eqb (answerNumber M room T m) 0) (taken (tableAfter check T m) m) (refused (answerNumber M room T m) T)
 
--- "3 .. fresh: bad n or box"
+-- "fresh: bad n or box"
 unfoldable pub freshNumber : ℕ → ℕ → ℕ
 freshNumber n box = number ((badMessage, badGroup n box) ∷ [])

@@ -19,11 +19,11 @@ prepared r = both (either (eqb (prepareCode (r .prepare)) 1) (eqb (prepareCode (
 unfoldable pub overwrites : ℕ → List Access → ℕ → List Access → Bool
 overwrites w writes s reads = any (λ read. any (λ write. both (eqb (read .register) (write .register)) (both (ltb (read .number) w) (ltb w s))) writes) reads
 
--- "A. T read register k at version v and a committed write of k has stamp w, v < w < s", for rows that count as committed
+-- "A. T read register k at version v and a committed write of k has stamp w, v < w < s", of one row
 unfoldable pub ruleA : (Row → Bool) → ℕ → Body → Row → Bool
 ruleA counts s x r = both (counts r) (overwrites (r .stamp) (r .body .writes) s (x .reads))
 
--- "B. T writes k and a committed transaction at s' read k at v', v' < s < s'", for rows that count as committed
+-- "B. T writes k and a committed transaction at s' read k at v', v' < s < s'", of one row
 unfoldable pub ruleB : (Row → Bool) → ℕ → Body → Row → Bool
 ruleB counts s x r = both (counts r) (overwrites s (x .writes) (r .stamp) (r .body .reads))
 
@@ -31,11 +31,11 @@ ruleB counts s x r = both (counts r) (overwrites s (x .writes) (r .stamp) (r .bo
 unfoldable pub retryStamp : List Row → ℕ → Body → ℕ
 retryStamp rows s x = greatest (λ r. r .stamp) (those (ruleB committed s x) rows)
 
--- "C. A or B holds with prepared for committed"
+-- "C. A or B holds with prepared for committed", of one row
 unfoldable pub ruleC : ℕ → Body → Row → Bool
 ruleC s x r = either (ruleA prepared s x r) (ruleB prepared s x r)
 
--- "in this order: A .. ABORT. B .. RETRY with the greatest such s'. C .. ABSTAIN. D. Otherwise OK."
+-- "For transaction T at stamp s, in this order": A "ABORT", B "RETRY with the greatest such s'", C "ABSTAIN", "D. Otherwise OK." There is no rule for writes under later accepted writes: "Document 001 also refuses" them
 unfoldable pub check : List Row → ℕ → Body → Result
 check rows s x =
     cond (any (ruleA committed s x) rows) ABORT
@@ -45,6 +45,6 @@ check rows s x =
 unfoldable pub clash : ℕ → Body → ℕ → Body → Bool
 clash s x t y = either (overwrites t (y .writes) s (x .reads)) (overwrites s (x .writes) t (y .reads))
 
--- committed or prepared
+-- a row that counts for A, B or C: committed or prepared
 unfoldable pub accepted : Row → Bool
 accepted r = either (committed r) (prepared r)

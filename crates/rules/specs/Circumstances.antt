@@ -1,4 +1,5 @@
--- 01, 'Numbers returned', row by row: when each number is given to a message or to a fresh table. Rows 1 and 2, and what of row 3 is seen on bytes alone, are said by the calls.
+-- 01, 'Numbers returned', row by row: when a message, or a fresh table, is refused. What is seen on bytes alone (row 2, and of row 3 the kind and the length) is said by the calls; row 11 and what a merge or
+-- a count adds to rows 3, 5, 6 and 7 stand with them.
 use mathlib.Core.Bool.{Bool, false, not}
 use mathlib.Core.List.{List, [], _∷_}
 use mathlib.Core.Option.{Option, none, some}
@@ -9,10 +10,10 @@ use Rattle.rules.specs.Tests.{both, either, every, isSome}
 use Rattle.rules.specs.Groups.{isGroup, fOf}
 use Rattle.rules.specs.Stamps.{Body, isStamp, isRegister, bodyByRule, sameBody}
 use Rattle.rules.specs.Tables.{Result, Prepare, Prepare.noPrepare, Prepare.tentative, Prepare.final, Verdict, Outcome, Outcome.noOutcome, Outcome.noted, Outcome.done, prepareCode, outcomeCode, verdictCode, sameResult, resultByRule, Row, Model, Table, normalMode, changingMode, isView, tableByRule}
-use Rattle.rules.specs.Numbers.{badMessage, changing, otherBody, contradiction, full, unknown, otherView, oldView, Circumstance}
+use Rattle.rules.specs.Numbers.{Number.badMessage, Number.changing, Number.otherBody, Number.contradiction, Number.full, Number.unknown, Number.otherView, Number.oldView, Circumstance}
 use Rattle.rules.specs.Messages.{Message, Message.proposePrepare, Message.finalisePrepare, Message.proposeOutcome, Message.finaliseOutcome, Message.changeView, Message.startView, Message.readRegister, held, prepareOf, outcomeOf}
 
--- ---- "1 small buffer: table or output buffer (not a merge's run) below 49,176, or reply buffer below 24"
+-- ---- 1, "small buffer": "table or output buffer (not a merge's run) below 49,176, or reply buffer below 24"
 
 unfoldable pub tooSmall : Model → ℕ → Bool
 tooSmall M length = ltb length (M .leastBuffer)
@@ -20,7 +21,7 @@ tooSmall M length = ltb length (M .leastBuffer)
 unfoldable pub replyTooSmall : ℕ → Bool
 replyTooSmall length = ltb length 24
 
--- ---- "3 bad message: kind, length, stamp, body, register or code breaks a rule; fresh: bad n or box"
+-- ---- 3, "bad message": "kind, length, stamp, body, register or code breaks a rule; fresh: bad n or box"
 
 unfoldable pub badGroup : ℕ → ℕ → Bool
 badGroup n box = not (both (isGroup n) (ltb box n))
@@ -36,7 +37,7 @@ startsView n v I =
     (both (eqb (I .view) v)
     (both (eqb (I .box) (v % n)) (both (eqb (I .n) n) (both (eqb (I .start) (length (I .rows))) (every settled (I .rows))))))
 
--- the rule of a message to a box of a group of n
+-- a message to a box of a group of n that breaks no rule
 unfoldable pub messageByRule : Model → ℕ → Message → Bool
 messageByRule M n (proposePrepare s x) = both (isStamp s) (bodyByRule s x)
 messageByRule M n (finalisePrepare s v r) = both (isStamp s) (both (isView v) (resultByRule r))
@@ -46,12 +47,12 @@ messageByRule M n (changeView v) = isView v
 messageByRule M n (startView v I) = both (isView v) (both (tableByRule M I) (startsView n v I))
 messageByRule M n (readRegister s k) = both (isStamp s) (isRegister k)
 
--- ---- "4 changing: messages 1 to 4 and 7 while mode is 1"
+-- ---- 4, "changing": "messages 1 to 4 and 7 while mode is 1"
 
 unfoldable pub isChanging : Table → Bool
 isChanging T = eqb (T .mode) changingMode
 
--- ---- "5 other body: the stamp is held with another body"
+-- ---- 5, "other body": "the stamp is held with another body"
 
 abbrev pub unlike : Body → Option Row → Bool
 unlike x none = false
@@ -60,7 +61,7 @@ unlike x (some r) = not (sameBody x (r .body))
 unfoldable pub heldWithOtherBody : Table → ℕ → Body → Bool
 heldWithOtherBody T s x = unlike x (held (T .rows) s)
 
--- ---- "6 contradiction: an unequal final result or an opposite outcome is held"
+-- ---- 6, "contradiction": "an unequal final result or an opposite outcome is held"
 
 abbrev pub unequalFinal : Result → Prepare → Bool
 unequalFinal r noPrepare = false
@@ -78,7 +79,7 @@ heldUnequalFinal T s r = unequalFinal r (prepareOf (held (T .rows) s))
 unfoldable pub heldOppositeOutcome : Table → ℕ → Verdict → Bool
 heldOppositeOutcome T s v = oppositeOutcome v (outcomeOf (held (T .rows) s))
 
--- ---- "7 full: a new stamp with 512 rows held"
+-- ---- 7, "full": "a new stamp with 512 rows held"
 
 -- whether one more row has room: by the row limit, f, the start rows and the rows
 abbrev pub Room : Type 0
@@ -90,7 +91,7 @@ belowLimit limit f start rows = ltb rows limit
 unfoldable pub newButFull : Model → Room → Table → ℕ → Bool
 newButFull M room T s = both (not (isSome (held (T .rows) s))) (not (room (M .rowLimit) (fOf (T .n)) (T .start) (length (T .rows))))
 
--- ---- "8 unknown: finalising a part that the table doesn't hold"
+-- ---- 8, "unknown": "finalising a part that the table doesn't hold"
 
 unfoldable pub prepareNotHeld : Table → ℕ → Bool
 prepareNotHeld T s = eqb (prepareCode (prepareOf (held (T .rows) s))) 0
@@ -98,12 +99,12 @@ prepareNotHeld T s = eqb (prepareCode (prepareOf (held (T .rows) s))) 0
 unfoldable pub outcomeNotHeld : Table → ℕ → Bool
 outcomeNotHeld T s = eqb (outcomeCode (outcomeOf (held (T .rows) s))) 0
 
--- ---- "9 other view: message 2 or 4 for a view that isn't the box's"
+-- ---- 9, "other view": "message 2 or 4 for a view that isn't the box's"
 
 unfoldable pub forOtherView : Table → ℕ → Bool
 forOtherView T v = not (eqb v (T .view))
 
--- ---- "10 old view: message 5 with v at or below promised; 6 with v below promised or at or below view"
+-- ---- 10, "old view": "message 5 with v at or below promised; 6 with v below promised or at or below view"
 
 unfoldable pub changesToOldView : Table → ℕ → Bool
 changesToOldView T v = leb v (T .promised)

@@ -8,7 +8,7 @@ use lib.ListN.{length}
 use Rattle.rules.specs.Tests.{both, either, any, count, greatest, somePair, twice, provided, firstOf}
 use Rattle.rules.specs.Groups.{isGroup, fOf, quorum, fastCount}
 use Rattle.rules.specs.Tables.{Result, Result.OK, Result.ABORT, Result.ABSTAIN, Result.RETRY, resultCode, resultRetry, sameResult, resultByRule}
-use Rattle.rules.specs.Numbers.{badMessage, contradiction, Circumstance, number}
+use Rattle.rules.specs.Numbers.{Number.badMessage, Number.contradiction, Circumstance, number}
 
 -- "Replies are lent as a list of small records: box, view, result with its retry stamp, final or not."
 pub record Heard : Type 0 where

@@ -1,4 +1,4 @@
--- 01, 'What the boxes are': the sizes of a group, and the four counts.
+-- 01, 'What the boxes are': the size of a group, its f, and the counts.
 use mathlib.Core.Bool.{Bool}
 use Prim.Native.Nat.{ℕ, _+_, _-_, _*_, _/_}
 use lib.Dec.{eqb}

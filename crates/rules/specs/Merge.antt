@@ -9,7 +9,7 @@ use Rattle.rules.specs.Tests.{both, either, any, count, those, greatest,
 use Rattle.rules.specs.Groups.{fOf, quorum, agreementCount}
 use Rattle.rules.specs.Stamps.{Body, sameBody}
 use Rattle.rules.specs.Tables.{Result, Result.OK, Result.ABORT, Result.ABSTAIN, Result.RETRY, Prepare, Prepare.noPrepare, Prepare.tentative, Prepare.final, Verdict, Verdict.commit, Verdict.abort, Outcome, Outcome.noOutcome, Outcome.noted, Outcome.done, sameResult, somethingHeld, verdictCode, Row, Model, Table, normalMode}
-use Rattle.rules.specs.Numbers.{otherBody, contradiction, full, wrongTables, Circumstance, number}
+use Rattle.rules.specs.Numbers.{Number.otherBody, Number.contradiction, Number.full, Number.wrongTables, Circumstance, number}
 use Rattle.rules.specs.Messages.{Check, held, changed, withPrepare, resultFor}
 use Rattle.rules.specs.Circumstances.{unequalFinal, oppositeOutcome}
 
@@ -200,7 +200,7 @@ mergedTable check v Ts =
 
 -- ---- when a merge is refused
 
--- "11 wrong tables: merge: not exactly f+1 images, unequal n, a box twice, mode 0, or promised not v"
+-- 11, "wrong tables": "merge: not exactly f+1 images, unequal n, a box twice, mode 0, or promised not v"
 unfoldable pub areWrong : ℕ → List Table → Bool
 areWrong v Ts =
     either (not (eqb (length Ts) (quorum (fOf (groupOf Ts)))))
@@ -226,7 +226,7 @@ twoBodies rs = somePair (λ r q. not (sameBody (r .body) (q .body))) rs
 unfoldable pub contradictory : List Row → Bool
 contradictory rs = either (somePair (λ r q. unequalFinals (r .prepare) (q .prepare)) rs) (somePair (λ r q. oppositeOutcomes (r .outcome) (q .outcome)) rs)
 
--- "Numbers 5, 6 and 7 look at these tables only"; "a merge of more than 512 stamps"
+-- "Numbers 5, 6 and 7 look at these tables only"; 7 is for "a merge of more than 512 stamps"
 unfoldable pub mergeCircumstances : Model → ℕ → List Table → List Circumstance
 mergeCircumstances M v Ts =
     (wrongTables, areWrong v Ts)
@@ -238,6 +238,6 @@ mergeCircumstances M v Ts =
 unfoldable pub mergeNumber : Model → ℕ → List Table → ℕ
 mergeNumber M v Ts = number (mergeCircumstances M v Ts)
 
--- the merge, if it is not refused
+-- the merge for view v "From f+1 changing tables that promised v", if it is not refused
 unfoldable pub merge : Model → Check → ℕ → List Table → Option Table
 merge M check v Ts = cond (eqb (mergeNumber M v Ts) 0) (some (mergedTable check v Ts)) none

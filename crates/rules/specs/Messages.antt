@@ -1,4 +1,4 @@
--- 01, 'Messages to a box': the seven messages, and the table after each one that is taken.
+-- 01, 'Messages to a box': the seven messages, and the table after each one that is taken. How many bytes each part takes is said where messages are read.
 use mathlib.Core.Bool.{cond}
 use mathlib.Core.List.{List, [], _∷_}
 use mathlib.Core.Option.{Option, none, some}
@@ -82,7 +82,7 @@ answered noPrepare (noted v) = tentative (resultFor v)
 answered noPrepare (done v) = tentative (resultFor v)
 answered noPrepare noOutcome = noPrepare
 
--- "Otherwise add a row with the check's tentative result."
+-- "Otherwise add a row with the check's tentative result." "A body needed for an answer is read from the table if the stamp is known, else from the message."
 unfoldable pub prepareProposed : Check → List Row → ℕ → Body → List Row
 prepareProposed check rows s x =
     cond (isSome (held rows s)) (changed s (λ r. withPrepare (answered (r .prepare) (r .outcome)) r) rows)

@@ -5,55 +5,39 @@ use Prim.Native.Nat.{ℕ}
 use lib.Dec.{eqb}
 use Rattle.rules.specs.Tests.{both, either}
 
-abbrev pub smallBuffer : ℕ
-smallBuffer = 1
+-- what a call is refused for, in the order of the list
+pub data Number : Type 0 where
+  smallBuffer badTable badMessage changing otherBody contradiction full unknown otherView oldView wrongTables : Number
 
-abbrev pub badTable : ℕ
-badTable = 2
-
-abbrev pub badMessage : ℕ
-badMessage = 3
-
-abbrev pub changing : ℕ
-changing = 4
-
-abbrev pub otherBody : ℕ
-otherBody = 5
-
-abbrev pub contradiction : ℕ
-contradiction = 6
-
-abbrev pub full : ℕ
-full = 7
-
-abbrev pub unknown : ℕ
-unknown = 8
-
-abbrev pub otherView : ℕ
-otherView = 9
-
-abbrev pub oldView : ℕ
-oldView = 10
-
-abbrev pub wrongTables : ℕ
-wrongTables = 11
+abbrev pub numberCode : Number → ℕ
+numberCode smallBuffer = 1
+numberCode badTable = 2
+numberCode badMessage = 3
+numberCode changing = 4
+numberCode otherBody = 5
+numberCode contradiction = 6
+numberCode full = 7
+numberCode unknown = 8
+numberCode otherView = 9
+numberCode oldView = 10
+numberCode wrongTables = 11
 
 -- "in this order: 1, 2, 3, 4, 9, 10, 11, 8, 5, 6, 7"
-abbrev pub order : List ℕ
+abbrev pub order : List Number
 order = smallBuffer ∷ badTable ∷ badMessage ∷ changing ∷ otherView ∷ oldView ∷ wrongTables ∷ unknown ∷ otherBody ∷ contradiction ∷ full ∷ []
 
--- a number with whether its circumstances are given
+-- a refusal, and whether its circumstances are given
 abbrev pub Circumstance : Type 0
-Circumstance = ℕ × Bool
+Circumstance = Number × Bool
 
-unfoldable pub applies : List Circumstance → ℕ → Bool
+unfoldable pub applies : List Circumstance → Number → Bool
 applies [] k = false
-applies ((j, given) ∷ cs) k = either (both (eqb j k) given) (applies cs k)
+applies ((j, given) ∷ cs) k = either (both (eqb (numberCode j) (numberCode k)) given) (applies cs k)
 
--- "0 done: none below applies"
-unfoldable pub first : List ℕ → List Circumstance → ℕ
+-- 0, "done", if "none below applies"
+unfoldable pub first : List Number → List Circumstance → ℕ
 first [] cs = 0
-first (k ∷ ks) cs = cond (applies cs k) k (first ks cs)
+first (k ∷ ks) cs = cond (applies cs k) (numberCode k) (first ks cs)
 
 -- "The first that applies wins, in this order"
 unfoldable pub number : List Circumstance → ℕ

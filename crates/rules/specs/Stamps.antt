@@ -6,7 +6,7 @@ use lib.Dec.{eqb, ltb, leb}
 use lib.ListN.{length}
 use Rattle.rules.specs.Tests.{both}
 
--- "A stamp is 1 to 2^48-1 in 8 bytes": "It orders and names one transaction"
+-- "A stamp is 1 to 2^48-1 in 8 bytes": a number, since "It orders and names one transaction"
 unfoldable pub isStamp : ℕ → Bool
 isStamp s = both (ltb 0 s) (ltb s (2 ^ 48))
 
@@ -31,7 +31,7 @@ isRegister k = ltb k 64
 unfoldable pub countsByRule : ℕ → ℕ → Bool
 countsByRule reads writes = both (leb reads 4) (both (leb writes 4) (ltb 0 (reads + writes)))
 
--- "Reads have strictly rising registers; so have writes.": registers from low on, numbers below the limit
+-- "Reads have strictly rising registers; so have writes.": each from low on, with a number below the limit
 unfoldable pub accessesByRule : ℕ → ℕ → List Access → Bool
 accessesByRule limit low [] = true
 accessesByRule limit low (a ∷ more) = both (both (leb low (a .register)) (both (isRegister (a .register)) (ltb (a .number) limit))) (accessesByRule limit (suc (a .register)) more)

@@ -89,7 +89,7 @@ pub record Row : Type 0 where
   pub prepare : Prepare
   pub outcome : Outcome
 
--- each test by itself: the stamp, the counts, the two bytes, the retry stamp, the body
+-- test by test: the stamp, the counts, the two bytes, the retry stamp, the body
 unfoldable pub rowByRule : Row → Bool
 rowByRule r =
     both (isStamp (r .stamp))
@@ -104,31 +104,33 @@ rising low (r ∷ rs) = both (ltb low (r .stamp)) (rising (r .stamp) rs)
 
 -- ---- tables
 
--- "mode (0 normal, 1 changing)"
+-- "0 normal, 1 changing"
 abbrev pub normalMode : ℕ
 normalMode = 0
 
 abbrev pub changingMode : ℕ
 changingMode = 1
 
+-- "box; n; mode (0 normal, 1 changing); then .. rows, view (last normal), promised view, rows when this view began": the number of rows is that of the list
 pub record Table : Type 0 where
   pub box : ℕ
   pub n : ℕ
   pub mode : ℕ
-  pub view : ℕ  -- "view (last normal)"
-  pub promised : ℕ  -- "promised view"
-  pub start : ℕ  -- "rows when this view began"
+  pub view : ℕ
+  pub promised : ℕ
+  pub start : ℕ
   pub rows : List Row
 
--- what a kind of box holds and needs: "At most 512 rows.", "A table buffer has at least 49,176 bytes."
+-- how many rows a kind of box holds, and how many bytes its table or output buffer has at least
 pub record Model : Type 0 where
   pub rowLimit : ℕ
   pub leastBuffer : ℕ
 
+-- "At most 512 rows." "A table buffer has at least 49,176 bytes."
 abbrev pub valley : Model
 valley = record { rowLimit = 512; leastBuffer = 49176 }
 
--- "4 bytes each: .. view (last normal), promised view"
+-- "4 bytes each: .. view (last normal), promised view"; so is "v 4" in a message
 unfoldable pub isView : ℕ → Bool
 isView v = ltb v (2 ^ 32)
 
@@ -136,7 +138,7 @@ isView v = ltb v (2 ^ 32)
 unfoldable pub modeByRule : ℕ → ℕ → ℕ → Bool
 modeByRule mode view promised = either (both (eqb mode normalMode) (eqb promised view)) (both (eqb mode changingMode) (ltb view promised))
 
--- "numbered 0 to n-1", "mode", views, and "Start rows never exceed rows."
+-- a group and one of its boxes, "numbered 0 to n-1"; the views and the mode; "Start rows never exceed rows."
 unfoldable pub headerByRule : Table → Bool
 headerByRule T =
     both (both (isGroup (T .n)) (ltb (T .box) (T .n)))
@@ -147,6 +149,6 @@ headerByRule T =
 unfoldable pub tableByRule : Model → Table → Bool
 tableByRule M T = both (headerByRule T) (both (leb (length (T .rows)) (M .rowLimit)) (both (rising 0 (T .rows)) (every rowByRule (T .rows))))
 
--- the fresh table: "01 00 03 00, sixteen 00" and its length, for box 0 of 3
+-- the fresh table: after box and n, and before the total length, "sixteen 00"
 unfoldable pub freshTable : ℕ → ℕ → Table
 freshTable n box = record { box = box; n = n; mode = normalMode; view = 0; promised = 0; start = 0; rows = [] }
