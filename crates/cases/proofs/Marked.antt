@@ -8,13 +8,13 @@ use Rattle.rules.specs.Tables.{sameResult, somethingHeld}
 use Rattle.rules.specs.Numbers.{applies, first, number}
 use Rattle.rules.specs.Messages.{held, changed}
 use Rattle.rules.specs.Check.{committed, prepared, overwrites, ruleA, ruleB, ruleC, retryStamp, check}
-use Rattle.rules.specs.Merge.{used, withStamp, withStamps, stamps, rowsOf, mergedOutcome, finalOf, isAgreed, agreedOf, standing, uncheckedRow, uncheckedRows, toCheck, settledRows, checkedAt, checkedInTurn, mergedRows, mergedTable, areWrong, twoBodies, contradictory, mergeCircumstances, mergeNumber, merge}
+use Rattle.rules.specs.Merge.{used, withStamp, withStamps, stamps, rowsOf, mergedOutcome, finalOf, isAgreed, agreedOf, standing, uncheckedRow, uncheckedRows, toCheck, isSettled, checkedAt, checkedInTurn, mergedRows, mergedTable, areWrong, twoBodies, contradictory, mergeCircumstances, mergeNumber, merge}
 use Rattle.cases.specs.Kinds.{holds}
 use Rattle.cases.specs.Marked.{marked}
 use Rattle.cases.specs.Beside.{Counts.c, Counts.p, Counts.n, countsAs, all, beside}
 
 computed : (every holds marked ≡ true) × (every holds beside ≡ true)
-unfolding marked beside holds both either any every count those greatest somePair twice firstOf allOf sameAccesses sameBody sameResult somethingHeld applies first number held changed committed prepared overwrites ruleA ruleB ruleC retryStamp check used withStamp withStamps stamps rowsOf mergedOutcome finalOf isAgreed agreedOf standing uncheckedRow uncheckedRows toCheck settledRows checkedAt checkedInTurn mergedRows mergedTable areWrong twoBodies contradictory mergeCircumstances mergeNumber merge
+unfolding marked beside holds both either any every count those greatest somePair twice firstOf allOf sameAccesses sameBody sameResult somethingHeld applies first number held changed committed prepared overwrites ruleA ruleB ruleC retryStamp check used withStamp withStamps stamps rowsOf mergedOutcome finalOf isAgreed agreedOf standing uncheckedRow uncheckedRows toCheck isSettled checkedAt checkedInTurn mergedRows mergedTable areWrong twoBodies contradictory mergeCircumstances mergeNumber merge
 computed = (refl, refl)
 
 -- the single statement: every marked case holds

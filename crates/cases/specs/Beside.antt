@@ -1,8 +1,12 @@
--- Beside the marked cases: the codes of a row, and two merges.
+-- Beside the marked cases: the codes of a row, two merges, and messages to one box, one after the other.
 use mathlib.Core.Bool.{cond}
 use mathlib.Core.List.{List, [], _∷_, map}
 use Prim.Native.Nat.{ℕ}
-use Rattle.rules.specs.Tables.{Result.OK, Result.ABORT, Result.ABSTAIN, Result.RETRY, Prepare, Prepare.noPrepare, Prepare.tentative, Prepare.final, Verdict.commit, Verdict.abort, Outcome, Outcome.noOutcome, Outcome.noted, Outcome.done, Row, Table}
+use Rattle.rules.specs.Tables.{Result.OK, Result.ABORT, Result.ABSTAIN, Result.RETRY, Prepare, Prepare.noPrepare, Prepare.tentative, Prepare.final, Verdict.commit, Verdict.abort, Outcome, Outcome.noOutcome, Outcome.noted, Outcome.done, Row, Table, Model, normalMode}
+use Rattle.rules.specs.Messages.{Message, Message.proposePrepare, Message.finalisePrepare, Message.proposeOutcome, Message.finaliseOutcome, Message.changeView, Message.startView, Message.readRegister}
+use Rattle.rules.specs.Circumstances.{belowLimit}
+use Rattle.rules.specs.Answers.{answer}
+use Rattle.rules.specs.Check.{check}
 use Rattle.cases.specs.Kinds.{Case, Case.merged}
 use Rattle.cases.specs.Marked.{reads, writes, row, prepared, changing}
 
@@ -45,4 +49,45 @@ beside =
     -- equal retry stamps are agreed; unequal ones are not, so the row is checked, and nothing is there that clashes
     ∷ merged 1 (retries 30 30) 20 (final (RETRY 30))
     ∷ merged 1 (retries 30 40) 20 (final OK)
+    ∷ []
+
+-- ---- messages to one box
+
+-- the numbers that a box of this model answers, message after message
+unfoldable pub numbers : Model → Table → List Message → List ℕ
+numbers M T [] = []
+numbers M T (m ∷ ms) = let a = answer M belowLimit check T m in a .number ∷ numbers M (a .table) ms
+
+-- a box that is full with two rows
+abbrev pub twoRows : Model
+twoRows = record { rowLimit = 2; leastBuffer = 0 }
+
+-- an image that starts view v in a group of three, if it names the right box
+abbrev pub starting : ℕ → ℕ → Table
+starting v box = record { box = box; n = 3; mode = normalMode; view = v; promised = v; start = 1; rows = row 65537 writes (final OK) (done commit) ∷ [] }
+
+unfoldable pub messages : List Message
+messages =
+    proposePrepare 65537 writes
+    ∷ proposePrepare 65537 (reads 0)
+    ∷ proposePrepare 0 writes
+    ∷ finalisePrepare 65537 1 OK
+    ∷ finalisePrepare 65538 0 OK
+    ∷ finalisePrepare 65537 0 OK
+    ∷ finalisePrepare 65537 0 ABORT
+    ∷ finaliseOutcome 65537 0 commit
+    ∷ proposeOutcome 65537 commit writes
+    ∷ proposeOutcome 65537 abort writes
+    ∷ finaliseOutcome 65537 0 commit
+    ∷ readRegister 65537 5
+    ∷ readRegister 65537 64
+    ∷ proposePrepare 70000 writes
+    ∷ proposeOutcome 70001 abort writes
+    ∷ changeView 0
+    ∷ changeView 3
+    ∷ proposePrepare 70000 writes
+    ∷ startView 2 (starting 2 2)
+    ∷ startView 3 (starting 3 1)
+    ∷ startView 3 (starting 3 0)
+    ∷ readRegister 65537 5
     ∷ []

@@ -12,7 +12,7 @@ use borrow.Author.Tests.{eqb-true, ltb-true, leb-false, lt-ltb, not-false}
 use Rattle.rules.specs.Tests.{both, either, every, isSome}
 use Rattle.rules.specs.Groups.{isGroup, fOf}
 use Rattle.rules.specs.Stamps.{Body, isStamp, bodyByRule}
-use Rattle.rules.specs.Tables.{Result, Result.OK, Result.ABORT, Result.ABSTAIN, Result.RETRY, resultCode, verdictCode, Prepare, Prepare.noPrepare, Prepare.tentative, Prepare.final, Verdict, Verdict.commit, Verdict.abort, Outcome, Outcome.noOutcome, Outcome.noted, Outcome.done, prepareCode, outcomeCode, resultByRule, retryByRule, somethingHeld, Row, rowByRule, rising, Model, Table, normalMode, changingMode, isView, modeByRule, tableByRule, freshTable}
+use Rattle.rules.specs.Tables.{Result.OK, Result.ABORT, Prepare, Prepare.noPrepare, Prepare.tentative, Prepare.final, Verdict, Verdict.commit, Verdict.abort, Outcome, Outcome.noOutcome, Outcome.noted, Outcome.done, prepareCode, outcomeCode, resultByRule, retryByRule, somethingHeld, Row, rowByRule, rising, Model, Table, normalMode, changingMode, isView, modeByRule, tableByRule, freshTable}
 use Rattle.rules.specs.Numbers.{Number, Number.badMessage, Number.full, Number.oldView, order}
 use Rattle.rules.specs.Messages.{Message, Message.proposePrepare, Message.finalisePrepare, Message.proposeOutcome, Message.finaliseOutcome, Message.changeView, Message.startView, Message.readRegister, Check, held, changed, added, withPrepare, withOutcome, resultFor, answered, notedAs, prepareProposed, prepareFinalised, outcomeProposed, outcomeFinalised, withRows, promising, keepingBox, tableAfter}
 use Rattle.rules.specs.Circumstances.{Room, badGroup, belowLimit, messageByRule, startsView, newButFull, changesToOldView, furtherCircumstances, circumstances}
@@ -22,7 +22,7 @@ use Rattle.rules.proofs.Lists.{_∈_, places, every-one, all-every}
 use Rattle.rules.proofs.Check.{CheckByRule}
 use Rattle.rules.proofs.Rows.{rising-added, rising-changed, length-added, length-changed, added-from, changed-from}
 use Rattle.rules.proofs.Numbers.{number-done}
-use Rattle.rules.proofs.Tables.{stamp-positive, RowByRule, row-facts, row-by, ByRule, table-facts, table-by}
+use Rattle.rules.proofs.Tables.{verdict-counts, result-counts, stamp-positive, RowByRule, row-facts, row-by, ByRule, table-facts, table-by}
 
 -- what later layers ask of any rule of room: that it never goes past the row limit
 abbrev pub RoomFits : Room → Type 0
@@ -75,16 +75,6 @@ module _ (M : Model) (T : Table) (t : ByRule M T) where
       with-rows (added r (T .rows)) (omega (arith, t .start)) (omega arith) (rising-added r 0 (T .rows) low new (t .rise)) (every-added r (T .rows) k (t .rows))
 
 -- ---- what messages do to a row keeps its rule
-
-verdict-counts : (v : Verdict) → 0 < verdictCode v
-verdict-counts commit = omega arith
-verdict-counts abort = omega arith
-
-result-counts : (r : Result) → 0 < resultCode r
-result-counts OK = omega arith
-result-counts ABORT = omega arith
-result-counts ABSTAIN = omega arith
-result-counts (RETRY s) = omega arith
 
 with-prepare : (p : Prepare) (r : Row) → 0 < prepareCode p → retryByRule p ≡ true → rowByRule r ≡ true → rowByRule (withPrepare p r) ≡ true
 unfolding somethingHeld

@@ -12,8 +12,8 @@ use Rattle.rules.specs.Stamps.{Access, Body, isStamp}
 use Rattle.rules.specs.Tables.{Result.OK, Result.ABORT, Result.ABSTAIN, Result.RETRY, Outcome.noOutcome, Outcome.noted, Verdict, Verdict.commit, Verdict.abort, resultByRule, Row, rowByRule}
 use Rattle.rules.specs.Messages.{Check, withOutcome}
 use Rattle.rules.specs.Check.{committed, prepared, overwrites, ruleA, ruleB, ruleC, retryStamp, check, clash, accepted}
-use Rattle.rules.proofs.Logic.{impossible, cases, both-left, both-right, both-true, either-first, either-second, either-false, either-comm}
-use Rattle.rules.proofs.Lists.{_∈_, any-append, those-append, greatest-append, any-none, any-some, some-any, every-one, those-of, those-none, in-those, greatest-above, greatest-is}
+use Rattle.rules.proofs.Logic.{impossible, cases, either-cases, both-left, both-right, both-true, either-first, either-second, either-false, either-comm}
+use Rattle.rules.proofs.Lists.{_∈_, any-append, those-append, greatest-append, any-none, any-some, some-any, every-one, those-of, those-none, those-those, any-those, in-those, greatest-above, greatest-is}
 
 -- ---- over ++: A and C are Lists.any-append at their rules, and B's stamp is the greater one
 
@@ -160,6 +160,35 @@ module _ (rows : List Row) (s : ℕ) (x : Body) where
       go : (any (ruleB committed s x) rows ≡ true) ⊎ (any (ruleB committed s x) rows ≡ false) → any (ruleB committed s x) rows ≡ ltb 0 (retryStamp rows s x)
       go (inl h) = let (r, m, b, e) = retry-is h in let l = above r b in h ∙ sym (lt-ltb 0 (retryStamp rows s x) (omega arith))
       go (inr h) = rw (h, those-none (ruleB committed s x) rows h) refl
+
+-- ---- only accepted rows count
+
+a-accepted : (s : ℕ) (x : Body) (r : Row) → ruleA committed s x r ≡ true → accepted r ≡ true
+unfolding ruleA accepted
+a-accepted s x r h = either-first _ _ (both-left _ _ h)
+
+b-accepted : (s : ℕ) (x : Body) (r : Row) → ruleB committed s x r ≡ true → accepted r ≡ true
+unfolding ruleB accepted
+b-accepted s x r h = either-first _ _ (both-left _ _ h)
+
+c-accepted : (s : ℕ) (x : Body) (r : Row) → ruleC s x r ≡ true → accepted r ≡ true
+unfolding ruleA ruleB ruleC accepted
+c-accepted s x r h = go (either-cases _ _ h)
+  where
+    go : (both (prepared r) (overwrites (r .stamp) (r .body .writes) s (x .reads)) ≡ true) ⊎ (both (prepared r) (overwrites s (x .writes) (r .stamp) (r .body .reads)) ≡ true) → either (committed r) (prepared r) ≡ true
+    go (inl k) = either-second _ _ (both-left _ _ k)
+    go (inr k) = either-second _ _ (both-left _ _ k)
+
+-- a check may pass over rows that are not accepted: so one that sees only settled rows may look at all
+pub check-those : (test : Row → Bool) → ((r : Row) → accepted r ≡ true → test r ≡ true) → (rows : List Row) (s : ℕ) (x : Body) → check (those test rows) s x ≡ check rows s x
+unfolding check retryStamp
+check-those test h rows s x =
+    rw (
+      any-those (ruleA committed s x) test (λ r k. h r (a-accepted s x r k)) rows,
+      any-those (ruleB committed s x) test (λ r k. h r (b-accepted s x r k)) rows,
+      those-those (ruleB committed s x) test (λ r k. h r (b-accepted s x r k)) rows,
+      any-those (ruleC s x) test (λ r k. h r (c-accepted s x r k)) rows,
+    )
 
 -- ---- results of a check keep the rows' rule
 

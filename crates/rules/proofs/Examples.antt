@@ -1,12 +1,20 @@
--- Computed on the definitions: where each inequality of the check turns, and the order of the numbers.
+-- Computed on the definitions: where each inequality of the check turns, the order of the numbers, one merge and the count case by case.
 use mathlib.Core.Path.{_≡_, refl}
 use mathlib.Core.Bool.{true, false}
 use mathlib.Core.List.{List, [], _∷_, map}
+use mathlib.Core.Option.{some}
 use Prim.Native.Nat.{ℕ}
-use Rattle.rules.specs.Tests.{both, either, any}
-use Rattle.rules.specs.Stamps.{Access}
+use Rattle.rules.specs.Tests.{both, either, any, count, those, greatest, somePair, twice, firstOf, allOf}
+use Rattle.rules.specs.Groups.{isGroup}
+use Rattle.rules.specs.Stamps.{Access, Body, isStamp, sameAccesses, sameBody}
+use Rattle.rules.specs.Tables.{Result, Result.OK, Result.ABORT, Result.ABSTAIN, Result.RETRY, Prepare, Prepare.noPrepare, Prepare.tentative, Prepare.final, Verdict.commit, Verdict.abort, Outcome, Outcome.noOutcome, Outcome.noted, Outcome.done, sameResult, resultByRule, somethingHeld, Row, Table, normalMode, changingMode, valley}
 use Rattle.rules.specs.Numbers.{Number.badMessage, Number.full, Number.unknown, Number.oldView, numberCode, order, applies, first, number}
-use Rattle.rules.specs.Check.{overwrites}
+use Rattle.rules.specs.Messages.{held, changed}
+use Rattle.rules.specs.Check.{committed, prepared, overwrites, ruleA, ruleB, ruleC, retryStamp, check}
+use Rattle.rules.specs.Merge.{used, withStamp, withStamps, stamps, rowsOf, mergedOutcome, finalOf, isAgreed, agreedOf, standing, uncheckedRow, uncheckedRows, toCheck, isSettled, checkedAt, checkedInTurn, mergedRows, mergedTable, areWrong, twoBodies, contradictory, mergeCircumstances, mergeNumber, merge}
+use Rattle.rules.specs.Count.{Heard, Counted.fast, Counted.slow, Counted.wait, Counted.refused, unequalViews, badReplies, agreeing, isFast, unequalFinalHeard, fastBesideFinal, countCircumstances, countNumber, fastOf, finalHeard, greatestRetry, slowResult, decided, counted}
+
+-- ---- the check
 
 abbrev one : ℕ → ℕ → List Access
 one register x = record { register = register; number = x } ∷ []
@@ -16,6 +24,22 @@ pub between : (overwrites 11 (one 5 7) 13 (one 5 10) ≡ true) × (overwrites 11
 unfolding overwrites any both either
 between = (refl, refl, refl, refl, refl)
 
+abbrev reading : ℕ → ℕ → Body
+reading register version = record { reads = one register version; writes = [] }
+
+abbrev writing : ℕ → Body
+writing register = record { reads = []; writes = one register 7 }
+
+abbrev row : ℕ → Body → Prepare → Outcome → Row
+row s x p o = record { stamp = s; body = x; prepare = p; outcome = o }
+
+-- two committed readers above the write: "RETRY with the greatest such s'"
+pub greatest-reader : check (row 30 (reading 5 10) (final OK) (done commit) ∷ row 40 (reading 5 10) noPrepare (done commit) ∷ []) 20 (writing 5) ≡ RETRY 40
+unfolding check retryStamp ruleA ruleB ruleC committed prepared overwrites any those greatest both either
+greatest-reader = refl
+
+-- ---- the numbers
+
 -- "in this order: 1, 2, 3, 4, 9, 10, 11, 8, 5, 6, 7"
 pub in-this-order : map numberCode order ≡ 1 ∷ 2 ∷ 3 ∷ 4 ∷ 9 ∷ 10 ∷ 11 ∷ 8 ∷ 5 ∷ 6 ∷ 7 ∷ []
 in-this-order = refl
@@ -24,3 +48,56 @@ in-this-order = refl
 pub first-wins : (number ((full, true) ∷ (unknown, true) ∷ (oldView, true) ∷ (badMessage, false) ∷ []) ≡ 10) × (number ((full, true) ∷ (unknown, true) ∷ []) ≡ 8) × (number ((full, false) ∷ []) ≡ 0)
 unfolding number first applies both either
 first-wins = (refl, refl, refl)
+
+-- ---- a merge for view 7 of three tables of a group of five, the third of an older view
+
+abbrev changingTo7 : ℕ → ℕ → List Row → Table
+changingTo7 box view rows = record { box = box; n = 5; mode = changingMode; view = view; promised = 7; start = 0; rows = rows }
+
+abbrev gathered : List Table
+gathered =
+    changingTo7 0 3 (row 10 (writing 5) (final OK) noOutcome ∷ row 20 (reading 5 0) (tentative OK) noOutcome ∷ row 30 (writing 6) (tentative ABORT) noOutcome ∷ row 40 (writing 6) (tentative OK) (noted commit) ∷ [])
+    ∷ changingTo7 1 3 (row 20 (reading 5 0) (tentative OK) noOutcome ∷ row 30 (writing 6) (tentative ABORT) noOutcome ∷ row 50 (writing 8) noPrepare (noted abort) ∷ row 60 (writing 9) (tentative (RETRY 80)) noOutcome ∷ [])
+    ∷ changingTo7 4 2 (row 60 (writing 9) (tentative (RETRY 80)) noOutcome ∷ row 70 (writing 9) (final OK) noOutcome ∷ [])
+    ∷ []
+
+-- 10 was final; 20 was agreed OK, and is checked against it; 30 was agreed; 40 was open, with commit; 50 was never prepared; 60 was open, and is checked; 70 is in the older table alone
+pub one-merge : merge valley check 7 gathered ≡ some (record {
+  box = 2;
+  n = 5;
+  mode = normalMode;
+  view = 7;
+  promised = 7;
+  start = 6;
+  rows = row 10 (writing 5) (final OK) noOutcome ∷ row 20 (reading 5 0) (final ABSTAIN) noOutcome ∷ row 30 (writing 6) (final ABORT) noOutcome ∷ row 40 (writing 6) (final OK) (done commit) ∷ row 50 (writing 8) noPrepare (done abort) ∷ row 60 (writing 9) (final OK) noOutcome ∷ [];
+})
+unfolding both either any count those greatest somePair twice firstOf allOf sameAccesses sameBody sameResult somethingHeld applies first number held changed committed prepared overwrites ruleA ruleB ruleC retryStamp check used withStamp withStamps stamps rowsOf mergedOutcome finalOf isAgreed agreedOf standing uncheckedRow uncheckedRows toCheck isSettled checkedAt checkedInTurn mergedRows mergedTable areWrong twoBodies contradictory mergeCircumstances mergeNumber merge
+one-merge = refl
+
+-- ---- the count in a group of three
+
+abbrev says : ℕ → Result → Heard
+says box r = record { box = box; view = 0; result = r; isFinal = false }
+
+abbrev saysFinal : ℕ → Result → Heard
+saysFinal box r = record { box = box; view = 0; result = r; isFinal = true }
+
+abbrev heardLists : List (List Heard)
+heardLists =
+    []
+    ∷ (saysFinal 0 OK ∷ [])
+    ∷ (says 0 OK ∷ says 1 OK ∷ says 2 OK ∷ [])
+    ∷ (says 0 OK ∷ says 1 OK ∷ [])
+    ∷ (says 0 OK ∷ says 1 ABORT ∷ says 2 OK ∷ [])
+    ∷ (says 0 (RETRY 30) ∷ says 1 (RETRY 40) ∷ says 2 ABSTAIN ∷ [])
+    ∷ (says 0 OK ∷ says 1 ABSTAIN ∷ [])
+    ∷ (says 0 OK ∷ saysFinal 1 ABSTAIN ∷ [])
+    ∷ (saysFinal 0 OK ∷ saysFinal 1 ABSTAIN ∷ [])
+    ∷ (says 0 OK ∷ says 0 OK ∷ [])
+    ∷ (says 0 OK ∷ says 3 OK ∷ [])
+    ∷ []
+
+pub counts : map (counted 3) heardLists ≡
+    wait ∷ wait ∷ fast OK ∷ slow OK ∷ slow ABORT ∷ slow (RETRY 40) ∷ slow ABSTAIN ∷ slow ABSTAIN ∷ refused 6 ∷ refused 3 ∷ refused 3 ∷ []
+unfolding both either any count greatest somePair twice firstOf isGroup isStamp sameResult resultByRule applies first number unequalViews badReplies agreeing isFast unequalFinalHeard fastBesideFinal countCircumstances countNumber fastOf finalHeard greatestRetry slowResult decided counted
+counts = refl

@@ -10,7 +10,7 @@ use native.Mathlib.Nat.{zero-max, max-zero, le-max-left, le-max-right, max-le, m
 use lib.Dec.{leb}
 use borrow.Author.Tests.{leb-true, leb-false, not-true, not-false}
 use Rattle.rules.specs.Tests.{both, either, any, every, count, kept, those, greatest, somePair, provided, orElse, andAlso, firstOf, allOf}
-use Rattle.rules.proofs.Logic.{impossible, not-true-of, not-false-of, cases, both-assoc, either-cases, either-left, either-right, either-false, either-assoc}
+use Rattle.rules.proofs.Logic.{impossible, same-test, not-true-of, not-false-of, cases, both-assoc, either-cases, either-left, either-right, either-false, either-assoc}
 
 infix 20 _∈_
 abbrev pub _∈_ : {A : Type 0} → A → List A → Type 0
@@ -138,6 +138,26 @@ module _ {A : Type 0} where
       go true e (inr m′) below = List·Memᴰ·tail (below m′)
       go false e (inl q) below = impossible (ap test (sym q) ∙ t) e
       go false e (inr m′) below = below m′
+
+  -- sifting first by a test that all who pass the other pass changes nothing
+  pub those-those : (p test : A → Bool) → ((x : A) → p x ≡ true → test x ≡ true) → (xs : List A) → those p (those test xs) ≡ those p xs
+  unfolding those
+  those-those p test h [] = refl
+  those-those p test h (x ∷ xs) = go (cases (test x)) (cases (p x)) (those-those p test h xs)
+    where
+      go : (test x ≡ true) ⊎ (test x ≡ false) → (p x ≡ true) ⊎ (p x ≡ false) → those p (those test xs) ≡ those p xs → those p (kept (test x) x (those test xs)) ≡ kept (p x) x (those p xs)
+      go (inl t) q e = rw (t, e) refl
+      go (inr t) (inl q) e = impossible (h x q) t
+      go (inr t) (inr q) e = rw (t, q) e
+
+  pub any-those : (p test : A → Bool) → ((x : A) → p x ≡ true → test x ≡ true) → (xs : List A) → any p (those test xs) ≡ any p xs
+  any-those p test h xs = same-test _ _ there back
+    where
+      there : any p (those test xs) ≡ true → any p xs ≡ true
+      there e = let (x, m, k) = any-some p (those test xs) e in some-any p xs x (those-of test xs x m .0) k
+
+      back : any p xs ≡ true → any p (those test xs) ≡ true
+      back e = let (x, m, k) = any-some p xs e in some-any p (those test xs) x (in-those test xs x m (h x k)) k
 
   pub greatest-above : (number : A → ℕ) (xs : List A) (x : A) → x ∈ xs → number x ≤ greatest number xs
   unfolding greatest

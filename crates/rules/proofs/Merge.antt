@@ -1,6 +1,6 @@
 -- The merge: which tables and rows it is made of, and that it is a table by the rules that starts its view.
 use mathlib.Core.Path.{_≡_, refl, sym, ap, _∙_}
-use mathlib.Core.Bool.{Bool, true, false, cond}
+use mathlib.Core.Bool.{Bool, true, false, not, cond}
 use mathlib.Core.Logic.{_⊎_, inl, inr}
 use mathlib.Core.List.{List, [], _∷_, _++_, map, List·Memᴰ·head, List·Memᴰ·cases-cons, List·Memᴰ·not-nil, Memᴰ·append-left, Memᴰ·append-right, Memᴰ·of-map}
 use mathlib.Core.Option.{some}
@@ -10,13 +10,13 @@ use native.Mathlib.Nat.{mod-lt}
 use lib.Dec.{eqb, leb}
 use lib.ListN.{length, length-map}
 use borrow.Author.Tests.{eq-eqb, lt-ltb}
-use Rattle.rules.specs.Tests.{both, either, every}
+use Rattle.rules.specs.Tests.{both, either, every, those}
 use Rattle.rules.specs.Groups.{fOf, agreementCount}
 use Rattle.rules.specs.Stamps.{isStamp, countsByRule, contentsByRule}
 use Rattle.rules.specs.Tables.{Result, Result.OK, Result.ABORT, Result.ABSTAIN, Result.RETRY, Prepare, Prepare.noPrepare, Prepare.final, Verdict, Verdict.commit, Verdict.abort, Outcome, Outcome.noOutcome, Outcome.noted, Outcome.done, prepareCode, outcomeCode, resultByRule, retryByRule, somethingHeld, Row, rowByRule, rising, Model, Table, normalMode, modeByRule, tableByRule}
 use Rattle.rules.specs.Messages.{Check, held, changed, withPrepare}
 use Rattle.rules.specs.Circumstances.{settled, startsView}
-use Rattle.rules.specs.Merge.{used, stamps, rowsOf, mergedOutcome, Standing, Standing.hasNone, Standing.hasFinal, Standing.hasAgreed, Standing.hasOpen, standing, uncheckedPrepare, bodyOf, uncheckedRow, uncheckedRows, hasNoOutcome, isAgreedOK, isOpen, toCheck, settledRows, checkedAt, checkedInTurn, mergedRows, groupOf, mergedTable, mergeNumber, merge}
+use Rattle.rules.specs.Merge.{used, stamps, rowsOf, mergedOutcome, Standing, Standing.hasNone, Standing.hasFinal, Standing.hasAgreed, Standing.hasOpen, standing, uncheckedPrepare, bodyOf, uncheckedRow, uncheckedRows, amongAgreed, amongOpen, toCheck, isSettled, checkedAt, checkedInTurn, mergedRows, groupOf, mergedTable, mergeNumber, merge}
 use Rattle.rules.proofs.Logic.{impossible, both-right, both-true, either-first, eqb-self}
 use Rattle.rules.proofs.Lists.{_∈_, every-one, all-every, those-of, in-those, in-all}
 use Rattle.rules.proofs.Check.{CheckByRule}
@@ -57,7 +57,7 @@ stamps-unchecked agreement Ts = go (stamps Ts)
 pub merged-stamps : (check : Check) (agreement : ℕ) (Ts : List Table) → stampsOf (mergedRows check agreement Ts) ≡ stamps Ts
 unfolding mergedRows
 merged-stamps check agreement Ts =
-    stamps-in-turn check (toCheck isOpen agreement Ts) _ ∙ (stamps-in-turn check (toCheck isAgreedOK agreement Ts) _ ∙ stamps-unchecked agreement Ts)
+    stamps-in-turn check (toCheck amongOpen agreement Ts) _ ∙ (stamps-in-turn check (toCheck amongAgreed agreement Ts) _ ∙ stamps-unchecked agreement Ts)
 
 -- rows whose stamps rise
 rising-stamps : (low : ℕ) (rows : List Row) → RisingFrom (suc low) (stampsOf rows) → rising low rows ≡ true
@@ -81,9 +81,9 @@ held-rule w h = row-by (record { stamp = w .stamp; counts = w .counts; held = h;
 abbrev pub AllOnTheWay : List ℕ → List Row → Type 0
 AllOnTheWay ss rows = (r : Row) → r ∈ rows → OnTheWay ss r
 
-settled-rows-rule : {ss : List ℕ} (rows : List Row) → AllOnTheWay ss rows → every rowByRule (settledRows rows) ≡ true
-unfolding settledRows
-settled-rows-rule rows h = all-every rowByRule (settledRows rows) (λ r m. let (i, k) = those-of _ rows r m in held-rule (h r i) k)
+settled-rows-rule : {ss : List ℕ} (rows : List Row) → AllOnTheWay ss rows → every rowByRule (those isSettled rows) ≡ true
+unfolding isSettled
+settled-rows-rule rows h = all-every rowByRule (those isSettled rows) (λ r m. let (i, k) = those-of _ rows r m in held-rule (h r i) k)
 
 checked-settled : (r : Row) (q : Result) → settled r ≡ true → settled (withPrepare (final q) r) ≡ true
 unfolding settled either
@@ -105,7 +105,7 @@ module _ (check : Check) (checks : CheckByRule check) where
   step s ss rows h q m = go (changed-from s _ rows q m)
     where
       Change : Row → Row
-      Change r = withPrepare (final (check (settledRows rows) s (r .body))) r
+      Change r = withPrepare (final (check (those isSettled rows) s (r .body))) r
 
       moved : (r : Row) → r ∈ rows → OnTheWay ss (Change r)
       moved r i =
@@ -113,7 +113,7 @@ module _ (check : Check) (checks : CheckByRule check) where
           record {
             stamp = w .stamp;
             counts = w .counts;
-            retry = checks (settledRows rows) s (r .body) (settled-rows-rule rows h);
+            retry = checks (those isSettled rows) s (r .body) (settled-rows-rule rows h);
             contents = w .contents;
             shut = checked-settled r _ (w .shut);
             waits = inl (final-held _ (r .outcome));
@@ -190,9 +190,9 @@ module _ (agreement s : ℕ) (rs : List Row) (good : (r : Row) → r ∈ rs → 
   unchecked-retry hasOpen (done commit) h = refl
   unchecked-retry hasOpen (done abort) h = refl
 
-  -- it holds something, or it is agreed OK or open, and without outcome
+  -- it holds something, or it waits among the agreed or the open
   abbrev ToCome : Standing → Outcome → Type 0
-  ToCome c o = (somethingHeld (uncheckedPrepare c o) o ≡ true) ⊎ ((both (isAgreedOK c) (hasNoOutcome o) ≡ true) ⊎ (both (isOpen c) (hasNoOutcome o) ≡ true))
+  ToCome c o = (somethingHeld (uncheckedPrepare c o) o ≡ true) ⊎ ((both (amongAgreed c) (not (somethingHeld (uncheckedPrepare c o) o)) ≡ true) ⊎ (both (amongOpen c) (not (somethingHeld (uncheckedPrepare c o) o)) ≡ true))
 
   outcome-held : (p : Prepare) (v : Verdict) → somethingHeld p (done v) ≡ true
   unfolding somethingHeld
@@ -203,7 +203,7 @@ module _ (agreement s : ℕ) (rs : List Row) (good : (r : Row) → r ∈ rs → 
   nothing-held r m p o = impossible (row-facts r (good r m .0) .held) (rw (p, o) refl)
 
   to-come : (c : Standing) (o : Outcome) → Says rs c → (q : Row) → q ∈ rs → (o ≡ noOutcome → q .outcome ≡ noOutcome) → ((v : Verdict) → o ≡ noted v → ⊥) → ToCome c o
-  unfolding both
+  unfolding both somethingHeld
   to-come c (done v) h q m n d = inl (outcome-held (uncheckedPrepare c (done v)) v)
   to-come c (noted v) h q m n d = absurd (d v refl)
   to-come hasNone noOutcome h q m n d = nothing-held q m (h q m) (n refl)
@@ -238,12 +238,12 @@ module _ (M : Model) (agreement : ℕ) (Ts : List Table) (rules : every (tableBy
 
   -- first the agreed, then the open stamps
   abbrev turns : List ℕ
-  turns = toCheck isAgreedOK agreement Ts ++ (toCheck isOpen agreement Ts ++ [])
+  turns = toCheck amongAgreed agreement Ts ++ (toCheck amongOpen agreement Ts ++ [])
 
-  turn-of : (s : ℕ) → s ∈ stamps Ts → (both (isAgreedOK (standing agreement (rowsOf Ts s))) (hasNoOutcome (mergedOutcome (rowsOf Ts s))) ≡ true) ⊎ (both (isOpen (standing agreement (rowsOf Ts s))) (hasNoOutcome (mergedOutcome (rowsOf Ts s))) ≡ true) → s ∈ turns
-  unfolding toCheck
-  turn-of s m (inl h) = Memᴰ·append-left (toCheck isOpen agreement Ts ++ []) (in-those _ (stamps Ts) s m h)
-  turn-of s m (inr h) = Memᴰ·append-right (toCheck isAgreedOK agreement Ts) (Memᴰ·append-left [] (in-those _ (stamps Ts) s m h))
+  turn-of : (s : ℕ) → s ∈ stamps Ts → let held = somethingHeld (uncheckedPrepare (standing agreement (rowsOf Ts s)) (mergedOutcome (rowsOf Ts s))) (mergedOutcome (rowsOf Ts s)) in (both (amongAgreed (standing agreement (rowsOf Ts s))) (not held) ≡ true) ⊎ (both (amongOpen (standing agreement (rowsOf Ts s))) (not held) ≡ true) → s ∈ turns
+  unfolding toCheck isSettled uncheckedRow
+  turn-of s m (inl h) = Memᴰ·append-left (toCheck amongOpen agreement Ts ++ []) (in-those _ (stamps Ts) s m h)
+  turn-of s m (inr h) = Memᴰ·append-right (toCheck amongAgreed agreement Ts) (Memᴰ·append-left [] (in-those _ (stamps Ts) s m h))
 
   unchecked-way : (s : ℕ) → s ∈ stamps Ts → OnTheWay turns (uncheckedRow agreement s (rowsOf Ts s))
   unfolding uncheckedRow settled
@@ -279,7 +279,7 @@ module _ (M : Model) (agreement : ℕ) (Ts : List Table) (rules : every (tableBy
   merged-way : (check : Check) → CheckByRule check → AllOnTheWay [] (mergedRows check agreement Ts)
   unfolding mergedRows
   merged-way check checks =
-      in-turn check checks (toCheck isOpen agreement Ts) [] _ (in-turn check checks (toCheck isAgreedOK agreement Ts) (toCheck isOpen agreement Ts ++ []) (uncheckedRows agreement Ts) all-on-the-way)
+      in-turn check checks (toCheck amongOpen agreement Ts) [] _ (in-turn check checks (toCheck amongAgreed agreement Ts) (toCheck amongOpen agreement Ts ++ []) (uncheckedRows agreement Ts) all-on-the-way)
 
   merged-rows-rule : (check : Check) → CheckByRule check → every rowByRule (mergedRows check agreement Ts) ≡ true
   merged-rows-rule check checks = all-every rowByRule _ (λ r m. let w = merged-way check checks r m in held-rule w (go r (w .waits)))

@@ -4,27 +4,31 @@ use mathlib.Core.Bool.{Bool, true, false}
 use mathlib.Core.Logic.{_⊎_, inl, inr}
 use mathlib.Core.List.{List}
 use mathlib.Core.Option.{Option, none, some}
-use Prim.Native.Nat.{ℕ}
+use Prim.Native.Nat.{ℕ, _+_}
 use native.Mathlib.Omega.{arith}
-use Rattle.rules.specs.Tests.{any}
-use Rattle.rules.specs.Tables.{Result, Result.OK, Result.ABORT, Result.ABSTAIN, Result.RETRY, Prepare, Prepare.noPrepare, Prepare.tentative, Prepare.final, Verdict, Verdict.commit, Verdict.abort, Outcome, Outcome.noOutcome, Outcome.noted, Outcome.done, Row}
-use Rattle.rules.specs.Merge.{holdsVerdict, mergedOutcome, finalResult, finalOf, tentativeResult, isAgreed, ifAgreed, agreedOf, holdsPrepare, Standing, Standing.hasNone, Standing.hasFinal, Standing.hasAgreed, Standing.hasOpen, standingFrom, standing, uncheckedPrepare, hasNoOutcome}
+use lib.Dec.{eqb, ltb, leb}
+use borrow.Author.Tests.{lt-ltb}
+use Rattle.rules.specs.Tests.{both, either, any, those}
+use Rattle.rules.specs.Tables.{Result, Result.OK, Result.ABORT, Result.ABSTAIN, Result.RETRY, Prepare, Prepare.noPrepare, Prepare.tentative, Prepare.final, Verdict, Verdict.commit, Verdict.abort, Outcome, Outcome.noOutcome, Outcome.noted, Outcome.done, resultCode, prepareCode, verdictCode, outcomeCode, somethingHeld, Row}
+use Rattle.rules.specs.Stamps.{Body}
+use Rattle.rules.specs.Check.{committed, prepared, check, accepted}
+use Rattle.rules.specs.Merge.{holdsVerdict, mergedOutcome, finalResult, finalOf, tentativeResult, isAgreed, ifAgreed, agreedOf, holdsPrepare, Standing, Standing.hasNone, Standing.hasFinal, Standing.hasAgreed, Standing.hasOpen, standingFrom, standing, uncheckedPrepare, isSettled}
 use Rattle.rules.proofs.Logic.{none-some, impossible, cases}
 use Rattle.rules.proofs.Lists.{_∈_, any-none, provided-some, first-from}
+use Rattle.rules.proofs.Check.{check-those}
+use Rattle.rules.proofs.Tables.{verdict-counts, result-counts}
 
 -- ---- what stands without a check
 
--- a row that is accepted without a check was final, or has an outcome: an agreed OK alone is not enough
-pub unchecked-ok : (c : Standing) (o : Outcome) → uncheckedPrepare c o ≡ final OK → (c ≡ hasFinal OK) ⊎ (hasNoOutcome o ≡ false)
-unchecked-ok c (noted v) e = inr refl
-unchecked-ok c (done v) e = inr refl
-unchecked-ok hasNone noOutcome e = let z : _≡_ {A = ℕ} 0 1 = cc in absurd (omega arith)
-unchecked-ok (hasFinal r) noOutcome e = let q : r ≡ OK = cc in inl (ap hasFinal q)
-unchecked-ok (hasAgreed OK) noOutcome e = let z : _≡_ {A = ℕ} 0 1 = cc in absurd (omega arith)
-unchecked-ok (hasAgreed ABORT) noOutcome e = let z : _≡_ {A = ℕ} 0 1 = cc in absurd (omega arith)
-unchecked-ok (hasAgreed ABSTAIN) noOutcome e = let z : _≡_ {A = ℕ} 0 1 = cc in absurd (omega arith)
-unchecked-ok (hasAgreed (RETRY s)) noOutcome e = let z : _≡_ {A = ℕ} 0 1 = cc in absurd (omega arith)
-unchecked-ok hasOpen noOutcome e = let z : _≡_ {A = ℕ} 0 1 = cc in absurd (omega arith)
+-- without an outcome only a final OK is accepted without a check: an agreed OK alone is not enough
+pub unchecked-ok : (c : Standing) → uncheckedPrepare c noOutcome ≡ final OK → c ≡ hasFinal OK
+unchecked-ok hasNone e = let z : _≡_ {A = ℕ} 0 1 = cc in absurd (omega arith)
+unchecked-ok (hasFinal r) e = let q : r ≡ OK = cc in ap hasFinal q
+unchecked-ok (hasAgreed OK) e = let z : _≡_ {A = ℕ} 0 1 = cc in absurd (omega arith)
+unchecked-ok (hasAgreed ABORT) e = let z : _≡_ {A = ℕ} 0 1 = cc in absurd (omega arith)
+unchecked-ok (hasAgreed ABSTAIN) e = let z : _≡_ {A = ℕ} 0 1 = cc in absurd (omega arith)
+unchecked-ok (hasAgreed (RETRY s)) e = let z : _≡_ {A = ℕ} 0 1 = cc in absurd (omega arith)
+unchecked-ok hasOpen e = let z : _≡_ {A = ℕ} 0 1 = cc in absurd (omega arith)
 
 pub is-final : (p : Prepare) (r : Result) → finalResult p ≡ some r → p ≡ final r
 is-final noPrepare r e = none-some e
@@ -77,3 +81,19 @@ module _ (rs : List Row) where
       go none ef (some q) ea h eh = let (r, m, e) = first-from _ rs q ea in (r, m, agreed-from agreement (r .prepare) q e)
       go none ef none ea true eh = tt
       go none ef none ea false eh = λ r m. no-prepare (r .prepare) (any-none _ rs eh r m)
+
+-- ---- an accepted row is settled, so that it does not matter whether a check sees the others
+
+pub accepted-settled : (r : Row) → accepted r ≡ true → isSettled r ≡ true
+unfolding accepted committed prepared isSettled somethingHeld both either
+accepted-settled r h = go (r .prepare) (r .outcome) h
+  where
+    go : (p : Prepare) (o : Outcome) → either (eqb (outcomeCode o) 3) (both (either (eqb (prepareCode p) 1) (eqb (prepareCode p) 5)) (leb (outcomeCode o) 2)) ≡ true → ltb 0 (prepareCode p + outcomeCode o) ≡ true
+    go p (noted v) e = lt-ltb 0 (prepareCode p + verdictCode v) (omega (arith, verdict-counts v))
+    go p (done v) e = lt-ltb 0 (prepareCode p + outcomeCode (done v)) (omega arith)
+    go (tentative r) noOutcome e = lt-ltb 0 (resultCode r + 0) (omega (arith, result-counts r))
+    go (final r) noOutcome e = lt-ltb 0 (4 + resultCode r + 0) (omega arith)
+    go noPrepare noOutcome e = impossible e refl
+
+pub check-settled : (rows : List Row) (s : ℕ) (x : Body) → check (those isSettled rows) s x ≡ check rows s x
+check-settled = check-those isSettled accepted-settled

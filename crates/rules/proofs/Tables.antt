@@ -1,15 +1,15 @@
 -- A row and a table by the rules, fact by fact, and back.
 use mathlib.Core.Path.{_≡_}
 use mathlib.Core.Bool.{true}
+use Prim.Native.Nat.{ℕ, _/_, _%_, _^_, _≤_, _<_}
 use native.Mathlib.Nat.{div-add-mod', div-lt-iff-lt-mul, mod-lt}
 use native.Mathlib.Omega.{arith}
-use Prim.Native.Nat.{_/_, _%_, _^_, ℕ, _≤_, _<_}
 use lib.ListN.{length}
 use borrow.Author.Tests.{ltb-true, lt-ltb, leb-true, le-leb}
 use Rattle.rules.specs.Tests.{every}
 use Rattle.rules.specs.Groups.{isGroup}
 use Rattle.rules.specs.Stamps.{isStamp, stampOf, countsByRule, contentsByRule}
-use Rattle.rules.specs.Tables.{somethingHeld, retryByRule, Row, rowByRule, rising, Model, Table, isView, modeByRule, headerByRule, tableByRule}
+use Rattle.rules.specs.Tables.{Result, Result.OK, Result.ABORT, Result.ABSTAIN, Result.RETRY, Verdict, Verdict.commit, Verdict.abort, resultCode, verdictCode, somethingHeld, retryByRule, Row, rowByRule, rising, Model, Table, isView, modeByRule, headerByRule, tableByRule}
 use Rattle.rules.proofs.Logic.{both-left, both-right, both-true}
 
 pub stamp-positive : (s : ℕ) → isStamp s ≡ true → 0 < s
@@ -22,6 +22,18 @@ unfolding isStamp stampOf
 stamp-parts s h =
     let l : s < 2 ^ 48 = ltb-true s (2 ^ 48) (both-right _ _ h) in
     (div-add-mod' s 65536, div-lt-iff-lt-mul {k = 65536} {x = s} {y = 2 ^ 32} (omega arith) .1 l, mod-lt s (omega arith))
+
+-- ---- codes
+
+pub verdict-counts : (v : Verdict) → 0 < verdictCode v
+verdict-counts commit = omega arith
+verdict-counts abort = omega arith
+
+pub result-counts : (r : Result) → 0 < resultCode r
+result-counts OK = omega arith
+result-counts ABORT = omega arith
+result-counts ABSTAIN = omega arith
+result-counts (RETRY s) = omega arith
 
 -- ---- a row
 

@@ -144,37 +144,29 @@ uncheckedRows agreement Ts = map (λ s. uncheckedRow agreement s (rowsOf Ts s)) 
 
 -- ---- the checks
 
-abbrev pub hasNoOutcome : Outcome → Bool
-hasNoOutcome noOutcome = true
-hasNoOutcome (noted v) = false
-hasNoOutcome (done v) = false
+-- a settled row holds something; one that waits for its check holds nothing yet
+unfoldable pub isSettled : Row → Bool
+isSettled r = somethingHeld (r .prepare) (r .outcome)
 
-abbrev pub isAgreedOK : Standing → Bool
-isAgreedOK hasNone = false
-isAgreedOK (hasFinal r) = false
-isAgreedOK (hasAgreed OK) = true
-isAgreedOK (hasAgreed ABORT) = false
-isAgreedOK (hasAgreed ABSTAIN) = false
-isAgreedOK (hasAgreed (RETRY s)) = false
-isAgreedOK hasOpen = false
+abbrev pub amongAgreed : Standing → Bool
+amongAgreed hasNone = false
+amongAgreed (hasFinal r) = false
+amongAgreed (hasAgreed r) = true
+amongAgreed hasOpen = false
 
-abbrev pub isOpen : Standing → Bool
-isOpen hasNone = false
-isOpen (hasFinal r) = false
-isOpen (hasAgreed r) = false
-isOpen hasOpen = true
+abbrev pub amongOpen : Standing → Bool
+amongOpen hasNone = false
+amongOpen (hasFinal r) = false
+amongOpen (hasAgreed r) = false
+amongOpen hasOpen = true
 
--- the stamps to be checked: those of this standing and without outcome, rising
+-- the stamps of such a standing that wait for a check, rising
 unfoldable pub toCheck : (Standing → Bool) → ℕ → List Table → List ℕ
-toCheck is agreement Ts = those (λ s. both (is (standing agreement (rowsOf Ts s))) (hasNoOutcome (mergedOutcome (rowsOf Ts s)))) (stamps Ts)
-
--- a row that is settled holds something; one that waits for its check holds nothing yet
-unfoldable pub settledRows : List Row → List Row
-settledRows rows = those (λ r. somethingHeld (r .prepare) (r .outcome)) rows
+toCheck among agreement Ts = those (λ s. both (among (standing agreement (rowsOf Ts s))) (not (isSettled (uncheckedRow agreement s (rowsOf Ts s))))) (stamps Ts)
 
 -- "a check sees only rows settled before it": the row of stamp s gets its result
 unfoldable pub checkedAt : Check → ℕ → List Row → List Row
-checkedAt check s rows = changed s (λ r. withPrepare (final (check (settledRows rows) s (r .body))) r) rows
+checkedAt check s rows = changed s (λ r. withPrepare (final (check (those isSettled rows) s (r .body))) r) rows
 
 unfoldable pub checkedInTurn : Check → List ℕ → List Row → List Row
 checkedInTurn check [] rows = rows
@@ -183,8 +175,8 @@ checkedInTurn check (s ∷ ss) rows = checkedInTurn check ss (checkedAt check s 
 -- "Checks run over the merged table with final and outcome rows first, then agreed rows in rising stamp order, then open rows in rising order"
 unfoldable pub mergedRows : Check → ℕ → List Table → List Row
 mergedRows check agreement Ts =
-    checkedInTurn check (toCheck isOpen agreement Ts)
-    (checkedInTurn check (toCheck isAgreedOK agreement Ts) (uncheckedRows agreement Ts))
+    checkedInTurn check (toCheck amongOpen agreement Ts)
+    (checkedInTurn check (toCheck amongAgreed agreement Ts) (uncheckedRows agreement Ts))
 
 -- ---- the merge
 
