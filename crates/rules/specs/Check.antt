@@ -35,7 +35,8 @@ retryStamp rows s x = greatest (λ r. r .stamp) (those (ruleB committed s x) row
 unfoldable pub ruleC : ℕ → Body → Row → Bool
 ruleC s x r = either (ruleA prepared s x r) (ruleB prepared s x r)
 
--- "For transaction T at stamp s, in this order": A "ABORT", B "RETRY with the greatest such s'", C "ABSTAIN", "D. Otherwise OK." There is no rule for writes under later accepted writes: "Document 001 also refuses" them
+-- "For transaction T at stamp s, in this order": A "ABORT", B "RETRY with the greatest such s'", C "ABSTAIN", "D. Otherwise OK."
+-- "Document 001 also refuses writes under later accepted writes; its footnote allows the relaxation taken here."
 unfoldable pub check : List Row → ℕ → Body → Result
 check rows s x =
     cond (any (ruleA committed s x) rows) ABORT

@@ -1,5 +1,4 @@
--- 01, 'Numbers returned', row by row: when a message, or a fresh table, is refused. What is seen on bytes alone (row 2, and of row 3 the kind and the length) is said by the calls; row 11 and what a merge or
--- a count adds to rows 3, 5, 6 and 7 stand with them.
+-- 01, 'Numbers returned', row by row: when a message, or a fresh table, is refused. What a merge or a count adds to rows 3, 5, 6 and 7 stands with them.
 use mathlib.Core.Bool.{Bool, false, not}
 use mathlib.Core.List.{List, [], _∷_}
 use mathlib.Core.Option.{Option, none, some}
@@ -21,7 +20,10 @@ tooSmall M length = ltb length (M .leastBuffer)
 unfoldable pub replyTooSmall : ℕ → Bool
 replyTooSmall length = ltb length 24
 
--- ---- 3, "bad message": "kind, length, stamp, body, register or code breaks a rule; fresh: bad n or box"
+-- ---- 2, "bad table": "the lent table (never fresh's buffer or an output) doesn't begin with an image by the rules; for a merge, the run isn't one or more whole images"
+-- the rules are Tables.tableByRule; what bytes are an image is said where bytes are read
+
+-- ---- 3, "bad message": "kind, length, stamp, body, register or code breaks a rule; fresh: bad n or box; count: see there"
 
 unfoldable pub badGroup : ℕ → ℕ → Bool
 badGroup n box = not (both (isGroup n) (ltb box n))
@@ -111,6 +113,8 @@ changesToOldView T v = leb v (T .promised)
 
 unfoldable pub startsOldView : Table → ℕ → Bool
 startsOldView T v = either (ltb v (T .promised)) (leb v (T .view))
+
+-- ---- 11, "wrong tables", is Merge.areWrong
 
 -- ---- which of them a message can meet. Numbers.number says which one wins, so their order here means nothing
 

@@ -1,4 +1,4 @@
--- 01, 'The coordinator's count'.
+-- 01, 'The coordinator's count'. The seven rules that end that chapter are premises about what coordinators send, and no part of the count.
 use mathlib.Core.Bool.{Bool, not, cond}
 use mathlib.Core.List.{List, [], _∷_}
 use mathlib.Core.Option.{Option, none, some}

@@ -104,6 +104,52 @@ fn every_claim_has_all_its_cells() {
     }
 }
 
+/// The words that a definition's comments quote, cut where `..` leaves some out.
+fn quoted(source: &str) -> Vec<String> {
+    source
+        .lines()
+        .filter_map(|line| line.split_once("--"))
+        .flat_map(|(_, comment)| comment.split('"').skip(1).step_by(2))
+        .flat_map(|quote| quote.split(".."))
+        .map(|words| words.trim().to_string())
+        .filter(|words| !words.is_empty())
+        .collect()
+}
+
+/// The sentences of the claims, one after the other: document 01 in its order.
+fn sentences() -> String {
+    let rows = claims();
+    let sentences: Vec<&str> = rows.iter().map(|row| row[1].as_str()).collect();
+    sentences.join(" ")
+}
+
+#[test]
+fn a_definition_quotes_only_sentences_that_the_claims_have() {
+    let sentences = sentences();
+    let mut seen = 0;
+    for file in files("crates", ".antt") {
+        if !file.contains("/specs/") {
+            continue;
+        }
+        for words in quoted(&text(&file)) {
+            assert!(
+                sentences.contains(&words),
+                "{} quotes \"{}\", which no claim has",
+                file,
+                words
+            );
+            seen += 1;
+        }
+    }
+    assert!(seen > 100, "only {} quotes were found", seen);
+}
+
+#[test]
+fn a_quote_is_cut_where_words_are_left_out() {
+    let source = "-- of \"one .. and two\", \"three\"\nname = \"four\"\n  x : A  -- \"five\"";
+    assert_eq!(quoted(source), ["one", "and two", "three", "five"]);
+}
+
 #[test]
 fn the_decisions_are_numbered_once() {
     let text = text("docs/DECISIONS.md");
