@@ -40,11 +40,19 @@ impl Gate {
         gate.rt("exit 0", WELL);
         gate.tool("cargo", "echo 'test result: ok. 3 passed; 0 failed'\n");
         gate.tool("cc", "exit 0\n");
+        gate.agree("exit 0\n");
         gate
     }
 
     fn tool(&self, name: &str, body: &str) {
-        let path = self.folder.join("bin").join(name);
+        self.script(self.folder.join("bin").join(name), body);
+    }
+
+    fn agree(&self, body: &str) {
+        self.script(self.folder.join("tools/agree"), body);
+    }
+
+    fn script(&self, path: PathBuf, body: &str) {
         let _ = fs::remove_file(&path);
         fs::write(&path, format!("#!/usr/bin/env bash\n{}", body)).unwrap();
         fs::set_permissions(&path, fs::Permissions::from_mode(0o755)).unwrap();
@@ -105,6 +113,13 @@ fn all_well_ends_with_the_verdict_of_rt() {
     assert_eq!(last, "7 passed, 0 failed");
     assert_eq!(all.matches("7 passed, 0 failed").count(), 1, "{}", all);
     assert!(all.contains("proved: all"), "{}", all);
+}
+
+#[test]
+fn definitions_that_disagree_with_the_second_program_are_red() {
+    let gate = Gate::new("disagree");
+    gate.agree("echo 'rt: FAILED: agree'\nexit 1\n");
+    gate.is_red_at("tools/agree");
 }
 
 #[test]

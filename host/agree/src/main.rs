@@ -1,0 +1,99 @@
+//! Writes a crate of statements: in each of many random cases the definitions of `rules` compute to what the second
+//! program answers. The checker decides each one by computation, so two renderings of document 01 that know nothing
+//! of each other are held against each other before any byte is proved.
+//!
+//! `agree SPECS FOLDER SEED` reads the names of the definitions in SPECS and writes the crate; `tools/agree` writes it
+//! and has it checked.
+
+mod cases;
+mod dice;
+mod group;
+mod parts;
+mod print;
+mod replies;
+mod scattered;
+
+use cases::Case;
+use std::path::Path;
+use std::{env, fs, io, process};
+
+/// What the statements name that is no definition by clauses.
+const HEADER: &str = include_str!("header.antt");
+
+fn main() {
+    let words: Vec<String> = env::args().skip(1).collect();
+    let (specs, folder, seed) = match &words[..] {
+        [specs, folder, seed] => (Path::new(specs), Path::new(folder), seed.parse()),
+        _ => refuse("name the folder of the definitions, the folder to write to and a seed"),
+    };
+    match seed {
+        Ok(seed) => match write_crate(specs, folder, seed) {
+            Ok(done) => println!("agree: {}", done),
+            Err(error) => refuse(&format!("{}: {}", folder.display(), error)),
+        },
+        Err(error) => refuse(&format!("the seed is no number: {}", error)),
+    }
+}
+
+fn refuse(why: &str) -> ! {
+    eprintln!("agree: {}", why);
+    process::exit(2);
+}
+
+fn write_crate(specs: &Path, folder: &Path, seed: u64) -> io::Result<String> {
+    let definitions = definitions(specs)?;
+    let cases = cases::all(seed);
+    for part in ["src", "specs", "proofs"] {
+        fs::create_dir_all(folder.join(part))?;
+    }
+    fs::write(folder.join("src/lib.rt"), "// Statements alone.\n")?;
+    fs::write(folder.join("specs/Lib.antt"), "")?;
+    fs::write(folder.join("proofs/Lib.antt"), "pub mod Agree\n")?;
+    let statements = statements(&definitions, &cases);
+    fs::write(folder.join("proofs/Agree.antt"), statements)?;
+    Ok(cases::summary(&cases))
+}
+
+/// Each file of the definitions with the names in it that have to be unfolded.
+fn definitions(specs: &Path) -> io::Result<Vec<(String, Vec<String>)>> {
+    let mut found = Vec::new();
+    for entry in fs::read_dir(specs)? {
+        let path = entry?.path();
+        let module = path.file_stem().unwrap_or_default().to_string_lossy();
+        let names: Vec<String> = fs::read_to_string(&path)?
+            .lines()
+            .filter_map(|line| line.trim_start().strip_prefix("unfoldable pub "))
+            .filter_map(|line| line.split(' ').next())
+            .map(str::to_string)
+            .collect();
+        found.push((module.to_string(), names));
+    }
+    found.sort();
+    found.retain(|(_, names)| !names.is_empty());
+    Ok(found)
+}
+
+/// One statement a case, each computed with everything unfolded.
+fn statements(definitions: &[(String, Vec<String>)], cases: &[Case]) -> String {
+    let mut text = HEADER.to_string();
+    let mut unfolded = String::new();
+    for (module, names) in definitions {
+        text += &format!(
+            "use Rattle.rules.specs.{}.{{{}}}\n",
+            module,
+            names.join(", ")
+        );
+        unfolded += &format!(" {}", names.join(" "));
+    }
+    text += &format!("\nabbrev small : Model\nsmall = {}\n", print::model());
+    for (place, case) in cases.iter().enumerate() {
+        text += &format!(
+            "\ncase-{place} : {statement}\nunfolding{unfolded}\ncase-{place} = {proof}\n",
+            place = place,
+            statement = print::statement(case),
+            unfolded = unfolded,
+            proof = print::proof(case),
+        );
+    }
+    text
+}
