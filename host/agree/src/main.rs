@@ -18,7 +18,7 @@ use std::path::Path;
 use std::{env, fs, io, process};
 
 /// What the statements name that is no definition by clauses.
-const HEADER: &str = include_str!("header.antt");
+const HEADER: &str = include_str!("header.txt");
 
 fn main() {
     let words: Vec<String> = env::args().skip(1).collect();
