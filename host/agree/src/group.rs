@@ -3,7 +3,7 @@
 use crate::cases::{Case, SMALL};
 use crate::dice::Dice;
 use crate::parts::{body_of, outcome, result};
-use reference::{merged, respond, HeldOutcome, HeldPrepare, Message, Rows, Table};
+use reference::{merged, respond, Message, Rows, Table};
 
 pub struct Group {
     dice: Dice,
@@ -101,12 +101,7 @@ fn start(dice: &mut Dice, table: &Table) -> Message {
     let box_number = ((view + u32::from(dice.in_a_hundred(30))) % u32::from(table.n)) as u8;
     let mut rows = table.rows.clone();
     if dice.in_a_hundred(50) {
-        for row in rows.values_mut() {
-            let prepare = row.prepare.map(|held| HeldPrepare::finalised(held.result));
-            let outcome = row.outcome.map(|held| HeldOutcome::done(held.outcome));
-            row.prepare = prepare;
-            row.outcome = outcome;
-        }
+        rows.values_mut().for_each(|row| *row = row.settled());
     }
     let mut image = Table::beginning(table.n, box_number, view, rows);
     if dice.in_a_hundred(10) && image.start_rows > 0 {

@@ -155,6 +155,15 @@ impl Row {
         }
     }
 
+    /// The same row with its result final and its outcome done, as a started view holds it.
+    pub fn settled(&self) -> Row {
+        Row {
+            body: self.body.clone(),
+            prepare: self.prepare.map(|held| HeldPrepare::finalised(held.result)),
+            outcome: self.outcome.map(|held| HeldOutcome::done(held.outcome)),
+        }
+    }
+
     pub fn retry_stamp(&self) -> u64 {
         self.prepare.map_or(0, |held| held.result.retry_stamp())
     }

@@ -6,7 +6,7 @@ mod common;
 use common::{
     change, finalise, finish, outcome, propose, read, row, start, RawRow, TestBox, BUFFER, DIRT,
 };
-use reference::{HeldOutcome, HeldPrepare, Message, Mode, Table};
+use reference::{Message, Mode, Table};
 
 /// Marsaglia's xorshift, 64 bits wide.
 struct Dice(u64);
@@ -82,12 +82,7 @@ fn start_message(dice: &mut Dice, table: &Table) -> Vec<u8> {
     let view = table.promised() + dice.below(3) as u32;
     let mut rows = table.rows.clone();
     if dice.in_a_hundred(80) {
-        for row in rows.values_mut() {
-            let prepare = row.prepare.map(|held| HeldPrepare::finalised(held.result));
-            let outcome = row.outcome.map(|held| HeldOutcome::done(held.outcome));
-            row.prepare = prepare;
-            row.outcome = outcome;
-        }
+        rows.values_mut().for_each(|row| *row = row.settled());
     }
     let box_number = (view % u32::from(table.n)) as u8;
     start(
