@@ -1,6 +1,6 @@
 -- The check: its parts over `++`, the clash behind its rules, and what each answer says of the rows.
 use mathlib.Core.Path.{_≡_, refl, sym, ap, _∙_}
-use mathlib.Core.Bool.{Bool, true, false}
+use mathlib.Core.Bool.{Bool, true, false, cond}
 use mathlib.Core.Logic.{_⊎_, inl, inr}
 use mathlib.Core.List.{List, [], _∷_, _++_, List·Memᴰ·not-nil}
 use Prim.Native.Nat.{ℕ, _≤_, _<_, max}
@@ -9,7 +9,7 @@ use lib.Dec.{eqb, ltb}
 use borrow.Author.Tests.{ltb-true, lt-ltb}
 use Rattle.rules.specs.Tests.{both, either, any, every, those, greatest}
 use Rattle.rules.specs.Stamps.{Access, Body, isStamp}
-use Rattle.rules.specs.Tables.{Result.OK, Result.ABORT, Result.ABSTAIN, Result.RETRY, Outcome.noOutcome, Outcome.noted, Verdict, Verdict.commit, Verdict.abort, resultByRule, Row, rowByRule}
+use Rattle.rules.specs.Tables.{Result, Result.OK, Result.ABORT, Result.ABSTAIN, Result.RETRY, Outcome.noOutcome, Outcome.noted, Verdict, Verdict.commit, Verdict.abort, resultByRule, Row, rowByRule}
 use Rattle.rules.specs.Messages.{Check, withOutcome}
 use Rattle.rules.specs.Check.{committed, prepared, overwrites, ruleA, ruleB, ruleC, retryStamp, check, clash, accepted}
 use Rattle.rules.proofs.Logic.{impossible, cases, either-cases, both-left, both-right, both-true, either-first, either-second, either-false, either-comm}
@@ -93,21 +93,34 @@ rules-clash s x r = go (committed r) (prepared r) (overwrites (r .stamp) (r .bod
 
 -- ---- what an answer says
 
+-- the rule that gave an answer
+pub data Fired (rows : List Row) (s : ℕ) (x : Body) : Result → Type 0 where
+  by-A : any (ruleA committed s x) rows ≡ true → Fired rows s x ABORT
+  by-B : any (ruleB committed s x) rows ≡ true → Fired rows s x (RETRY (retryStamp rows s x))
+  by-C : any (ruleC s x) rows ≡ true → Fired rows s x ABSTAIN
+  by-D : any (ruleA committed s x) rows ≡ false → any (ruleB committed s x) rows ≡ false → any (ruleC s x) rows ≡ false → Fired rows s x OK
+
+pub check-fired : (rows : List Row) (s : ℕ) (x : Body) → Fired rows s x (check rows s x)
+unfolding check
+check-fired rows s x = go (any (ruleA committed s x) rows) refl (any (ruleB committed s x) rows) refl (any (ruleC s x) rows) refl
+  where
+    go : (a : Bool) → any (ruleA committed s x) rows ≡ a → (b : Bool) → any (ruleB committed s x) rows ≡ b → (c : Bool) → any (ruleC s x) rows ≡ c → Fired rows s x (cond a ABORT (cond b (RETRY (retryStamp rows s x)) (cond c ABSTAIN OK)))
+    go true ea b eb c ec = by-A ea
+    go false ea true eb c ec = by-B eb
+    go false ea false eb true ec = by-C ec
+    go false ea false eb false ec = by-D ea eb ec
+
 module _ (rows : List Row) (s : ℕ) (x : Body) where
   -- OK: no accepted row clashes
   pub check-clear : check rows s x ≡ OK → (r : Row) → r ∈ rows → accepted r ≡ true → clash s x (r .stamp) (r .body) ≡ false
-  unfolding check
-  check-clear h r m a = go (cases (any (ruleA committed s x) rows)) (cases (any (ruleB committed s x) rows)) (cases (any (ruleC s x) rows))
+  check-clear h r m a = go (check rows s x) (check-fired rows s x) h (cases (clash s x (r .stamp) (r .body)))
     where
-      clear : ruleA committed s x r ≡ false → ruleB committed s x r ≡ false → ruleC s x r ≡ false → (clash s x (r .stamp) (r .body) ≡ true) ⊎ (clash s x (r .stamp) (r .body) ≡ false) → clash s x (r .stamp) (r .body) ≡ false
-      clear p q t (inr c) = c
-      clear p q t (inl c) = impossible (rules-clash s x r ∙ both-true a c) (either-false p (either-false q t))
-
-      go : (any (ruleA committed s x) rows ≡ true) ⊎ (any (ruleA committed s x) rows ≡ false) → (any (ruleB committed s x) rows ≡ true) ⊎ (any (ruleB committed s x) rows ≡ false) → (any (ruleC s x) rows ≡ true) ⊎ (any (ruleC s x) rows ≡ false) → clash s x (r .stamp) (r .body) ≡ false
-      go (inl p) q t = let k : ABORT ≡ OK = rw p at h in let z : _≡_ {A = ℕ} 0 1 = cc in absurd (omega arith)
-      go (inr p) (inl q) t = let k : RETRY (retryStamp rows s x) ≡ OK = rw (p, q) at h in let z : _≡_ {A = ℕ} 0 1 = cc in absurd (omega arith)
-      go (inr p) (inr q) (inl t) = let k : ABSTAIN ≡ OK = rw (p, q, t) at h in let z : _≡_ {A = ℕ} 0 1 = cc in absurd (omega arith)
-      go (inr p) (inr q) (inr t) = clear (any-none _ rows p r m) (any-none _ rows q r m) (any-none _ rows t r m) (cases (clash s x (r .stamp) (r .body)))
+      go : (q : Result) → Fired rows s x q → q ≡ OK → (clash s x (r .stamp) (r .body) ≡ true) ⊎ (clash s x (r .stamp) (r .body) ≡ false) → clash s x (r .stamp) (r .body) ≡ false
+      go q f e (inr c) = c
+      go q (by-A p) e (inl c) = let z : _≡_ {A = ℕ} 0 1 = cc in absurd (omega arith)
+      go q (by-B p) e (inl c) = let z : _≡_ {A = ℕ} 0 1 = cc in absurd (omega arith)
+      go q (by-C p) e (inl c) = let z : _≡_ {A = ℕ} 0 1 = cc in absurd (omega arith)
+      go q (by-D p k t) e (inl c) = impossible (rules-clash s x r ∙ both-true a c) (either-false (any-none _ rows p r m) (either-false (any-none _ rows k r m) (any-none _ rows t r m)))
 
   -- the accepted row that clashes
   abbrev pub Against : Type 0
@@ -115,17 +128,16 @@ module _ (rows : List Row) (s : ℕ) (x : Body) where
 
   -- not OK: some accepted row clashes
   pub check-against : (check rows s x ≡ OK → ⊥) → Against
-  unfolding check
-  check-against h = go (cases (any (ruleA committed s x) rows)) (cases (any (ruleB committed s x) rows)) (cases (any (ruleC s x) rows))
+  check-against h = go (check rows s x) (check-fired rows s x) h
     where
       found : (r : Row) → r ∈ rows → either (ruleA committed s x r) (either (ruleB committed s x r) (ruleC s x r)) ≡ true → Against
       found r m e = let k = sym (rules-clash s x r) ∙ e in (r, m, both-left _ _ k, both-right _ _ k)
 
-      go : (any (ruleA committed s x) rows ≡ true) ⊎ (any (ruleA committed s x) rows ≡ false) → (any (ruleB committed s x) rows ≡ true) ⊎ (any (ruleB committed s x) rows ≡ false) → (any (ruleC s x) rows ≡ true) ⊎ (any (ruleC s x) rows ≡ false) → Against
-      go (inl p) q t = let (r, m, e) = any-some _ rows p in found r m (either-first _ _ e)
-      go (inr p) (inl q) t = let (r, m, e) = any-some _ rows q in found r m (either-second _ _ (either-first _ _ e))
-      go (inr p) (inr q) (inl t) = let (r, m, e) = any-some _ rows t in found r m (either-second _ _ (either-second _ _ e))
-      go (inr p) (inr q) (inr t) = absurd (h (rw (p, q, t) refl))
+      go : (q : Result) → Fired rows s x q → (q ≡ OK → ⊥) → Against
+      go q (by-A p) n = let (r, m, e) = any-some _ rows p in found r m (either-first _ _ e)
+      go q (by-B p) n = let (r, m, e) = any-some _ rows p in found r m (either-second _ _ (either-first _ _ e))
+      go q (by-C p) n = let (r, m, e) = any-some _ rows p in found r m (either-second _ _ (either-second _ _ e))
+      go q (by-D p k t) n = absurd (n refl)
 
   -- ---- the retry stamp
 
@@ -201,11 +213,11 @@ abbrev pub CheckByRule : Check → Type 0
 CheckByRule any-check = (rows : List Row) (s : ℕ) (x : Body) → every rowByRule rows ≡ true → resultByRule (any-check rows s x) ≡ true
 
 pub check-by-rule : CheckByRule check
-unfolding check resultByRule
-check-by-rule rows s x h = go (cases (any (ruleA committed s x) rows)) (cases (any (ruleB committed s x) rows)) (cases (any (ruleC s x) rows))
+unfolding resultByRule
+check-by-rule rows s x h = go (check rows s x) (check-fired rows s x)
   where
-    go : (any (ruleA committed s x) rows ≡ true) ⊎ (any (ruleA committed s x) rows ≡ false) → (any (ruleB committed s x) rows ≡ true) ⊎ (any (ruleB committed s x) rows ≡ false) → (any (ruleC s x) rows ≡ true) ⊎ (any (ruleC s x) rows ≡ false) → resultByRule (check rows s x) ≡ true
-    go (inl p) q t = rw p refl
-    go (inr p) (inl q) t = let (r, m, b, e) = retry-is rows s x q in rw (p, q) (ap isStamp (sym e) ∙ row-stamp r (every-one rowByRule rows h r m))
-    go (inr p) (inr q) (inl t) = rw (p, q, t) refl
-    go (inr p) (inr q) (inr t) = rw (p, q, t) refl
+    go : (q : Result) → Fired rows s x q → resultByRule q ≡ true
+    go q (by-A p) = refl
+    go q (by-B p) = let (r, m, b, e) = retry-is rows s x p in ap isStamp (sym e) ∙ row-stamp r (every-one rowByRule rows h r m)
+    go q (by-C p) = refl
+    go q (by-D p k t) = refl
