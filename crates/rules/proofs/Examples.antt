@@ -54,22 +54,51 @@ first-wins = (refl, refl, refl)
 abbrev changingTo7 : ℕ → ℕ → List Row → Table
 changingTo7 box view rows = record { box = box; n = 5; mode = changingMode; view = view; promised = 7; start = 0; rows = rows }
 
+-- what the first two tables hold alike: 20 and 25 clash with 10, 70 with 65, and 85 with 80
+abbrev alike : List Row
+alike = row 70 (reading 7 0) (tentative OK) noOutcome ∷ row 80 (writing 4) (tentative OK) noOutcome ∷ row 85 (reading 4 0) (tentative OK) noOutcome ∷ []
+
 abbrev gathered : List Table
 gathered =
-    changingTo7 0 3 (row 10 (writing 5) (final OK) noOutcome ∷ row 20 (reading 5 0) (tentative OK) noOutcome ∷ row 30 (writing 6) (tentative ABORT) noOutcome ∷ row 40 (writing 6) (tentative OK) (noted commit) ∷ [])
-    ∷ changingTo7 1 3 (row 20 (reading 5 0) (tentative OK) noOutcome ∷ row 30 (writing 6) (tentative ABORT) noOutcome ∷ row 50 (writing 8) noPrepare (noted abort) ∷ row 60 (writing 9) (tentative (RETRY 80)) noOutcome ∷ [])
-    ∷ changingTo7 4 2 (row 60 (writing 9) (tentative (RETRY 80)) noOutcome ∷ row 70 (writing 9) (final OK) noOutcome ∷ [])
+    changingTo7 0 3 (row 10 (writing 5) (final OK) noOutcome
+    ∷ row 20 (reading 5 0) (tentative OK) noOutcome
+    ∷ row 25 (reading 5 0) (tentative OK) (noted abort)
+    ∷ row 30 (writing 6) (tentative ABORT) noOutcome
+    ∷ row 40 (writing 6) (tentative OK) (noted commit)
+    ∷ row 65 (writing 7) (tentative OK) noOutcome
+    ∷ alike)
+    ∷ changingTo7 1 3 (row 20 (reading 5 0) (tentative OK) noOutcome
+    ∷ row 25 (reading 5 0) (tentative OK) noOutcome
+    ∷ row 30 (writing 6) (tentative ABORT) noOutcome
+    ∷ row 50 (writing 8) noPrepare (noted abort)
+    ∷ row 55 (writing 8) (tentative OK) (noted abort)
+    ∷ row 60 (writing 9) (tentative (RETRY 80)) noOutcome
+    ∷ alike)
+    ∷ changingTo7 4 2 (row 60 (writing 9) (tentative (RETRY 80)) noOutcome ∷ row 90 (writing 9) (final OK) noOutcome ∷ [])
     ∷ []
 
--- 10 was final; 20 was agreed OK, and is checked against it; 30 was agreed; 40 was open, with commit; 50 was never prepared; 60 was open, and is checked; 70 is in the older table alone
+-- 10 was final. 20 was agreed OK, and its check sees 10; 25 as well, but has an outcome and stays. 30 was agreed and not OK. 40 and 55 were open, with commit and with abort. 50 was never prepared. 60 and 65 were open: nothing
+-- is in the way of 60; 65 is checked after 70, which was agreed. Of 80 and 85, both agreed, the lower is checked first. 90 is in the older table alone
 pub one-merge : merge valley check 7 gathered ≡ some (record {
   box = 2;
   n = 5;
   mode = normalMode;
   view = 7;
   promised = 7;
-  start = 6;
-  rows = row 10 (writing 5) (final OK) noOutcome ∷ row 20 (reading 5 0) (final ABSTAIN) noOutcome ∷ row 30 (writing 6) (final ABORT) noOutcome ∷ row 40 (writing 6) (final OK) (done commit) ∷ row 50 (writing 8) noPrepare (done abort) ∷ row 60 (writing 9) (final OK) noOutcome ∷ [];
+  start = 12;
+  rows = row 10 (writing 5) (final OK) noOutcome
+      ∷ row 20 (reading 5 0) (final ABSTAIN) noOutcome
+      ∷ row 25 (reading 5 0) (final OK) (done abort)
+      ∷ row 30 (writing 6) (final ABORT) noOutcome
+      ∷ row 40 (writing 6) (final OK) (done commit)
+      ∷ row 50 (writing 8) noPrepare (done abort)
+      ∷ row 55 (writing 8) (final ABORT) (done abort)
+      ∷ row 60 (writing 9) (final OK) noOutcome
+      ∷ row 65 (writing 7) (final ABSTAIN) noOutcome
+      ∷ row 70 (reading 7 0) (final OK) noOutcome
+      ∷ row 80 (writing 4) (final OK) noOutcome
+      ∷ row 85 (reading 4 0) (final ABSTAIN) noOutcome
+      ∷ [];
 })
 unfolding both either any count those greatest somePair twice firstOf allOf sameAccesses sameBody sameResult somethingHeld applies first number held changed committed prepared overwrites ruleA ruleB ruleC retryStamp check used withStamp withStamps stamps rowsOf mergedOutcome finalOf isAgreed agreedOf standing uncheckedRow uncheckedRows toCheck isSettled checkedAt checkedInTurn mergedRows mergedTable areWrong twoBodies contradictory mergeCircumstances mergeNumber merge
 one-merge = refl

@@ -29,7 +29,7 @@ fn main() {
     match seed {
         Ok(seed) => match write_crate(specs, folder, seed) {
             Ok(done) => println!("agree: {}", done),
-            Err(error) => refuse(&format!("{}: {}", folder.display(), error)),
+            Err(error) => refuse(&error),
         },
         Err(error) => refuse(&format!("the seed is no number: {}", error)),
     }
@@ -40,18 +40,27 @@ fn refuse(why: &str) -> ! {
     process::exit(2);
 }
 
-fn write_crate(specs: &Path, folder: &Path, seed: u64) -> io::Result<String> {
-    let definitions = definitions(specs)?;
+fn write_crate(specs: &Path, folder: &Path, seed: u64) -> Result<String, String> {
+    let definitions = definitions(specs).map_err(|error| at(specs, error))?;
     let cases = cases::all(seed);
-    for part in ["src", "specs", "proofs"] {
-        fs::create_dir_all(folder.join(part))?;
+    let files = [
+        ("src", "lib.rt", "// Statements alone.\n".to_string()),
+        ("specs", "Lib.antt", String::new()),
+        ("proofs", "Lib.antt", "pub mod Agree\n".to_string()),
+        ("proofs", "Agree.antt", statements(&definitions, &cases)),
+    ];
+    for (part, name, text) in files {
+        let place = folder.join(part);
+        fs::create_dir_all(&place).map_err(|error| at(&place, error))?;
+        let file = place.join(name);
+        fs::write(&file, text).map_err(|error| at(&file, error))?;
     }
-    fs::write(folder.join("src/lib.rt"), "// Statements alone.\n")?;
-    fs::write(folder.join("specs/Lib.antt"), "")?;
-    fs::write(folder.join("proofs/Lib.antt"), "pub mod Agree\n")?;
-    let statements = statements(&definitions, &cases);
-    fs::write(folder.join("proofs/Agree.antt"), statements)?;
     Ok(cases::summary(&cases))
+}
+
+/// An error with the place where it came up.
+fn at(place: &Path, error: io::Error) -> String {
+    format!("{}: {}", place.display(), error)
 }
 
 /// Each file of the definitions with the names in it that have to be unfolded.

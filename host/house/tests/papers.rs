@@ -10,10 +10,9 @@ const PAPERS: [&str; 4] = [
     "docs/ROADMAP.md",
 ];
 
-/// The rows of the tables of CLAIMS.md, without headings and rules.
-fn claims() -> Vec<Vec<String>> {
-    text("docs/CLAIMS.md")
-        .lines()
+/// The rows of the tables in a text of claims, without headings and rules.
+fn rows(text: &str) -> Vec<Vec<String>> {
+    text.lines()
         .filter(|line| line.starts_with("| ") && !line.starts_with("| id "))
         .map(|line| {
             let inner = line.trim().trim_start_matches('|').trim_end_matches('|');
@@ -23,6 +22,10 @@ fn claims() -> Vec<Vec<String>> {
                 .collect()
         })
         .collect()
+}
+
+fn claims() -> Vec<Vec<String>> {
+    rows(&text("docs/CLAIMS.md"))
 }
 
 #[test]
@@ -116,16 +119,19 @@ fn quoted(source: &str) -> Vec<String> {
         .collect()
 }
 
-/// The sentences of the claims, one after the other: document 01 in its order.
-fn sentences() -> String {
-    let rows = claims();
-    let sentences: Vec<&str> = rows.iter().map(|row| row[1].as_str()).collect();
+/// Document 01 as the claims have it, sentence after sentence; what the claims say beside it is left out.
+fn sentences_of_01() -> String {
+    let claims = text("docs/CLAIMS.md");
+    let chapters = claims
+        .split("\n## ")
+        .filter(|part| part.starts_with("01, "));
+    let sentences: Vec<String> = chapters.flat_map(rows).map(|row| row[1].clone()).collect();
     sentences.join(" ")
 }
 
 #[test]
-fn a_definition_quotes_only_sentences_that_the_claims_have() {
-    let sentences = sentences();
+fn a_definition_quotes_only_words_of_01() {
+    let sentences = sentences_of_01();
     let mut seen = 0;
     for file in files("crates", ".antt") {
         if !file.contains("/specs/") {
@@ -134,7 +140,7 @@ fn a_definition_quotes_only_sentences_that_the_claims_have() {
         for words in quoted(&text(&file)) {
             assert!(
                 sentences.contains(&words),
-                "{} quotes \"{}\", which no claim has",
+                "{} quotes \"{}\", which is not in 01",
                 file,
                 words
             );
@@ -142,6 +148,14 @@ fn a_definition_quotes_only_sentences_that_the_claims_have() {
         }
     }
     assert!(seen > 100, "only {} quotes were found", seen);
+}
+
+#[test]
+fn what_the_claims_say_beside_01_is_no_part_of_it() {
+    let sentences = sentences_of_01();
+    assert!(sentences.contains("Committed: outcome 3."));
+    assert!(!sentences.contains("Clash is symmetric"));
+    assert!(!sentences.contains("Any bytes may arrive"));
 }
 
 #[test]
