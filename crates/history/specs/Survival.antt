@@ -21,7 +21,7 @@ use Rattle.rules.specs.Count.{Heard, Counted, Counted.fast, Counted.slow, count
 abbrev pub _∈_ : {A : Type 0} → A → List A → Type 0
 _∈_ a l = List·Memᴰ a l
 
-infix 50 _∈_
+infix 20 _∈_
 -- ---- a group
 
 pub record Sent : Type 0 where

@@ -114,6 +114,15 @@ noted-row v r h = with-outcome (notedAs v (r .outcome)) r (go (r .outcome)) h
     go (noted u) = verdict-counts u
     go (done u) = omega arith
 
+-- what a message that was taken did not meet
+pub met-none : (M : Model) (room : Room) (T : Table) (m : Message) → answerNumber M room T m ≡ 0 → (k : Number) (given : Bool) → k ∈ order → (k, given) ∈ circumstances M room T m → given ≡ false
+unfolding answerNumber
+met-none M room T m h = number-done (circumstances M room T m) h
+
+pub taken-by-rule : (M : Model) (room : Room) (T : Table) (m : Message) → answerNumber M room T m ≡ 0 → messageByRule M (T .n) m ≡ true
+unfolding circumstances
+taken-by-rule M room T m h = not-false _ (met-none M room T m h badMessage _ (search places depth 11) (search places))
+
 -- ---- the table after a message that was taken
 
 module _ (M : Model) (room : Room) (check : Check) (fits : RoomFits room) (checks : CheckByRule check) (T : Table) (t : ByRule M T) where
@@ -192,28 +201,19 @@ module _ (M : Model) (room : Room) (check : Check) (fits : RoomFits room) (check
         e,
       )
 
-  -- what a message that was taken did not meet
-  met-none : (m : Message) → answerNumber M room T m ≡ 0 → (k : Number) (given : Bool) → k ∈ order → (k, given) ∈ circumstances M room T m → given ≡ false
-  unfolding answerNumber
-  met-none m h = number-done (circumstances M room T m) h
-
-  pub taken-by-rule : (m : Message) → answerNumber M room T m ≡ 0 → messageByRule M (T .n) m ≡ true
-  unfolding circumstances
-  taken-by-rule m h = not-false _ (met-none m h badMessage _ (search places depth 11) (search places))
-
   -- by the rules again, of the same group and the same box
   abbrev pub Kept : Table → Type 0
   Kept U = ByRule M U × (U .box ≡ T .box) × (U .n ≡ T .n)
 
   taken-kept : (m : Message) → answerNumber M room T m ≡ 0 → messageByRule M (T .n) m ≡ true → Kept (tableAfter check T m)
   unfolding circumstances furtherCircumstances messageByRule tableAfter prepareFinalised outcomeFinalised retryByRule
-  taken-kept (proposePrepare s x) h k = (after-1 s x k (met-none (proposePrepare s x) h full _ (search places depth 11) (search places)), refl, refl)
+  taken-kept (proposePrepare s x) h k = (after-1 s x k (met-none M room T (proposePrepare s x) h full _ (search places depth 11) (search places)), refl, refl)
   taken-kept (finalisePrepare s v r) h k =
       let p = both-right _ _ (both-right _ _ k) in
       (changed-rule M T t s _ (λ q. refl) (λ q. with-prepare (final r) q (omega arith) p), refl, refl)
-  taken-kept (proposeOutcome s v x) h k = (after-3 s v x k (met-none (proposeOutcome s v x) h full _ (search places depth 11) (search places)), refl, refl)
+  taken-kept (proposeOutcome s v x) h k = (after-3 s v x k (met-none M room T (proposeOutcome s v x) h full _ (search places depth 11) (search places)), refl, refl)
   taken-kept (finaliseOutcome s v u) h k = (changed-rule M T t s _ (λ q. refl) (λ q. with-outcome (done u) q (omega arith)), refl, refl)
-  taken-kept (changeView v) h k = (after-5 v k (met-none (changeView v) h oldView _ (search places depth 11) (search places)), refl, refl)
+  taken-kept (changeView v) h k = (after-5 v k (met-none M room T (changeView v) h oldView _ (search places depth 11) (search places)), refl, refl)
   taken-kept (startView v I) h k =
       let p = both-right _ _ k in
       let (i, e) = after-6 v I (both-left _ _ p) (both-right _ _ p) in
@@ -226,7 +226,7 @@ module _ (M : Model) (room : Room) (check : Check) (fits : RoomFits room) (check
   answer-kept m = go (cases (eqb (answerNumber M room T m) 0))
     where
       go : (eqb (answerNumber M room T m) 0 ≡ true) ⊎ (eqb (answerNumber M room T m) 0 ≡ false) → Kept (answer M room check T m .table)
-      go (inl e) = let h = eqb-true (answerNumber M room T m) 0 e in rw e (taken-kept m h (taken-by-rule m h))
+      go (inl e) = let h = eqb-true (answerNumber M room T m) 0 e in rw e (taken-kept m h (taken-by-rule M room T m h))
       go (inr e) = rw e (t, refl, refl)
 
 -- the table after an answer is a table by the rules, with the same box and the same n
