@@ -1,2 +1,5 @@
 pub mod Fair
 pub mod Below
+pub mod Cells
+pub mod Entries
+pub mod Invariant
