@@ -1,2 +1,7 @@
+pub mod Below
+pub mod Cells
+pub mod Entries
+pub mod Invariant
 pub mod Fair
 pub mod Taken
+pub mod World

@@ -1,0 +1,315 @@
+-- One stamp in one box in one view: its row and what the box has answered for it there, the acts that change them, and what every act keeps.
+use mathlib.Core.Path.{_≡_, refl, sym, ap, subst, _∙_}
+use mathlib.Core.Bool.{Bool, true, false}
+use mathlib.Core.Logic.{_⊎_, inl, inr}
+use mathlib.Core.List.{List, [], _∷_, List·Memᴰ·cases-cons}
+use Prim.Native.Nat.{ℕ, _≤_}
+use native.Mathlib.Omega.{arith}
+use Rattle.rules.specs.Tables.{Result, Result.OK, Prepare, Prepare.noPrepare, Prepare.tentative, Prepare.final, Verdict, Verdict.commit, Verdict.abort, Outcome, Outcome.noOutcome, Outcome.noted, Outcome.done}
+use Rattle.rules.specs.Messages.{resultFor}
+use Rattle.rules.proofs.Logic.{impossible}
+use Rattle.rules.proofs.Lists.{_∈_}
+use Rattle.history.proofs.Cells.{isOK, isOKPrepare, isThere, Holds, Placed, only-OK, tentative-final, none-final, none-tentative, one-final, one-tentative, one-done, none-held, one-held, prepare-cases, outcome-cases, noted-done, held-there}
+
+pub record Cell : Type 0 where
+  pub prepare : Prepare
+  pub outcome : Outcome
+
+-- a table, by stamps
+abbrev pub Cells : Type 0
+Cells = ℕ → Cell
+
+-- what coordinators have sent or declared, and what boxes have promised
+pub data Fact : Type 0 where
+  gaveResult : (t w : ℕ) (r : Result) → Fact  -- result r was sent (message 2) or declared for stamp t in view w
+  declaredFinal : (t w : ℕ) (r : Result) → Fact  -- it was declared final
+  proposed : (t : ℕ) (v : Verdict) → Fact  -- the outcome was proposed (message 3)
+  finalised : (t w : ℕ) (v : Verdict) → Fact  -- message 4 was sent
+  promised : (b v x : ℕ) (cells : Cells) → Fact  -- box b promised view v, with last normal view x and this table
+  bodySent : (t : ℕ) → Fact  -- message 1 or 3 was sent for t
+  started : (v : ℕ) → Fact  -- the table of view v was sent
+
+-- a result that a box answered, and whether it was final
+pub data Said : Type 0 where
+  said : Result → Bool → Said
+
+pub record Entry : Type 0 where
+  pub prepare : Prepare
+  pub outcome : Outcome
+  pub checked : Bool  -- the row was added here, with OK by the check
+  pub answers : List Said  -- answers numbered 0 to messages 1 and 2
+  pub acceptances : List Verdict  -- answers numbered 0 to message 3
+
+-- an outcome was proposed, a commit after OK was declared final in view w or before
+abbrev pub Proposed : List Fact → ℕ → ℕ → Verdict → Type 0
+Proposed G t w o = (proposed t o ∈ G) × (o ≡ commit → (u : ℕ) × (u ≤ w) × (declaredFinal t u OK ∈ G))
+
+-- what a box does at one stamp; a message is one or two of these
+pub data Act : Type 0 where
+  addRow : Result → Act  -- message 1, a new row with the check's result
+  fillRow : Verdict → Act  -- message 1, where only an outcome is held
+  makeFinal : Result → Act  -- message 2
+  noteOutcome : Verdict → Act  -- message 3
+  finishOutcome : Verdict → Act  -- message 4
+  answerResult : Result → Bool → Act  -- the answer to message 1 or 2
+  acceptOutcome : Verdict → Act  -- the answer to message 3
+
+abbrev pub asPrepare : Result → Bool → Prepare
+asPrepare r true = final r
+asPrepare r false = tentative r
+
+abbrev pub apply : Act → Entry → Entry
+apply (addRow r) e = record { prepare = tentative r; outcome = e .outcome; checked = isOK r; answers = e .answers; acceptances = e .acceptances }
+apply (fillRow o) e = record { prepare = tentative (resultFor o); outcome = e .outcome; checked = e .checked; answers = e .answers; acceptances = e .acceptances }
+apply (makeFinal r) e = record { prepare = final r; outcome = e .outcome; checked = e .checked; answers = e .answers; acceptances = e .acceptances }
+apply (noteOutcome o) e = record { prepare = e .prepare; outcome = noted o; checked = e .checked; answers = e .answers; acceptances = e .acceptances }
+apply (finishOutcome o) e = record { prepare = e .prepare; outcome = done o; checked = e .checked; answers = e .answers; acceptances = e .acceptances }
+apply (answerResult r x) e = record { prepare = e .prepare; outcome = e .outcome; checked = e .checked; answers = said r x ∷ e .answers; acceptances = e .acceptances }
+apply (acceptOutcome o) e = record { prepare = e .prepare; outcome = e .outcome; checked = e .checked; answers = e .answers; acceptances = o ∷ e .acceptances }
+
+-- when a box in view w may do this at stamp t; what an OK of the check means stands with the group, since it looks at other stamps
+abbrev pub Can : List Fact → ℕ → ℕ → Act → Entry → Type 0
+Can G w t (addRow r) e = (e .prepare ≡ noPrepare) × (e .outcome ≡ noOutcome) × (bodySent t ∈ G)
+Can G w t (fillRow o) e = (e .prepare ≡ noPrepare) × Holds o (e .outcome)
+Can G w t (makeFinal r) e = (gaveResult t w r ∈ G) × (((r′ : Result) × (e .prepare ≡ tentative r′)) ⊎ (e .prepare ≡ final r))
+Can G w t (noteOutcome o) e = (e .outcome ≡ noOutcome) × Proposed G t w o × (bodySent t ∈ G)
+Can G w t (finishOutcome o) e = (e .outcome ≡ noted o) × (finalised t w o ∈ G)
+Can G w t (answerResult r x) e = e .prepare ≡ asPrepare r x
+Can G w t (acceptOutcome o) e = Holds o (e .outcome)
+
+-- what holds of each entry, where c is the row of t in the table that view w began with: each field is about this stamp alone, and more facts keep it
+pub record Good (G : List Fact) (w t : ℕ) (c : Cell) (e : Entry) : Type 0 where
+  pub finalStays : (r : Result) → c .prepare ≡ final r → e .prepare ≡ final r
+  pub doneStays : (o : Verdict) → c .outcome ≡ done o → e .outcome ≡ done o
+  pub finalFrom : (r : Result) → e .prepare ≡ final r → (c .prepare ≡ final r) ⊎ (gaveResult t w r ∈ G)
+  pub tentativeNew : (r : Result) → e .prepare ≡ tentative r → c .prepare ≡ noPrepare
+  pub tentativeFrom : e .prepare ≡ tentative OK → (e .checked ≡ true) ⊎ Holds commit (e .outcome)
+  pub answerFinal : (r : Result) → said r true ∈ e .answers → e .prepare ≡ final r
+  pub answerTentative : (r : Result) → said r false ∈ e .answers → (c .prepare ≡ noPrepare) × ((e .prepare ≡ tentative r) ⊎ ((r′ : Result) × (e .prepare ≡ final r′)))
+  pub answerOK : said OK false ∈ e .answers → (e .checked ≡ true) ⊎ Holds commit (e .outcome)
+  pub acceptanceHeld : (o : Verdict) → o ∈ e .acceptances → Holds o (e .outcome)
+  pub doneFrom : (o : Verdict) → e .outcome ≡ done o → (c .outcome ≡ done o) ⊎ (finalised t w o ∈ G)
+  pub heldFrom : (o : Verdict) → Holds o (e .outcome) → (c .outcome ≡ done o) ⊎ Proposed G t w o
+  pub checkedNew : e .checked ≡ true → (c .prepare ≡ noPrepare) × (c .outcome ≡ noOutcome)
+  pub checkedPlaced : e .checked ≡ true → Placed (e .prepare)
+  pub rowFrom : isThere (e .prepare) (e .outcome) ≡ true → (isThere (c .prepare) (c .outcome) ≡ true) ⊎ (bodySent t ∈ G)
+
+-- the table that a view begins with is settled: nothing tentative, nothing noted
+pub record Settled (c : Cell) : Type 0 where
+  pub noTentative : (r : Result) → c .prepare ≡ tentative r → ⊥
+  pub noNoted : (o : Verdict) → c .outcome ≡ noted o → ⊥
+
+module _ {G : List Fact} {w t : ℕ} {c : Cell} {e : Entry} (s : Settled c) (g : Good G w t c e) where
+  none-before : e .prepare ≡ noPrepare → c .prepare ≡ noPrepare
+  none-before pb = go (prepare-cases (c .prepare))
+    where
+      go : (c .prepare ≡ noPrepare) ⊎ (((r : Result) × (c .prepare ≡ tentative r)) ⊎ ((r : Result) × (c .prepare ≡ final r))) → c .prepare ≡ noPrepare
+      go (inl h) = h
+      go (inr (inl (r, h))) = absurd (s .noTentative r h)
+      go (inr (inr (r, h))) = none-final pb (g .finalStays r h)
+
+  open-before : e .outcome ≡ noOutcome → c .outcome ≡ noOutcome
+  open-before oo = go (outcome-cases (c .outcome))
+    where
+      go : (c .outcome ≡ noOutcome) ⊎ (((o : Verdict) × (c .outcome ≡ noted o)) ⊎ ((o : Verdict) × (c .outcome ≡ done o))) → c .outcome ≡ noOutcome
+      go (inl h) = h
+      go (inr (inl (o, h))) = absurd (s .noNoted o h)
+      go (inr (inr (o, h))) = none-held oo (inr (g .doneStays o h))
+
+  none-answered : {A : Type 0} {r : Result} → e .prepare ≡ noPrepare → said r false ∈ e .answers → A
+  none-answered {A} {r} pb m = go (g .answerTentative r m .1)
+    where
+      go : (e .prepare ≡ tentative r) ⊎ ((r′ : Result) × (e .prepare ≡ final r′)) → A
+      go (inl h) = none-tentative pb h
+      go (inr (r′, h)) = none-final pb h
+
+  pub none-checked : {A : Type 0} → e .prepare ≡ noPrepare → e .checked ≡ true → A
+  none-checked {A} pb k = go (g .checkedPlaced k)
+    where
+      go : Placed (e .prepare) → A
+      go (inl h) = none-tentative pb h
+      go (inr (r′, h)) = none-final pb h
+
+  keep-add : (r : Result) → Can G w t (addRow r) e → Good G w t c (apply (addRow r) e)
+  keep-add r (pb, oo, sn) =
+      record {
+        finalStays = λ r′ h. none-final pb (g .finalStays r′ h);
+        doneStays = g .doneStays;
+        finalFrom = λ r′ h. tentative-final refl h;
+        tentativeNew = λ r′ h. none-before pb;
+        tentativeFrom = λ h. inl (ap isOK (one-tentative refl h));
+        answerFinal = λ r′ m. none-final pb (g .answerFinal r′ m);
+        answerTentative = λ r′ m. none-answered pb m;
+        answerOK = λ m. none-answered pb m;
+        acceptanceHeld = g .acceptanceHeld;
+        doneFrom = g .doneFrom;
+        heldFrom = g .heldFrom;
+        checkedNew = λ h. (none-before pb, open-before oo);
+        checkedPlaced = λ h. inl (ap tentative (only-OK r h));
+        rowFrom = λ h. inr sn;
+      }
+
+  keep-fill : (o : Verdict) → Can G w t (fillRow o) e → Good G w t c (apply (fillRow o) e)
+  keep-fill o (pb, held) =
+      record {
+        finalStays = λ r′ h. none-final pb (g .finalStays r′ h);
+        doneStays = g .doneStays;
+        finalFrom = λ r′ h. tentative-final refl h;
+        tentativeNew = λ r′ h. none-before pb;
+        tentativeFrom = λ h. inr (why o held h);
+        answerFinal = λ r′ m. none-final pb (g .answerFinal r′ m);
+        answerTentative = λ r′ m. none-answered pb m;
+        answerOK = λ m. none-answered pb m;
+        acceptanceHeld = g .acceptanceHeld;
+        doneFrom = g .doneFrom;
+        heldFrom = g .heldFrom;
+        checkedNew = g .checkedNew;
+        checkedPlaced = λ h. none-checked pb h;
+        rowFrom = λ h. g .rowFrom (held-there (e .prepare) (e .outcome) o held);
+      }
+    where
+      why : (o : Verdict) → Holds o (e .outcome) → tentative (resultFor o) ≡ tentative OK → Holds commit (e .outcome)
+      why commit k h = k
+      why abort k h = impossible (ap isOKPrepare h) refl
+
+  keep-final : (r : Result) → Can G w t (makeFinal r) e → Good G w t c (apply (makeFinal r) e)
+  keep-final r (mr, was) =
+      record {
+        finalStays = λ r′ h. ap final (same was (g .finalStays r′ h));
+        doneStays = g .doneStays;
+        finalFrom = λ r′ h. inr (rw (← one-final refl h) mr);
+        tentativeNew = λ r′ h. tentative-final h refl;
+        tentativeFrom = λ h. tentative-final h refl;
+        answerFinal = λ r′ m. ap final (same was (g .answerFinal r′ m));
+        answerTentative = λ r′ m. (g .answerTentative r′ m .0, inr (r, refl));
+        answerOK = g .answerOK;
+        acceptanceHeld = g .acceptanceHeld;
+        doneFrom = g .doneFrom;
+        heldFrom = g .heldFrom;
+        checkedNew = g .checkedNew;
+        checkedPlaced = λ h. inr (r, refl);
+        rowFrom = λ h. g .rowFrom (there was);
+      }
+    where
+      there : ((r″ : Result) × (e .prepare ≡ tentative r″)) ⊎ (e .prepare ≡ final r) → isThere (e .prepare) (e .outcome) ≡ true
+      there (inl (r″, h)) = rw h refl
+      there (inr h) = rw h refl
+
+      same : {r′ : Result} → ((r″ : Result) × (e .prepare ≡ tentative r″)) ⊎ (e .prepare ≡ final r) → e .prepare ≡ final r′ → r ≡ r′
+      same (inl (r″, h)) k = tentative-final h k
+      same (inr h) k = one-final h k
+
+  keep-note : (o : Verdict) → Can G w t (noteOutcome o) e → Good G w t c (apply (noteOutcome o) e)
+  keep-note o (oo, prp, sn) =
+      record {
+        finalStays = g .finalStays;
+        doneStays = λ o′ h. none-held oo (inr (g .doneStays o′ h));
+        finalFrom = g .finalFrom;
+        tentativeNew = g .tentativeNew;
+        tentativeFrom = λ h. lost (g .tentativeFrom h);
+        answerFinal = g .answerFinal;
+        answerTentative = g .answerTentative;
+        answerOK = λ m. lost (g .answerOK m);
+        acceptanceHeld = λ o′ m. none-held oo (g .acceptanceHeld o′ m);
+        doneFrom = λ o′ h. noted-done refl h;
+        heldFrom = λ o′ h. inr (rw (← one-held (inl refl) h) prp);
+        checkedNew = g .checkedNew;
+        checkedPlaced = g .checkedPlaced;
+        rowFrom = λ h. inr sn;
+      }
+    where
+      lost : (e .checked ≡ true) ⊎ Holds commit (e .outcome) → (e .checked ≡ true) ⊎ Holds commit (noted o)
+      lost (inl k) = inl k
+      lost (inr k) = none-held oo k
+
+  keep-finish : (o : Verdict) → Can G w t (finishOutcome o) e → Good G w t c (apply (finishOutcome o) e)
+  keep-finish o (oo, mf) =
+      record {
+        finalStays = g .finalStays;
+        doneStays = λ o′ h. noted-done oo (g .doneStays o′ h);
+        finalFrom = g .finalFrom;
+        tentativeNew = g .tentativeNew;
+        tentativeFrom = λ h. still (g .tentativeFrom h);
+        answerFinal = g .answerFinal;
+        answerTentative = g .answerTentative;
+        answerOK = λ m. still (g .answerOK m);
+        acceptanceHeld = λ o′ m. up (g .acceptanceHeld o′ m);
+        doneFrom = λ o′ h. inr (rw (← one-done refl h) mf);
+        heldFrom = λ o′ h. g .heldFrom o′ (rw (one-held h (inr refl)) (inl oo));
+        checkedNew = g .checkedNew;
+        checkedPlaced = g .checkedPlaced;
+        rowFrom = λ h. g .rowFrom (held-there (e .prepare) (e .outcome) o (inl oo));
+      }
+    where
+      up : {o′ : Verdict} → Holds o′ (e .outcome) → Holds o′ (done o)
+      up h = inr (ap done (one-held (inl oo) h))
+
+      still : (e .checked ≡ true) ⊎ Holds commit (e .outcome) → (e .checked ≡ true) ⊎ Holds commit (done o)
+      still (inl k) = inl k
+      still (inr k) = inr (up k)
+
+  keep-answer : (r : Result) (x : Bool) → Can G w t (answerResult r x) e → Good G w t c (apply (answerResult r x) e)
+  keep-answer r x is =
+      record {
+        finalStays = g .finalStays;
+        doneStays = g .doneStays;
+        finalFrom = g .finalFrom;
+        tentativeNew = g .tentativeNew;
+        tentativeFrom = g .tentativeFrom;
+        answerFinal = λ r′ m. sf r′ x is (List·Memᴰ·cases-cons m);
+        answerTentative = λ r′ m. st r′ x is (List·Memᴰ·cases-cons m);
+        answerOK = λ m. so x is (List·Memᴰ·cases-cons m);
+        acceptanceHeld = g .acceptanceHeld;
+        doneFrom = g .doneFrom;
+        heldFrom = g .heldFrom;
+        checkedNew = g .checkedNew;
+        checkedPlaced = g .checkedPlaced;
+        rowFrom = g .rowFrom;
+      }
+    where
+      sf : (r′ : Result) (x : Bool) → e .prepare ≡ asPrepare r x → (said r′ true ≡ said r x) ⊎ (said r′ true ∈ e .answers) → e .prepare ≡ final r′
+      sf r′ true i (inl h) = cc
+      sf r′ false i (inl h) = cc
+      sf r′ x i (inr m) = g .answerFinal r′ m
+
+      st : (r′ : Result) (x : Bool) → e .prepare ≡ asPrepare r x → (said r′ false ≡ said r x) ⊎ (said r′ false ∈ e .answers) → (c .prepare ≡ noPrepare) × ((e .prepare ≡ tentative r′) ⊎ ((r″ : Result) × (e .prepare ≡ final r″)))
+      st r′ true i (inl h) = let z : _≡_ {A = ℕ} 0 1 = cc in absurd (omega arith)
+      st r′ false i (inl h) = (g .tentativeNew r i, inl (cc))
+      st r′ x i (inr m) = g .answerTentative r′ m
+
+      so : (x : Bool) → e .prepare ≡ asPrepare r x → (said OK false ≡ said r x) ⊎ (said OK false ∈ e .answers) → (e .checked ≡ true) ⊎ Holds commit (e .outcome)
+      so true i (inl h) = let z : _≡_ {A = ℕ} 0 1 = cc in absurd (omega arith)
+      so false i (inl h) = g .tentativeFrom (cc)
+      so x i (inr m) = g .answerOK m
+
+  keep-accept : (o : Verdict) → Can G w t (acceptOutcome o) e → Good G w t c (apply (acceptOutcome o) e)
+  keep-accept o held =
+      record {
+        finalStays = g .finalStays;
+        doneStays = g .doneStays;
+        finalFrom = g .finalFrom;
+        tentativeNew = g .tentativeNew;
+        tentativeFrom = g .tentativeFrom;
+        answerFinal = g .answerFinal;
+        answerTentative = g .answerTentative;
+        answerOK = g .answerOK;
+        acceptanceHeld = λ o′ m. th o′ (List·Memᴰ·cases-cons m);
+        doneFrom = g .doneFrom;
+        heldFrom = g .heldFrom;
+        checkedNew = g .checkedNew;
+        checkedPlaced = g .checkedPlaced;
+        rowFrom = g .rowFrom;
+      }
+    where
+      th : (o′ : Verdict) → (o′ ≡ o) ⊎ (o′ ∈ e .acceptances) → Holds o′ (e .outcome)
+      th o′ (inl h) = rw h held
+      th o′ (inr m) = g .acceptanceHeld o′ m
+
+pub keep : {G : List Fact} {w t : ℕ} {c : Cell} {e : Entry} → Settled c → (a : Act) → Can G w t a e → Good G w t c e → Good G w t c (apply a e)
+keep s (addRow r) can g = keep-add s g r can
+keep s (fillRow o) can g = keep-fill s g o can
+keep s (makeFinal r) can g = keep-final s g r can
+keep s (noteOutcome o) can g = keep-note s g o can
+keep s (finishOutcome o) can g = keep-finish s g o can
+keep s (answerResult r x) can g = keep-answer s g r x can
+keep s (acceptOutcome o) can g = keep-accept s g o can
