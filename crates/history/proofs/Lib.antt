@@ -3,3 +3,4 @@ pub mod Below
 pub mod Cells
 pub mod Entries
 pub mod Invariant
+pub mod Kept
