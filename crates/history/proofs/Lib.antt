@@ -4,3 +4,6 @@ pub mod Cells
 pub mod Entries
 pub mod Invariant
 pub mod Kept
+pub mod Growth
+pub mod Acts
+pub mod Facts
