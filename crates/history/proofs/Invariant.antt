@@ -85,9 +85,15 @@ DeadEntry e = Dead (e .prepare) (e .outcome)
 abbrev pub Rests : Setup → Entries → ℕ → ℕ → Type 0
 Rests X entries t w = (X .begun w t .prepare ≡ final OK) ⊎ Quorum X (λ b. entries b w t .checked ≡ true)
 
--- what a declaration rests on: the fast count of answers, or f+1 that were final
+-- what a declaration rests on: the fast count of answers, final or not, or f+1 that were final
+abbrev pub FastAnswers : Setup → Entries → ℕ → ℕ → Result → Type 0
+FastAnswers X entries t w r = Crowd X (fastCount (X .f)) (λ b. (x : Bool) × (said r x ∈ entries b w t .answers))
+
+abbrev pub FinalAnswers : Setup → Entries → ℕ → ℕ → Result → Type 0
+FinalAnswers X entries t w r = Quorum X (λ b. said r true ∈ entries b w t .answers)
+
 abbrev pub Crowds : Setup → Entries → ℕ → ℕ → Result → Type 0
-Crowds X entries t w r = Crowd X (fastCount (X .f)) (λ b. (x : Bool) × (said r x ∈ entries b w t .answers)) ⊎ Quorum X (λ b. said r true ∈ entries b w t .answers)
+Crowds X entries t w r = FastAnswers X entries t w r ⊎ FinalAnswers X entries t w r
 
 -- what a promise of view v handed over: the box's rows in its last normal view x, which change no more
 pub record Promise (entries : Entries) (b v x : ℕ) (cells : Cells) : Type 0 where

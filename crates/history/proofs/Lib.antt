@@ -2,6 +2,9 @@ pub mod Below
 pub mod Cells
 pub mod Entries
 pub mod Invariant
+pub mod Kept
+pub mod Growth
+pub mod Acts
+pub mod Facts
 pub mod Fair
 pub mod Taken
-pub mod World
