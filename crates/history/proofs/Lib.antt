@@ -8,3 +8,6 @@ pub mod Acts
 pub mod Facts
 pub mod Fair
 pub mod Taken
+pub mod World
+pub mod Boxes
+pub mod Answering
