@@ -259,3 +259,112 @@ module _ (W : World) (b t : ℕ) (x : Body) (T : Table) (normal : isChanging T �
 
       now : prepareOf (held rows t) ≡ tentative r
       now = shows .0 t ∙ rw (eqb-self t) refl
+
+  pub taken-prepare : bodySent t ∈ s .facts → x ≡ W .bodies t → TakenAs W s b (proposePrepare t x) (withRows T (prepareProposed (W .proposals) (T .rows) t x))
+  unfolding prepareProposed
+  taken-prepare sent own = go (held (T .rows) t) refl
+    where
+      go : (q : Option Row) → held (T .rows) t ≡ q → TakenAs W s b (proposePrepare t x) (withRows T (cond (isSome q) (changed t rowChange (T .rows)) (added (record { stamp = t; body = x; prepare = tentative (W .proposals (T .rows) t x); outcome = noOutcome }) (T .rows))))
+      go none e = new-1 e sent own
+      go (some q) e = known q e (q .prepare) (q .outcome) refl refl
+
+-- ---- message 2
+
+module _ (W : World) (b t : ℕ) (T : Table) (normal : isChanging T ≡ false) (s : State) (k : Sound (setup W) s) (i : BoxIs W s b T) where
+  pub taken-final : (r : Result) → gaveResult t (T .view) r ∈ s .facts → RowHeld T t (λ q. ((p : Result) × (q .prepare ≡ tentative p)) ⊎ (q .prepare ≡ final r)) → TakenAs W s b (finalisePrepare t (T .view) r) (withRows T (prepareFinalised (T .rows) t r))
+  unfolding prepareFinalised replyFrom stateByte replyValue
+  taken-final r sent (q, e, h) =
+      let (z, m) = then-say W b t T normal s rows (act W b t T normal s k i (makeFinal r) (rw (i .view) at sent, held-as h) (λ z. let y : _≡_ {A = ℕ} 0 1 = cc in absurd (omega arith)) rows own (rw (entry-outcome W b t T normal s k i q e) shows)) r true now in
+      record { next = z .next; sound = z .sound; onward = z .onward; is = z .is; echo = (λ p g c n. echoed (prepareOf (held rows t)) r p true g now m c n, m) }
+    where
+      rows : List Row
+      rows = changed t (withPrepare (final r)) (T .rows)
+
+      own : Owned W rows
+      own = owned-changed W t (withPrepare (final r)) (λ p. refl) (λ p. refl) (T .rows) (i .owned)
+
+      shows : Looks (T .rows) rows t (final r) (q .outcome)
+      shows = looks-changed (T .rows) t (withPrepare (final r)) (λ p. refl) q e
+
+      now : prepareOf (held rows t) ≡ final r
+      now = shows .0 t ∙ rw (eqb-self t) refl
+
+      held-as : ((p : Result) × (q .prepare ≡ tentative p)) ⊎ (q .prepare ≡ final r) → ((p : Result) × (s .entry b (s .view b) t .prepare ≡ tentative p)) ⊎ (s .entry b (s .view b) t .prepare ≡ final r)
+      held-as (inl (p, z)) = inl (p, entry-prepare W b t T normal s k i q e ∙ z)
+      held-as (inr z) = inr (entry-prepare W b t T normal s k i q e ∙ z)
+
+  -- ---- message 3
+
+  module _ (o : Verdict) (x : Body) where
+    abbrev outcomeChange : Row → Row
+    outcomeChange r = withOutcome (notedAs o (r .outcome)) r
+
+    accepted-3 : (rows : List Row) → (h : Shows W s b T rows) × (o ∈ h .next .entry b (T .view) t .acceptances) → TakenAs W s b (proposeOutcome t o x) (withRows T rows)
+    unfolding replyFrom
+    accepted-3 rows (h, m) = record { next = h .next; sound = h .sound; onward = h .onward; is = h .is; echo = m }
+
+    module _ (prop : Proposed (s .facts) t (s .view b) o) (sent : bodySent t ∈ s .facts) where
+      -- noted now
+      noted-3 : (rows : List Row) (p : Prepare) → Owned W rows → s .entry b (s .view b) t .prepare ≡ p → s .entry b (s .view b) t .outcome ≡ noOutcome → Looks (T .rows) rows t p (noted o) → TakenAs W s b (proposeOutcome t o x) (withRows T rows)
+      noted-3 rows p own ep eo shows =
+          accepted-3 rows
+          (then-accept W b t T normal s rows (act W b t T normal s k i (noteOutcome o) (eo, prop, sent) (λ z. let y : _≡_ {A = ℕ} 0 1 = cc in absurd (omega arith)) rows own (rw ep shows)) o (inl (shows .1 t ∙ rw (eqb-self t) refl)))
+
+      known-3 : (q : Row) → held (T .rows) t ≡ some q → (q .outcome ≡ noOutcome) ⊎ HasVerdict o q → TakenAs W s b (proposeOutcome t o x) (withRows T (changed t outcomeChange (T .rows)))
+      known-3 q e h = by h
+        where
+          rows : List Row
+          rows = changed t outcomeChange (T .rows)
+
+          own : Owned W rows
+          own = owned-changed W t outcomeChange (λ r. refl) (λ r. refl) (T .rows) (i .owned)
+
+          shows : Looks (T .rows) rows t (q .prepare) (notedAs o (q .outcome))
+          shows = looks-changed (T .rows) t outcomeChange (λ r. refl) q e
+
+          -- an equal outcome is held: it stays
+          stays : notedAs o (q .outcome) ≡ q .outcome → Holds o (q .outcome) → TakenAs W s b (proposeOutcome t o x) (withRows T rows)
+          stays same j =
+              accepted-3 rows
+              (accept W b t T normal s k i rows own (shown W b t T normal s k i rows (q .prepare) (notedAs o (q .outcome)) (entry-prepare W b t T normal s k i q e) (entry-outcome W b t T normal s k i q e ∙ sym same) shows) o (rw (entry-outcome W b t T normal s k i q e) j))
+
+          by : (q .outcome ≡ noOutcome) ⊎ HasVerdict o q → TakenAs W s b (proposeOutcome t o x) (withRows T rows)
+          by (inl z) = noted-3 rows (q .prepare) own (entry-prepare W b t T normal s k i q e) (entry-outcome W b t T normal s k i q e ∙ z) (rw z at shows)
+          by (inr (inl z)) = stays (rw z refl) (inl z)
+          by (inr (inr z)) = stays (rw z refl) (inr z)
+
+      pub taken-outcome : x ≡ W .bodies t → (held (T .rows) t ≡ none) ⊎ RowHeld T t (λ q. (q .outcome ≡ noOutcome) ⊎ HasVerdict o q) → TakenAs W s b (proposeOutcome t o x) (withRows T (outcomeProposed (T .rows) t o x))
+      unfolding outcomeProposed
+      taken-outcome own (inr (q, e, h)) = rw e (known-3 q e h)
+      taken-outcome own (inl e) = rw e (noted-3 (added new (T .rows)) noPrepare (owned-added W new own (T .rows) (i .owned)) (sym (i .prepare t) ∙ ap prepareOf e) (sym (i .outcome t) ∙ ap outcomeOf e) (looks-added (T .rows) new e))
+        where
+          new : Row
+          new = record { stamp = t; body = x; prepare = noPrepare; outcome = noted o }
+
+  -- ---- message 4
+
+  pub taken-finish : (o : Verdict) → finalised t (T .view) o ∈ s .facts → RowHeld T t (HasVerdict o) → TakenAs W s b (finaliseOutcome t (T .view) o) (withRows T (outcomeFinalised (T .rows) t o))
+  unfolding outcomeFinalised
+  taken-finish o sent (q, e, h) = by h
+    where
+      rows : List Row
+      rows = changed t (withOutcome (done o)) (T .rows)
+
+      own : Owned W rows
+      own = owned-changed W t (withOutcome (done o)) (λ r. refl) (λ r. refl) (T .rows) (i .owned)
+
+      shows : Looks (T .rows) rows t (q .prepare) (done o)
+      shows = looks-changed (T .rows) t (withOutcome (done o)) (λ r. refl) q e
+
+      by : HasVerdict o q → TakenAs W s b (finaliseOutcome t (T .view) o) (withRows T rows)
+      by (inl z) =
+          let h = act W b t T normal s k i (finishOutcome o) (entry-outcome W b t T normal s k i q e ∙ z, rw (i .view) at sent) (λ z. let y : _≡_ {A = ℕ} 0 1 = cc in absurd (omega arith)) rows own (rw (entry-prepare W b t T normal s k i q e) shows) in
+          record { next = h .next; sound = h .sound; onward = h .onward; is = h .is; echo = tt }
+      by (inr z) =
+          record {
+            next = s;
+            sound = k;
+            onward = onward-stay b s;
+            is = unmoved W b t T normal s k i rows own (shown W b t T normal s k i rows (q .prepare) (done o) (entry-prepare W b t T normal s k i q e) (entry-outcome W b t T normal s k i q e ∙ z) shows);
+            echo = tt;
+          }
