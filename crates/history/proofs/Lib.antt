@@ -7,3 +7,4 @@ pub mod Kept
 pub mod Growth
 pub mod Acts
 pub mod Facts
+pub mod Steps
