@@ -1,11 +1,11 @@
 -- The group's state, what is sound, and that every act of a box at one stamp keeps it.
-use mathlib.Core.Path.{_≡_, refl, sym, ap, subst₂, _∙_}
-use mathlib.Core.Bool.{Bool, true, false}
+use mathlib.Core.Path.{_≡_, sym, ap, subst₂, _∙_}
+use mathlib.Core.Bool.{true, false}
 use mathlib.Core.Logic.{_⊎_, inl, inr}
 use mathlib.Core.List.{List}
 use Prim.Native.Nat.{ℕ, _≤_, _<_}
 use native.Mathlib.Omega.{arith}
-use Rattle.rules.specs.Tables.{Result, Result.OK, Prepare.final, Verdict, Verdict.abort, Outcome.done}
+use Rattle.rules.specs.Tables.{Result, Result.OK, Verdict.abort, Outcome.done}
 use Rattle.rules.proofs.Lists.{_∈_}
 use Rattle.history.proofs.Below.{at-least-map}
 use Rattle.history.proofs.Cells.{isAccepted, dead-if-refused}

@@ -2,7 +2,7 @@
 use mathlib.Core.Path.{_≡_, refl, sym, ap, subst}
 use mathlib.Core.Bool.{Bool, true, false, cond}
 use mathlib.Core.Logic.{_⊎_, inl, inr}
-use mathlib.Core.List.{List, [], _∷_, List·Memᴰ·head, List·Memᴰ·cases-cons, List·Memᴰ·not-nil}
+use mathlib.Core.List.{[], _∷_, List·Memᴰ·head, List·Memᴰ·cases-cons, List·Memᴰ·not-nil}
 use Prim.Native.Nat.{ℕ, _≤_, _<_}
 use native.Mathlib.Omega.{arith}
 use lib.Dec.{eqb}
@@ -12,7 +12,7 @@ use Rattle.rules.proofs.Lists.{_∈_}
 use Rattle.rules.proofs.Groups.{fast-quorum}
 use Rattle.history.proofs.Below.{search-below, at-least-map, at-least-fewer, at-least-below}
 use Rattle.history.proofs.Cells.{Holds}
-use Rattle.history.proofs.Entries.{Cells, Fact, Fact.gaveResult, Fact.declaredFinal, Fact.proposed, Fact.finalised, Fact.promised, Fact.bodySent, Fact.started, Said, Said.said}
+use Rattle.history.proofs.Entries.{Cells, Fact, Fact.gaveResult, Fact.declaredFinal, Fact.proposed, Fact.finalised, Fact.promised, Fact.bodySent, Fact.started, Said, Said.said, OKReason}
 use Rattle.history.proofs.Invariant.{Setup, Quorum, Began, Entries, Rests, Crowds, Promise}
 use Rattle.history.proofs.Kept.{keeps, held-proposed}
 use Rattle.history.proofs.Growth.{still}
@@ -23,14 +23,20 @@ use Rattle.history.proofs.Facts.{Duty, invariant-more}
 
 -- one value of a function changed
 abbrev pub setAt : (ℕ → ℕ) → ℕ → ℕ → ℕ → ℕ
-setAt f b x b′ = cond (eqb b b′) x (f b′)
+setAt f b x c = cond (eqb b c) x (f c)
 
-pub setAt-at : (f : ℕ → ℕ) (b x b′ : ℕ) → ((b ≡ b′) × (setAt f b x b′ ≡ x)) ⊎ (setAt f b x b′ ≡ f b′)
-setAt-at f b x b′ = go (same? b b′)
+pub setAt-here : (f : ℕ → ℕ) (b x c : ℕ) → b ≡ c → setAt f b x c ≡ x
+setAt-here f b x c e = rw (← e, eqb-self b) refl
+
+pub setAt-off : (f : ℕ → ℕ) (b x c : ℕ) → eqb b c ≡ false → setAt f b x c ≡ f c
+setAt-off f b x c e = rw e refl
+
+pub setAt-at : (f : ℕ → ℕ) (b x c : ℕ) → ((b ≡ c) × (setAt f b x c ≡ x)) ⊎ (setAt f b x c ≡ f c)
+setAt-at f b x c = go (same? b c)
   where
-    go : (b ≡ b′) ⊎ (eqb b b′ ≡ false) → ((b ≡ b′) × (setAt f b x b′ ≡ x)) ⊎ (setAt f b x b′ ≡ f b′)
-    go (inl e) = inl (e, rw (← e, eqb-self b) refl)
-    go (inr e) = inr (rw e refl)
+    go : (b ≡ c) ⊎ (eqb b c ≡ false) → ((b ≡ c) × (setAt f b x c ≡ x)) ⊎ (setAt f b x c ≡ f c)
+    go (inl e) = inl (e, setAt-here f b x c e)
+    go (inr e) = inr (setAt-off f b x c e)
 
 abbrev pub cellsOf : State → ℕ → Cells
 cellsOf s b t = record { prepare = s .entry b (s .view b) t .prepare; outcome = s .entry b (s .view b) t .outcome }
@@ -146,10 +152,10 @@ module _ (X : Setup) where
         go (inl e) = inl e
         go (inr h) = i .invariant .resultOK t w h
 
-    from-said : (b t w : ℕ) → ((o : Verdict) → proposed t o ∈ s .facts → ⊥) → said OK false ∈ s .entry b w t .answers → s .entry b w t .checked ≡ true
-    from-said b t w nb m = go (i .invariant .good b w t .answerOK m)
+    from-answer : (b t w : ℕ) → ((o : Verdict) → proposed t o ∈ s .facts → ⊥) → said OK false ∈ s .entry b w t .answers → s .entry b w t .checked ≡ true
+    from-answer b t w nb m = go (i .invariant .good b w t .answerOK m)
       where
-        go : (s .entry b w t .checked ≡ true) ⊎ Holds commit (s .entry b w t .outcome) → s .entry b w t .checked ≡ true
+        go : OKReason (s .entry b w t .checked) (s .entry b w t .outcome) → s .entry b w t .checked ≡ true
         go (inl k) = k
         go (inr h) = absurd (nb commit (held-proposed X (s .facts) (s .entry) (i .invariant) b w t commit (keeps X (s .facts) (s .entry) (i .invariant) w (i .invariant .seen b w t (inl (said OK false, m)))) h .0))
 
@@ -162,7 +168,7 @@ module _ (X : Setup) where
           where
             answered : (x : Bool) → said OK x ∈ s .entry b w t .answers → Rests X (s .entry) t w ⊎ (q .test b ≡ true → s .entry b w t .checked ≡ true)
             answered true m = inl (from-final b t w m)
-            answered false m = inr (λ e. from-said b t w nb m)
+            answered false m = inr (λ e. from-answer b t w nb m)
 
             go : (q .test b ≡ true) ⊎ (q .test b ≡ false) → Rests X (s .entry) t w ⊎ (q .test b ≡ true → s .entry b w t .checked ≡ true)
             go (inl e) = let (x, m) = q .holds b e in answered x m
@@ -204,9 +210,9 @@ module _ (X : Setup) where
   promise-keeps s i b v l =
       record {
         invariant = invariant-more X (s .facts) (s .entry) φ (i .invariant) (duty, λ u t h. inl (i .reached b u t h));
-        order = λ b′. ord b′ (setAt-at (s .promised) b v b′);
+        order = λ b′. order-at b′ (setAt-at (s .promised) b v b′);
         based = λ b′. still φ (i .based b′);
-        promises = λ b′ v′ x cells m. all b′ v′ x cells (List·Memᴰ·cases-cons m) (setAt-at (s .promised) b v b′);
+        promises = λ b′ v′ x cells m. bound-at b′ v′ x cells (List·Memᴰ·cases-cons m) (setAt-at (s .promised) b v b′);
         reached = i .reached;
       }
     where
@@ -216,43 +222,37 @@ module _ (X : Setup) where
       duty : Promise (s .entry) b v (s .view b) (cellsOf s b)
       duty = record { later = omega (arith, i .order b); samePrepare = λ t. refl; sameOutcome = λ t. refl }
 
-      ord : (b′ : ℕ) → ((b ≡ b′) × (setAt (s .promised) b v b′ ≡ v)) ⊎ (setAt (s .promised) b v b′ ≡ s .promised b′) → s .view b′ ≤ setAt (s .promised) b v b′
-      ord b′ (inl (p, e)) = rw (e, ← p) (omega (arith, i .order b))
-      ord b′ (inr e) = rw e (i .order b′)
+      order-at : (b′ : ℕ) → ((b ≡ b′) × (setAt (s .promised) b v b′ ≡ v)) ⊎ (setAt (s .promised) b v b′ ≡ s .promised b′) → s .view b′ ≤ setAt (s .promised) b v b′
+      order-at b′ (inl (p, e)) = rw (e, ← p) (omega (arith, i .order b))
+      order-at b′ (inr e) = rw e (i .order b′)
 
-      all : (b′ v′ x : ℕ) (cells : Cells) → (promised b′ v′ x cells ≡ φ) ⊎ (promised b′ v′ x cells ∈ s .facts) → ((b ≡ b′) × (setAt (s .promised) b v b′ ≡ v)) ⊎ (setAt (s .promised) b v b′ ≡ s .promised b′) → Bound (promising s b v) b′ v′ x
-      all b′ v′ x cells (inr m) (inr e) = rw e (i .promises b′ v′ x cells m)
-      all b′ v′ x cells (inr m) (inl (p, e)) = let k = i .promises b′ v′ x cells m in (rw e (omega (arith, k .0, l, ap (s .promised) p)), k .1)
-      all b′ v′ x cells (inl h) z = subst (λ (y : Fact). Binds (promising s b v) y) (sym h) (rw (eqb-self b) (omega arith), inl refl)
+      bound-at : (b′ v′ x : ℕ) (cells : Cells) → (promised b′ v′ x cells ≡ φ) ⊎ (promised b′ v′ x cells ∈ s .facts) → ((b ≡ b′) × (setAt (s .promised) b v b′ ≡ v)) ⊎ (setAt (s .promised) b v b′ ≡ s .promised b′) → Bound (promising s b v) b′ v′ x
+      bound-at b′ v′ x cells (inr m) (inr e) = rw e (i .promises b′ v′ x cells m)
+      bound-at b′ v′ x cells (inr m) (inl (p, e)) = let k = i .promises b′ v′ x cells m in (rw e (omega (arith, k .0, l, ap (s .promised) p)), k .1)
+      bound-at b′ v′ x cells (inl h) z = subst (λ (y : Fact). Binds (promising s b v) y) (sym h) (rw (eqb-self b) (omega arith), inl refl)
 
   pub adopt-keeps : (s : State) (i : Sound X s) (b v : ℕ) → s .promised b ≤ v → s .view b < v → started v ∈ s .facts → Sound X (adopting s b v)
-  adopt-keeps s i b v l l′ st =
+  adopt-keeps s i b v l below st =
       record {
         invariant = i .invariant;
-        order = λ b′. ord b′ (same? b b′);
-        based = λ b′. bas b′ (same? b b′);
-        promises = λ b′ v′ x cells m. vw b′ v′ x cells (i .promises b′ v′ x cells m) (same? b b′);
-        reached = λ b′ w t h. lw b′ w (i .reached b′ w t h) (same? b b′);
+        order = λ b′. order-at b′ (same? b b′);
+        based = λ b′. based-at b′ (same? b b′);
+        promises = λ b′ v′ x cells m. bound-at b′ v′ x cells (i .promises b′ v′ x cells m) (same? b b′);
+        reached = λ b′ w t h. reached-at b′ w (i .reached b′ w t h) (same? b b′);
       }
     where
-      at : (f : ℕ → ℕ) {b′ : ℕ} → b ≡ b′ → setAt f b v b′ ≡ v
-      at f p = rw (← p, eqb-self b) refl
+      order-at : (b′ : ℕ) → (b ≡ b′) ⊎ (eqb b b′ ≡ false) → setAt (s .view) b v b′ ≤ setAt (s .promised) b v b′
+      order-at b′ (inl p) = omega (arith, setAt-here (s .view) b v b′ p, setAt-here (s .promised) b v b′ p)
+      order-at b′ (inr p) = omega (arith, setAt-off (s .view) b v b′ p, setAt-off (s .promised) b v b′ p, i .order b′)
 
-      off : (f : ℕ → ℕ) {b′ : ℕ} → eqb b b′ ≡ false → setAt f b v b′ ≡ f b′
-      off f p = rw p refl
+      based-at : (b′ : ℕ) → (b ≡ b′) ⊎ (eqb b b′ ≡ false) → (setAt (s .view) b v b′ ≡ 0) ⊎ (started (setAt (s .view) b v b′) ∈ s .facts)
+      based-at b′ (inl p) = rw (setAt-here (s .view) b v b′ p) (inr st)
+      based-at b′ (inr p) = rw (setAt-off (s .view) b v b′ p) (i .based b′)
 
-      ord : (b′ : ℕ) → (b ≡ b′) ⊎ (eqb b b′ ≡ false) → setAt (s .view) b v b′ ≤ setAt (s .promised) b v b′
-      ord b′ (inl p) = omega (arith, at (s .view) p, at (s .promised) p)
-      ord b′ (inr p) = omega (arith, off (s .view) p, off (s .promised) p, i .order b′)
+      bound-at : (b′ v′ x : ℕ) (cells : Cells) → Bound s b′ v′ x → (b ≡ b′) ⊎ (eqb b b′ ≡ false) → Bound (adopting s b v) b′ v′ x
+      bound-at b′ v′ x cells k (inr p) = rw (setAt-off (s .view) b v b′ p, setAt-off (s .promised) b v b′ p) k
+      bound-at b′ v′ x cells k (inl p) = rw (setAt-here (s .view) b v b′ p, setAt-here (s .promised) b v b′ p) (omega (arith, k .0, ap (s .promised) p), inr (omega (arith, k .0, ap (s .promised) p)))
 
-      bas : (b′ : ℕ) → (b ≡ b′) ⊎ (eqb b b′ ≡ false) → (setAt (s .view) b v b′ ≡ 0) ⊎ (started (setAt (s .view) b v b′) ∈ s .facts)
-      bas b′ (inl p) = rw (at (s .view) p) (inr st)
-      bas b′ (inr p) = rw (off (s .view) p) (i .based b′)
-
-      vw : (b′ v′ x : ℕ) (cells : Cells) → Bound s b′ v′ x → (b ≡ b′) ⊎ (eqb b b′ ≡ false) → Bound (adopting s b v) b′ v′ x
-      vw b′ v′ x cells k (inr p) = rw (off (s .view) p, off (s .promised) p) k
-      vw b′ v′ x cells k (inl p) = rw (at (s .view) p, at (s .promised) p) (omega (arith, k .0, ap (s .promised) p), inr (omega (arith, k .0, ap (s .promised) p)))
-
-      lw : (b′ w : ℕ) → w ≤ s .view b′ → (b ≡ b′) ⊎ (eqb b b′ ≡ false) → w ≤ setAt (s .view) b v b′
-      lw b′ w h (inl p) = omega (arith, at (s .view) p, ap (s .view) p)
-      lw b′ w h (inr p) = omega (arith, off (s .view) p)
+      reached-at : (b′ w : ℕ) → w ≤ s .view b′ → (b ≡ b′) ⊎ (eqb b b′ ≡ false) → w ≤ setAt (s .view) b v b′
+      reached-at b′ w h (inl p) = omega (arith, setAt-here (s .view) b v b′ p, ap (s .view) p)
+      reached-at b′ w h (inr p) = omega (arith, setAt-off (s .view) b v b′ p)
