@@ -1,11 +1,11 @@
 -- The group's state, what is sound, and that every act of a box at one stamp keeps it.
-use mathlib.Core.Path.{_≡_, refl, sym, ap, subst₂, _∙_}
-use mathlib.Core.Bool.{Bool, true, false}
+use mathlib.Core.Path.{_≡_, sym, ap, subst₂, _∙_}
+use mathlib.Core.Bool.{true, false}
 use mathlib.Core.Logic.{_⊎_, inl, inr}
 use mathlib.Core.List.{List}
 use Prim.Native.Nat.{ℕ, _≤_, _<_}
 use native.Mathlib.Omega.{arith}
-use Rattle.rules.specs.Tables.{Result, Result.OK, Prepare.final, Verdict, Verdict.abort, Outcome.done}
+use Rattle.rules.specs.Tables.{Result, Result.OK, Verdict.abort, Outcome.done}
 use Rattle.rules.proofs.Lists.{_∈_}
 use Rattle.history.proofs.Below.{at-least-map}
 use Rattle.history.proofs.Cells.{isAccepted, dead-if-refused}
@@ -19,18 +19,23 @@ pub record State : Type 0 where
   pub entry : Entries  -- by box, view and stamp; a box's table is at its view
   pub facts : List Fact
 
+-- what a promise of v, with last normal view x, says of the box's views since
+abbrev pub Bound : State → ℕ → ℕ → ℕ → Type 0
+Bound s b v x = (v ≤ s .promised b) × ((s .view b ≡ x) ⊎ (v ≤ s .view b))
+
 pub record Sound (X : Setup) (s : State) : Type 0 where
   pub invariant : Invariant X (s .facts) (s .entry)
   pub order : (b : ℕ) → s .view b ≤ s .promised b
   pub based : (b : ℕ) → (s .view b ≡ 0) ⊎ (started (s .view b) ∈ s .facts)
-  pub promises : (b v x : ℕ) (cells : Cells) → promised b v x cells ∈ s .facts → (v ≤ s .promised b) × ((s .view b ≡ x) ⊎ (v ≤ s .view b))
+  pub promises : (b v x : ℕ) (cells : Cells) → promised b v x cells ∈ s .facts → Bound s b v x
   pub reached : (b w t : ℕ) → Touched (s .entry b w t) → w ≤ s .view b
 
 -- the check's only duty: an OK clashes with no accepted row of the table
 abbrev pub Passed : Setup → State → ℕ → ℕ → Type 0
 Passed X s b t = (u : ℕ) → X .clash t u → isAccepted (s .entry b (s .view b) u .prepare) (s .entry b (s .view b) u .outcome) ≡ false
 
--- ---- a box's step at one stamp
+-- ---- a box's act at one stamp
+
 abbrev pub acting : State → ℕ → ℕ → Act → State
 acting s b t a = record { view = s .view; promised = s .promised; entry = withEntry (s .entry) b (s .view b) t (apply a (s .entry b (s .view b) t)); facts = s .facts }
 
@@ -111,7 +116,7 @@ module _ (X : Setup) (s : State) (i : Sound X s) (b t : ℕ) (a : Act) (normal :
   frozen : (b′ v x t′ : ℕ) (cells : Cells) → promised b′ v x cells ∈ s .facts → x < v → new b′ x t′ ≡ s .entry b′ x t′
   frozen b′ v x t′ cells m l = go (at b′ x t′)
     where
-      clear : (b ≡ b′) → (w ≡ x) → (v ≤ s .promised b) × ((s .view b ≡ x) ⊎ (v ≤ s .view b)) → ⊥
+      clear : (b ≡ b′) → (w ≡ x) → Bound s b v x → ⊥
       clear p q (vl, z) = omega (arith, normal)
 
       go : At b′ x t′ → new b′ x t′ ≡ s .entry b′ x t′

@@ -1,5 +1,5 @@
 -- Boxes below n, counted by a test: two tests that pass often enough pass at a common box; a list of different boxes counts the same.
-use mathlib.Core.Path.{_≡_, refl, sym, ap, subst, _∙_}
+use mathlib.Core.Path.{_≡_, refl, ap, subst, _∙_}
 use mathlib.Core.Bool.{Bool, true, false}
 use mathlib.Core.Logic.{_⊎_, inl, inr, _≢_}
 use mathlib.Core.List.{List, [], _∷_, List·Memᴰ·head, List·Memᴰ·tail}
@@ -10,7 +10,7 @@ use native.Mathlib.Decide.{decLe}
 use lib.Dec.{eqb, ltb}
 use borrow.Author.Tests.{eqb-true, eqb-false, lt-ltb, ltb-true, eq-eqb}
 use Rattle.rules.specs.Tests.{both, either, bit, any, count, twice}
-use Rattle.rules.proofs.Logic.{impossible, cases, same?, eqb-self, both-left, both-right, both-true, either-left, either-right}
+use Rattle.rules.proofs.Logic.{same?, eqb-self, both-left, both-right, both-true, either-left, either-right}
 use Rattle.rules.proofs.Lists.{_∈_, any-none, none-any, any-some, some-any}
 
 -- ---- numbers

@@ -48,9 +48,17 @@ Holds o x = (x ≡ noted o) ⊎ (x ≡ done o)
 abbrev pub Dead : Prepare → Outcome → Type 0
 Dead p x = ((r : Result) × (p ≡ final r) × (isOK r ≡ false)) ⊎ (x ≡ done abort)
 
--- where a check gave OK there is a tentative OK, or a final result since
+-- where a box answered a tentative result it is there, or a final one since
+abbrev pub Stands : Result → Prepare → Type 0
+Stands r p = (p ≡ tentative r) ⊎ ((q : Result) × (p ≡ final q))
+
+-- so where a check gave OK
 abbrev pub Placed : Prepare → Type 0
-Placed p = (p ≡ tentative OK) ⊎ ((r : Result) × (p ≡ final r))
+Placed p = Stands OK p
+
+-- what message 2 with this result may make final
+abbrev pub Finalisable : Result → Prepare → Type 0
+Finalisable r p = ((q : Result) × (p ≡ tentative q)) ⊎ (p ≡ final r)
 
 pub prepare-cases : (p : Prepare) → (p ≡ noPrepare) ⊎ (((r : Result) × (p ≡ tentative r)) ⊎ ((r : Result) × (p ≡ final r)))
 prepare-cases noPrepare = inl refl
@@ -78,8 +86,16 @@ none-final {A} {p} {s} a b = let z : _≡_ {A = ℕ} 0 1 = cc in absurd (omega a
 pub none-tentative : {A : Type 0} {p : Prepare} {s : Result} → p ≡ noPrepare → p ≡ tentative s → A
 none-tentative {A} {p} {s} a b = let z : _≡_ {A = ℕ} 0 1 = cc in absurd (omega arith)
 
+pub none-stands : {A : Type 0} {p : Prepare} {r : Result} → p ≡ noPrepare → Stands r p → A
+none-stands a (inl b) = none-tentative a b
+none-stands a (inr (q, b)) = none-final a b
+
 pub one-final : {p : Prepare} {r s : Result} → p ≡ final r → p ≡ final s → r ≡ s
 one-final {p} {r} {s} a b = cc
+
+pub finalisable-same : {p : Prepare} {r q : Result} → Finalisable r p → p ≡ final q → r ≡ q
+finalisable-same (inl (k, h)) e = tentative-final h e
+finalisable-same (inr h) e = one-final h e
 
 pub one-tentative : {p : Prepare} {r s : Result} → p ≡ tentative r → p ≡ tentative s → r ≡ s
 one-tentative {p} {r} {s} a b = cc
@@ -129,6 +145,10 @@ held-there noPrepare x o (inl e) = ap hasOutcome e
 held-there noPrepare x o (inr e) = ap hasOutcome e
 held-there (tentative r) x o h = refl
 held-there (final r) x o h = refl
+
+pub finalisable-there : (p : Prepare) (x : Outcome) (r : Result) → Finalisable r p → isThere p x ≡ true
+finalisable-there p x r (inl (q, h)) = rw h refl
+finalisable-there p x r (inr h) = rw h refl
 
 -- ---- the same tests in the words of the rules
 

@@ -1,15 +1,15 @@
 -- One stamp in one box in one view: its row and what the box has answered for it there, the acts that change them, and what every act keeps.
-use mathlib.Core.Path.{_≡_, refl, sym, ap, subst, _∙_}
+use mathlib.Core.Path.{_≡_, refl, ap}
 use mathlib.Core.Bool.{Bool, true, false}
 use mathlib.Core.Logic.{_⊎_, inl, inr}
-use mathlib.Core.List.{List, [], _∷_, List·Memᴰ·cases-cons}
+use mathlib.Core.List.{List, _∷_, List·Memᴰ·cases-cons}
 use Prim.Native.Nat.{ℕ, _≤_}
 use native.Mathlib.Omega.{arith}
 use Rattle.rules.specs.Tables.{Result, Result.OK, Prepare, Prepare.noPrepare, Prepare.tentative, Prepare.final, Verdict, Verdict.commit, Verdict.abort, Outcome, Outcome.noOutcome, Outcome.noted, Outcome.done}
 use Rattle.rules.specs.Messages.{resultFor}
 use Rattle.rules.proofs.Logic.{impossible}
 use Rattle.rules.proofs.Lists.{_∈_}
-use Rattle.history.proofs.Cells.{isOK, isOKPrepare, isThere, Holds, Placed, only-OK, tentative-final, none-final, none-tentative, one-final, one-tentative, one-done, none-held, one-held, prepare-cases, outcome-cases, noted-done, held-there}
+use Rattle.history.proofs.Cells.{isOK, isOKPrepare, isThere, Holds, Placed, only-OK, tentative-final, none-final, one-final, one-tentative, one-done, none-held, one-held, prepare-cases, outcome-cases, noted-done, held-there, Stands, Finalisable, none-stands, finalisable-same, finalisable-there}
 
 pub record Cell : Type 0 where
   pub prepare : Prepare
@@ -71,28 +71,37 @@ apply (acceptOutcome o) e = record { prepare = e .prepare; outcome = e .outcome;
 abbrev pub Can : List Fact → ℕ → ℕ → Act → Entry → Type 0
 Can G w t (addRow r) e = (e .prepare ≡ noPrepare) × (e .outcome ≡ noOutcome) × (bodySent t ∈ G)
 Can G w t (fillRow o) e = (e .prepare ≡ noPrepare) × Holds o (e .outcome)
-Can G w t (makeFinal r) e = (gaveResult t w r ∈ G) × (((r′ : Result) × (e .prepare ≡ tentative r′)) ⊎ (e .prepare ≡ final r))
+Can G w t (makeFinal r) e = (gaveResult t w r ∈ G) × Finalisable r (e .prepare)
 Can G w t (noteOutcome o) e = (e .outcome ≡ noOutcome) × Proposed G t w o × (bodySent t ∈ G)
 Can G w t (finishOutcome o) e = (e .outcome ≡ noted o) × (finalised t w o ∈ G)
 Can G w t (answerResult r x) e = e .prepare ≡ asPrepare r x
 Can G w t (acceptOutcome o) e = Holds o (e .outcome)
 
+-- why a box says OK without it being final: its check gave it, or it holds the commit
+abbrev pub OKReason : Bool → Outcome → Type 0
+OKReason checked x = (checked ≡ true) ⊎ Holds commit x
+
 -- what holds of each entry, where c is the row of t in the table that view w began with: each field is about this stamp alone, and more facts keep it
 pub record Good (G : List Fact) (w t : ℕ) (c : Cell) (e : Entry) : Type 0 where
+  -- what the view began with stays; what is new since has its fact
   pub finalStays : (r : Result) → c .prepare ≡ final r → e .prepare ≡ final r
   pub doneStays : (o : Verdict) → c .outcome ≡ done o → e .outcome ≡ done o
   pub finalFrom : (r : Result) → e .prepare ≡ final r → (c .prepare ≡ final r) ⊎ (gaveResult t w r ∈ G)
+  -- a tentative result is new in this view
   pub tentativeNew : (r : Result) → e .prepare ≡ tentative r → c .prepare ≡ noPrepare
-  pub tentativeFrom : e .prepare ≡ tentative OK → (e .checked ≡ true) ⊎ Holds commit (e .outcome)
+  pub tentativeFrom : e .prepare ≡ tentative OK → OKReason (e .checked) (e .outcome)
+  -- what was answered still stands, whatever came after the answer
   pub answerFinal : (r : Result) → said r true ∈ e .answers → e .prepare ≡ final r
-  pub answerTentative : (r : Result) → said r false ∈ e .answers → (c .prepare ≡ noPrepare) × ((e .prepare ≡ tentative r) ⊎ ((r′ : Result) × (e .prepare ≡ final r′)))
-  pub answerOK : said OK false ∈ e .answers → (e .checked ≡ true) ⊎ Holds commit (e .outcome)
+  pub answerTentative : (r : Result) → said r false ∈ e .answers → (c .prepare ≡ noPrepare) × Stands r (e .prepare)
+  pub answerOK : said OK false ∈ e .answers → OKReason (e .checked) (e .outcome)
   pub acceptanceHeld : (o : Verdict) → o ∈ e .acceptances → Holds o (e .outcome)
+  -- outcomes and rows come from what was sent
   pub doneFrom : (o : Verdict) → e .outcome ≡ done o → (c .outcome ≡ done o) ⊎ (finalised t w o ∈ G)
   pub heldFrom : (o : Verdict) → Holds o (e .outcome) → (c .outcome ≡ done o) ⊎ Proposed G t w o
+  pub rowFrom : isThere (e .prepare) (e .outcome) ≡ true → (isThere (c .prepare) (c .outcome) ≡ true) ⊎ (bodySent t ∈ G)
+  -- a checked row was not there when the view began, and stays
   pub checkedNew : e .checked ≡ true → (c .prepare ≡ noPrepare) × (c .outcome ≡ noOutcome)
   pub checkedPlaced : e .checked ≡ true → Placed (e .prepare)
-  pub rowFrom : isThere (e .prepare) (e .outcome) ≡ true → (isThere (c .prepare) (c .outcome) ≡ true) ⊎ (bodySent t ∈ G)
 
 -- the table that a view begins with is settled: nothing tentative, nothing noted
 pub record Settled (c : Cell) : Type 0 where
@@ -117,18 +126,10 @@ module _ {G : List Fact} {w t : ℕ} {c : Cell} {e : Entry} (s : Settled c) (g :
       go (inr (inr (o, h))) = none-held oo (inr (g .doneStays o h))
 
   none-answered : {A : Type 0} {r : Result} → e .prepare ≡ noPrepare → said r false ∈ e .answers → A
-  none-answered {A} {r} pb m = go (g .answerTentative r m .1)
-    where
-      go : (e .prepare ≡ tentative r) ⊎ ((r′ : Result) × (e .prepare ≡ final r′)) → A
-      go (inl h) = none-tentative pb h
-      go (inr (r′, h)) = none-final pb h
+  none-answered {A} {r} pb m = none-stands pb (g .answerTentative r m .1)
 
   pub none-checked : {A : Type 0} → e .prepare ≡ noPrepare → e .checked ≡ true → A
-  none-checked {A} pb k = go (g .checkedPlaced k)
-    where
-      go : Placed (e .prepare) → A
-      go (inl h) = none-tentative pb h
-      go (inr (r′, h)) = none-final pb h
+  none-checked pb k = none-stands pb (g .checkedPlaced k)
 
   keep-add : (r : Result) → Can G w t (addRow r) e → Good G w t c (apply (addRow r) e)
   keep-add r (pb, oo, sn) =
@@ -175,12 +176,12 @@ module _ {G : List Fact} {w t : ℕ} {c : Cell} {e : Entry} (s : Settled c) (g :
   keep-final : (r : Result) → Can G w t (makeFinal r) e → Good G w t c (apply (makeFinal r) e)
   keep-final r (mr, was) =
       record {
-        finalStays = λ r′ h. ap final (same was (g .finalStays r′ h));
+        finalStays = λ r′ h. ap final (finalisable-same was (g .finalStays r′ h));
         doneStays = g .doneStays;
         finalFrom = λ r′ h. inr (rw (← one-final refl h) mr);
         tentativeNew = λ r′ h. tentative-final h refl;
         tentativeFrom = λ h. tentative-final h refl;
-        answerFinal = λ r′ m. ap final (same was (g .answerFinal r′ m));
+        answerFinal = λ r′ m. ap final (finalisable-same was (g .answerFinal r′ m));
         answerTentative = λ r′ m. (g .answerTentative r′ m .0, inr (r, refl));
         answerOK = g .answerOK;
         acceptanceHeld = g .acceptanceHeld;
@@ -188,16 +189,8 @@ module _ {G : List Fact} {w t : ℕ} {c : Cell} {e : Entry} (s : Settled c) (g :
         heldFrom = g .heldFrom;
         checkedNew = g .checkedNew;
         checkedPlaced = λ h. inr (r, refl);
-        rowFrom = λ h. g .rowFrom (there was);
+        rowFrom = λ h. g .rowFrom (finalisable-there (e .prepare) (e .outcome) r was);
       }
-    where
-      there : ((r″ : Result) × (e .prepare ≡ tentative r″)) ⊎ (e .prepare ≡ final r) → isThere (e .prepare) (e .outcome) ≡ true
-      there (inl (r″, h)) = rw h refl
-      there (inr h) = rw h refl
-
-      same : {r′ : Result} → ((r″ : Result) × (e .prepare ≡ tentative r″)) ⊎ (e .prepare ≡ final r) → e .prepare ≡ final r′ → r ≡ r′
-      same (inl (r″, h)) k = tentative-final h k
-      same (inr h) k = one-final h k
 
   keep-note : (o : Verdict) → Can G w t (noteOutcome o) e → Good G w t c (apply (noteOutcome o) e)
   keep-note o (oo, prp, sn) =
@@ -218,7 +211,7 @@ module _ {G : List Fact} {w t : ℕ} {c : Cell} {e : Entry} (s : Settled c) (g :
         rowFrom = λ h. inr sn;
       }
     where
-      lost : (e .checked ≡ true) ⊎ Holds commit (e .outcome) → (e .checked ≡ true) ⊎ Holds commit (noted o)
+      lost : OKReason (e .checked) (e .outcome) → OKReason (e .checked) (noted o)
       lost (inl k) = inl k
       lost (inr k) = none-held oo k
 
@@ -244,7 +237,7 @@ module _ {G : List Fact} {w t : ℕ} {c : Cell} {e : Entry} (s : Settled c) (g :
       up : {o′ : Verdict} → Holds o′ (e .outcome) → Holds o′ (done o)
       up h = inr (ap done (one-held (inl oo) h))
 
-      still : (e .checked ≡ true) ⊎ Holds commit (e .outcome) → (e .checked ≡ true) ⊎ Holds commit (done o)
+      still : OKReason (e .checked) (e .outcome) → OKReason (e .checked) (done o)
       still (inl k) = inl k
       still (inr k) = inr (up k)
 
@@ -256,9 +249,9 @@ module _ {G : List Fact} {w t : ℕ} {c : Cell} {e : Entry} (s : Settled c) (g :
         finalFrom = g .finalFrom;
         tentativeNew = g .tentativeNew;
         tentativeFrom = g .tentativeFrom;
-        answerFinal = λ r′ m. sf r′ x is (List·Memᴰ·cases-cons m);
-        answerTentative = λ r′ m. st r′ x is (List·Memᴰ·cases-cons m);
-        answerOK = λ m. so x is (List·Memᴰ·cases-cons m);
+        answerFinal = λ r′ m. final-said r′ x is (List·Memᴰ·cases-cons m);
+        answerTentative = λ r′ m. tentative-said r′ x is (List·Memᴰ·cases-cons m);
+        answerOK = λ m. ok-said x is (List·Memᴰ·cases-cons m);
         acceptanceHeld = g .acceptanceHeld;
         doneFrom = g .doneFrom;
         heldFrom = g .heldFrom;
@@ -267,20 +260,20 @@ module _ {G : List Fact} {w t : ℕ} {c : Cell} {e : Entry} (s : Settled c) (g :
         rowFrom = g .rowFrom;
       }
     where
-      sf : (r′ : Result) (x : Bool) → e .prepare ≡ asPrepare r x → (said r′ true ≡ said r x) ⊎ (said r′ true ∈ e .answers) → e .prepare ≡ final r′
-      sf r′ true i (inl h) = cc
-      sf r′ false i (inl h) = cc
-      sf r′ x i (inr m) = g .answerFinal r′ m
+      final-said : (r′ : Result) (x : Bool) → e .prepare ≡ asPrepare r x → (said r′ true ≡ said r x) ⊎ (said r′ true ∈ e .answers) → e .prepare ≡ final r′
+      final-said r′ true i (inl h) = cc
+      final-said r′ false i (inl h) = cc
+      final-said r′ x i (inr m) = g .answerFinal r′ m
 
-      st : (r′ : Result) (x : Bool) → e .prepare ≡ asPrepare r x → (said r′ false ≡ said r x) ⊎ (said r′ false ∈ e .answers) → (c .prepare ≡ noPrepare) × ((e .prepare ≡ tentative r′) ⊎ ((r″ : Result) × (e .prepare ≡ final r″)))
-      st r′ true i (inl h) = let z : _≡_ {A = ℕ} 0 1 = cc in absurd (omega arith)
-      st r′ false i (inl h) = (g .tentativeNew r i, inl (cc))
-      st r′ x i (inr m) = g .answerTentative r′ m
+      tentative-said : (r′ : Result) (x : Bool) → e .prepare ≡ asPrepare r x → (said r′ false ≡ said r x) ⊎ (said r′ false ∈ e .answers) → (c .prepare ≡ noPrepare) × Stands r′ (e .prepare)
+      tentative-said r′ true i (inl h) = let z : _≡_ {A = ℕ} 0 1 = cc in absurd (omega arith)
+      tentative-said r′ false i (inl h) = (g .tentativeNew r i, inl (cc))
+      tentative-said r′ x i (inr m) = g .answerTentative r′ m
 
-      so : (x : Bool) → e .prepare ≡ asPrepare r x → (said OK false ≡ said r x) ⊎ (said OK false ∈ e .answers) → (e .checked ≡ true) ⊎ Holds commit (e .outcome)
-      so true i (inl h) = let z : _≡_ {A = ℕ} 0 1 = cc in absurd (omega arith)
-      so false i (inl h) = g .tentativeFrom (cc)
-      so x i (inr m) = g .answerOK m
+      ok-said : (x : Bool) → e .prepare ≡ asPrepare r x → (said OK false ≡ said r x) ⊎ (said OK false ∈ e .answers) → OKReason (e .checked) (e .outcome)
+      ok-said true i (inl h) = let z : _≡_ {A = ℕ} 0 1 = cc in absurd (omega arith)
+      ok-said false i (inl h) = g .tentativeFrom (cc)
+      ok-said x i (inr m) = g .answerOK m
 
   keep-accept : (o : Verdict) → Can G w t (acceptOutcome o) e → Good G w t c (apply (acceptOutcome o) e)
   keep-accept o held =
@@ -293,7 +286,7 @@ module _ {G : List Fact} {w t : ℕ} {c : Cell} {e : Entry} (s : Settled c) (g :
         answerFinal = g .answerFinal;
         answerTentative = g .answerTentative;
         answerOK = g .answerOK;
-        acceptanceHeld = λ o′ m. th o′ (List·Memᴰ·cases-cons m);
+        acceptanceHeld = λ o′ m. still-held o′ (List·Memᴰ·cases-cons m);
         doneFrom = g .doneFrom;
         heldFrom = g .heldFrom;
         checkedNew = g .checkedNew;
@@ -301,9 +294,9 @@ module _ {G : List Fact} {w t : ℕ} {c : Cell} {e : Entry} (s : Settled c) (g :
         rowFrom = g .rowFrom;
       }
     where
-      th : (o′ : Verdict) → (o′ ≡ o) ⊎ (o′ ∈ e .acceptances) → Holds o′ (e .outcome)
-      th o′ (inl h) = rw h held
-      th o′ (inr m) = g .acceptanceHeld o′ m
+      still-held : (o′ : Verdict) → (o′ ≡ o) ⊎ (o′ ∈ e .acceptances) → Holds o′ (e .outcome)
+      still-held o′ (inl h) = rw h held
+      still-held o′ (inr m) = g .acceptanceHeld o′ m
 
 pub keep : {G : List Fact} {w t : ℕ} {c : Cell} {e : Entry} → Settled c → (a : Act) → Can G w t a e → Good G w t c e → Good G w t c (apply a e)
 keep s (addRow r) can g = keep-add s g r can

@@ -9,7 +9,7 @@ use Rattle.rules.specs.Tests.{both}
 use Rattle.rules.specs.Tables.{Result, Result.OK, Prepare.noPrepare, Prepare.tentative, Prepare.final, Verdict, Verdict.commit, Verdict.abort, Outcome.noOutcome, Outcome.noted, Outcome.done}
 use Rattle.rules.proofs.Logic.{impossible, same?, eqb-self}
 use Rattle.rules.proofs.Lists.{_∈_}
-use Rattle.history.proofs.Cells.{isAccepted, only-OK, tentative-final, none-final, one-final, none-held, ok-or-aborted, prepare-cases, outcome-cases, noted-done}
+use Rattle.history.proofs.Cells.{isAccepted, only-OK, none-final, none-held, ok-or-aborted, prepare-cases, outcome-cases, noted-done, finalisable-same}
 use Rattle.history.proofs.Entries.{Cell, Fact, Said, Entry, Proposed, Good, Settled, Act, Act.addRow, Act.fillRow, Act.makeFinal, Act.noteOutcome, Act.finishOutcome, Act.answerResult, Act.acceptOutcome, apply, Can, none-checked}
 use Rattle.history.proofs.Invariant.{Entries, acceptedCell, DeadEntry}
 
@@ -70,11 +70,7 @@ module _ {G : List Fact} {w t : ℕ} {c : Cell} {e : Entry} (s : Settled c) (g :
   pub grows : (a : Act) → Can G w t a e → Grows e (apply a e)
   grows (addRow r) (pb, oo, sn) = grow (addRow r) (λ k. none-checked s g pb k) (λ o h. h) (λ r′ h. none-final pb h) (λ x m. m) (λ o m. m)
   grows (fillRow o) (pb, held) = grow (fillRow o) (λ k. k) (λ o h. h) (λ r′ h. none-final pb h) (λ x m. m) (λ o m. m)
-  grows (makeFinal r) (gave, was) = grow (makeFinal r) (λ k. k) (λ o h. h) (λ r′ h. ap final (same was h)) (λ x m. m) (λ o m. m)
-    where
-      same : {r′ : Result} → ((r″ : Result) × (e .prepare ≡ tentative r″)) ⊎ (e .prepare ≡ final r) → e .prepare ≡ final r′ → r ≡ r′
-      same (inl (r″, h)) k = tentative-final h k
-      same (inr h) k = one-final h k
+  grows (makeFinal r) (gave, was) = grow (makeFinal r) (λ k. k) (λ o h. h) (λ r′ h. ap final (finalisable-same was h)) (λ x m. m) (λ o m. m)
   grows (noteOutcome o) (oo, p, sn) = grow (noteOutcome o) (λ k. k) (λ o′ h. none-held oo (inr h)) (λ r′ h. h) (λ x m. m) (λ o m. m)
   grows (finishOutcome o) (oo, p) = grow (finishOutcome o) (λ k. k) (λ o′ h. noted-done oo h) (λ r′ h. h) (λ x m. m) (λ o m. m)
   grows (answerResult r x) can = grow (answerResult r x) (λ k. k) (λ o h. h) (λ r′ h. h) (λ x m. List·Memᴰ·tail m) (λ o m. m)

@@ -8,15 +8,16 @@ use native.Mathlib.Omega.{arith}
 use native.Mathlib.Nat.{not-suc-le-zero}
 use native.Mathlib.Decide.{decLe}
 use lib.Dec.{eqb}
+use borrow.Author.Tests.{eqb-false}
 use Rattle.rules.specs.Groups.{quorum, fastCount, agreementCount}
 use Rattle.rules.specs.Tables.{Result, Result.OK, Prepare.noPrepare, Prepare.tentative, Prepare.final, Verdict, Verdict.commit, Verdict.abort, Outcome.noOutcome, Outcome.done}
 use Rattle.rules.proofs.Logic.{impossible, cases, same?}
 use Rattle.rules.proofs.Lists.{_∈_}
 use Rattle.rules.proofs.Groups.{quorums-meet, agreement-once, fast-meets, fast-quorum}
-use Rattle.history.proofs.Below.{eqb-diff, lt-or-eq, strong, search-below, at-least-map, at-least-below, shared, some-one, common}
-use Rattle.history.proofs.Cells.{isOK, isAccepted, isThere, Holds, one-final, none-final, tentative-final, ok-or-aborted, accepted-not-aborted, none-held, commit-abort, only-OK, prepare-cases}
-use Rattle.history.proofs.Entries.{Cells, Fact, Fact.gaveResult, Fact.declaredFinal, Fact.proposed, Fact.finalised, Fact.promised, Fact.bodySent, Fact.started, Said.said, Proposed}
-use Rattle.history.proofs.Invariant.{Setup, Crowd, Quorum, acceptedCell, NoFinalAt, AgreedAt, FixedAt, Began, Touched, Entries, DeadEntry, Rests, FastAnswers, FinalAnswers, Crowds, Invariant}
+use Rattle.history.proofs.Below.{lt-or-eq, strong, search-below, at-least-map, at-least-below, shared, some-one, common}
+use Rattle.history.proofs.Cells.{isOK, isAccepted, isThere, Holds, one-final, none-final, tentative-final, ok-or-aborted, accepted-not-aborted, none-held, only-OK, prepare-cases, Stands}
+use Rattle.history.proofs.Entries.{Cells, Fact, Fact.gaveResult, Fact.declaredFinal, Fact.proposed, Fact.finalised, Fact.promised, Fact.bodySent, Fact.started, Said.said, Proposed, OKReason}
+use Rattle.history.proofs.Invariant.{Setup, Crowd, Quorum, acceptedCell, NoFinalAt, AgreedAt, FixedAt, Began, Touched, Entries, DeadEntry, Rests, FastAnswers, Crowds, Invariant}
 
 module _ (X : Setup) (G : List Fact) (entries : Entries) where
   -- what a view's table keeps
@@ -227,7 +228,7 @@ module _ (X : Setup) (G : List Fact) (entries : Entries) where
           none : (q : Result) → entries b (m .w) t .prepare ≡ final q → ⊥
           none q e = nf b q h (rw (table-prepare b t h) e)
 
-          go : (entries b (m .w) t .prepare ≡ tentative r) ⊎ ((q : Result) × (entries b (m .w) t .prepare ≡ final q)) → entries b (m .w) t .prepare ≡ tentative r
+          go : Stands r (entries b (m .w) t .prepare) → entries b (m .w) t .prepare ≡ tentative r
           go (inl e) = e
           go (inr (q, e)) = absurd (none q e)
 
@@ -254,7 +255,7 @@ module _ (X : Setup) (G : List Fact) (entries : Entries) where
             dead (inr (inl (r, e, k))) = tentative-final pu e
             dead (inr (inr e)) = accepted-not-aborted (M u .prepare) (M u .outcome) au (held-kept b u abort h (inr e))
 
-            go : (entries b (m .w) t .checked ≡ true) ⊎ Holds commit (entries b (m .w) t .outcome) → (entries b (m .w) u .checked ≡ true) ⊎ Holds commit (entries b (m .w) u .outcome) → ⊥
+            go : OKReason (entries b (m .w) t .checked) (entries b (m .w) t .outcome) → OKReason (entries b (m .w) u .checked) (entries b (m .w) u .outcome) → ⊥
             go (inl kt) (inl ku) = dead (i .checkedApart b (m .w) t u cl kt ku)
             go (inr ct) ku = none-held op (inr (held-kept b t commit h ct))
             go (inl kt) (inr cu) = not-fixed (inr (held-kept b u commit h cu))
@@ -280,7 +281,7 @@ module _ (X : Setup) (G : List Fact) (entries : Entries) where
           go d g l (inr (inl (r, e))) = inr (λ r′ h k. tentative-final e k)
           go (no z) g l (inr (inr (r, e))) = inr (λ r′ h k. z (omega (arith, h .0)))
           go (yes z) (inr g) l (inr (inr (r, e))) = inr (λ r′ h k. impossible (h .1) g)
-          go (yes z) (inl g) (inr l) (inr (inr (r, e))) = inr (λ r′ h k. eqb-diff (m .last b) (m .w) l (h .2))
+          go (yes z) (inl g) (inr l) (inr (inr (r, e))) = inr (λ r′ h k. eqb-false (m .last b) (m .w) l (h .2))
           go (yes z) (inl g) (inl l) (inr (inr (r, e))) = inl (r, (omega arith, g, l), e)
 
       -- the fast count in view w, with a final result in a used table: they are the same

@@ -6,6 +6,7 @@ pub mod Kept
 pub mod Growth
 pub mod Acts
 pub mod Facts
+pub mod Steps
 pub mod Fair
 pub mod Taken
 pub mod World
