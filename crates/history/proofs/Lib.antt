@@ -12,3 +12,5 @@ pub mod Taken
 pub mod World
 pub mod Boxes
 pub mod Answering
+pub mod Views
+pub mod Gathered
