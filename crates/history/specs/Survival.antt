@@ -84,10 +84,10 @@ module _ {A : Type 0} where
 abbrev pub put : (ℕ → Table) → ℕ → Table → ℕ → Table
 put tables box T b = cond (eqb box b) T (tables b)
 
-unfoldable pub sending : Group → Sent → Group
+abbrev pub sending : Group → Sent → Group
 sending G x = record { n = G .n; table = G .table; had = G .had; sent = G .sent ++ (x ∷ []); answers = G .answers; declared = G .declared; merged = G .merged }
 
-unfoldable pub answering : Group → Sent → Answer → Group
+abbrev pub answering : Group → Sent → Answer → Group
 answering G x a =
     record {
       n = G .n;
@@ -99,31 +99,31 @@ answering G x a =
       merged = G .merged;
     }
 
-unfoldable pub declaring : Group → Declared → Group
+abbrev pub declaring : Group → Declared → Group
 declaring G d = record { n = G .n; table = G .table; had = G .had; sent = G .sent; answers = G .answers; declared = G .declared ++ (d ∷ []); merged = G .merged }
 
-unfoldable pub merging : Group → Merged → Group
+abbrev pub merging : Group → Merged → Group
 merging G m = record { n = G .n; table = G .table; had = G .had; sent = G .sent; answers = G .answers; declared = G .declared; merged = G .merged ++ (m ∷ []) }
 
 module _ (M : Model) (room : Room) (proposals : Check) where
   -- a box of the group answers by the rules; there is no other box
-  unfoldable pub arriving : Group → Option Sent → Group
+  abbrev pub arriving : Group → Option Sent → Group
   arriving G none = G
   arriving G (some x) = cond (ltb (x .box) (G .n)) (answering G x (answer M room proposals (G .table (x .box)) (x .message))) G
 
   -- a merge by the rules, if it is not refused
-  unfoldable pub mergingAs : Group → ℕ → Option Table → Group
+  abbrev pub mergingAs : Group → ℕ → Option Table → Group
   mergingAs G v none = G
   mergingAs G v (some T) = merging G (record { view = v; table = T; sentByThen = G .sent })
 
   -- whatever happens, and whether or not it keeps a rule
-  unfoldable pub step : Group → Event → Group
+  abbrev pub step : Group → Event → Group
   step G (sends b m) = sending G (record { box = b; message = m })
   step G (arrives k) = arriving G (at (G .sent) k)
   step G (declares s v r) = declaring G (record { stamp = s; view = v; result = r })
   step G (merges v ks) = mergingAs G v (merge M check v (allOf (at (G .had)) ks))
 
-  unfoldable pub after : Group → List Event → Group
+  abbrev pub after : Group → List Event → Group
   after G [] = G
   after G (e ∷ es) = after (step G e) es
 
