@@ -99,7 +99,7 @@ settled-rows-rule : {ss : List ℕ} (rows : List Row) → AllOnTheWay ss rows �
 unfolding isSettled
 settled-rows-rule rows h = all-every rowByRule (those isSettled rows) (λ r m. let (i, k) = those-of _ rows r m in held-rule (h r i) k)
 
-final-held : (q : Result) (o : Outcome) → somethingHeld (final q) o ≡ true
+pub final-held : (q : Result) (o : Outcome) → somethingHeld (final q) o ≡ true
 unfolding somethingHeld
 final-held q o = lt-ltb 0 (prepareCode (final q) + outcomeCode o) (omega arith)
 
