@@ -1,1 +1,2 @@
 pub mod Fair
+pub mod OneStamp
