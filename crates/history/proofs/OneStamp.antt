@@ -39,6 +39,12 @@ is-tentative a noPrepare h = impossible h refl
 is-tentative a (tentative b) h = ap tentative (sym (same-result a b h))
 is-tentative a (final b) h = impossible h refl
 
+pub ok? : (a : Result) → (a ≡ OK) ⊎ (a ≡ OK → ⊥)
+ok? OK = inl refl
+ok? ABORT = inr (λ e. let z : _≡_ {A = ℕ} 0 1 = cc in omega arith)
+ok? ABSTAIN = inr (λ e. let z : _≡_ {A = ℕ} 0 1 = cc in omega arith)
+ok? (RETRY s) = inr (λ e. let z : _≡_ {A = ℕ} 0 1 = cc in omega arith)
+
 no-final : (p : Prepare) → ((a : Result) → p ≡ final a → ⊥) → finalResult p ≡ none
 no-final noPrepare h = refl
 no-final (tentative a) h = refl
@@ -102,7 +108,7 @@ module _ (agreement : ℕ) (rs : List Row) where
   if-agreed (final b) a e = none-some e
 
   -- enough rows have an agreed result, so one has it
-  agreed-by : (a : Result) → 0 < agreement → isAgreed agreement rs a ≡ true → (r : Row) × (r ∈ rs) × (r .prepare ≡ tentative a)
+  pub agreed-by : (a : Result) → 0 < agreement → isAgreed agreement rs a ≡ true → (r : Row) × (r ∈ rs) × (r .prepare ≡ tentative a)
   unfolding isAgreed
   agreed-by a l h = go (cases (any (λ r. holdsTentative a (r .prepare)) rs))
     where
