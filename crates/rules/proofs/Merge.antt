@@ -23,7 +23,7 @@ use Rattle.rules.proofs.Check.{CheckByRule}
 use Rattle.rules.proofs.Rows.{rising-above, held-cons, held-is, changed-from}
 use Rattle.rules.proofs.Tables.{stamp-positive, row-facts, row-by, ByRule, table-facts, table-by}
 use Rattle.rules.proofs.Used.{used-newest, merge-is, merge-fits, first-table}
-use Rattle.rules.proofs.Standings.{outcome-cases, Says, standing-says}
+use Rattle.rules.proofs.Standings.{NoneOrDone, outcome-cases, Says, standing-says}
 use Rattle.rules.proofs.Settled.{merged-settled}
 use Rattle.rules.proofs.Stamps.{RisingFrom, stamps-rising, stamps-from, rows-from}
 
@@ -238,7 +238,7 @@ module _ (M : Model) (agreement : ℕ) (Ts : List Table) (rules : every (tableBy
       place (inl h) = inl h
       place (inr h) = inr (turn-of s m h)
 
-      go : ((mergedOutcome (rowsOf Ts s) ≡ noOutcome) × ((r : Row) → r ∈ rowsOf Ts s → r .outcome ≡ noOutcome)) ⊎ ((v : Verdict) × (mergedOutcome (rowsOf Ts s) ≡ done v)) → (q : Row) → q ∈ rowsOf Ts s → Says (rowsOf Ts s) C → (somethingHeld (uncheckedPrepare C (mergedOutcome (rowsOf Ts s))) (mergedOutcome (rowsOf Ts s)) ≡ true) ⊎ (s ∈ turns)
+      go : NoneOrDone (rowsOf Ts s) → (q : Row) → q ∈ rowsOf Ts s → Says (rowsOf Ts s) C → (somethingHeld (uncheckedPrepare C (mergedOutcome (rowsOf Ts s))) (mergedOutcome (rowsOf Ts s)) ≡ true) ⊎ (s ∈ turns)
       go (inl (e, h)) q i says = place (to-come agreement s (rowsOf Ts s) (rows-rule s) C (mergedOutcome (rowsOf Ts s)) says q i (λ k. h q i) (λ v k. let z : _≡_ {A = ℕ} 0 1 = cc in omega arith))
       go (inr (v, e)) q i says = place (to-come agreement s (rowsOf Ts s) (rows-rule s) C (mergedOutcome (rowsOf Ts s)) says q i (λ k. let z : _≡_ {A = ℕ} 0 1 = cc in absurd (omega arith)) (λ u k. let z : _≡_ {A = ℕ} 0 1 = cc in omega arith))
 

@@ -13,7 +13,7 @@ use Rattle.rules.specs.Merge.{stamps, rowsOf, mergedOutcome, Standing, S
 use Rattle.rules.proofs.Logic.{both-right, both-true}
 use Rattle.rules.proofs.Lists.{_∈_, every-one, all-every}
 use Rattle.rules.proofs.Rows.{changed-from}
-use Rattle.rules.proofs.Standings.{outcome-cases}
+use Rattle.rules.proofs.Standings.{NoneOrDone, outcome-cases}
 
 -- ---- before any check
 
@@ -44,7 +44,7 @@ settled-outcome rs = go (outcome-cases rs)
     verdict commit = refl
     verdict abort = refl
 
-    go : ((mergedOutcome rs ≡ noOutcome) × ((r : Row) → r ∈ rs → r .outcome ≡ noOutcome)) ⊎ ((v : Verdict) × (mergedOutcome rs ≡ done v)) → either (eqb (outcomeCode (mergedOutcome rs)) 0) (leb 3 (outcomeCode (mergedOutcome rs))) ≡ true
+    go : NoneOrDone rs → either (eqb (outcomeCode (mergedOutcome rs)) 0) (leb 3 (outcomeCode (mergedOutcome rs))) ≡ true
     go (inl (e, h)) = rw e refl
     go (inr (v, e)) = rw e (verdict v)
 
