@@ -20,6 +20,10 @@ use Rattle.rules.proofs.Check.{clash-sym, clash-irreflexive, check-clear, check
 use Rattle.rules.proofs.Standings.{accepted-settled, check-settled}
 use Rattle.history.proofs.OneStamp.{waiting-empty, checked-ok, ok?}
 
+-- whatever the standing: the agreed ones, and then the open ones
+abbrev pub anyOf : Standing → Bool
+anyOf c = true
+
 module _ (agreement : ℕ) (Us : List Table) where
   -- ---- a row on its way
 
@@ -45,15 +49,19 @@ module _ (agreement : ℕ) (Us : List Table) where
   abbrev pub Reason : List Row → Row → Type 0
   Reason rows r = (q : Row) × (q ∈ rows) × Clash r q × (accepted q ≡ true) × Stands amongAgreed q
 
-  -- while the stamps ss are still to come
+  -- its check is still to come, or it was found OK, or there is a reason
+  abbrev pub Reasoned : List ℕ → List Row → Row → Type 0
+  Reasoned ss rows r = (r .stamp ∈ ss) ⊎ ((r .prepare ≡ final OK) ⊎ Reason rows r)
+
+  -- the rows while the stamps ss are still to be checked, and of those checked all waited among these standings
   pub record Midway (among : Standing → Bool) (ss : List ℕ) (rows : List Row) : Type 0 where
     pub stands : (r : Row) → r ∈ rows → Stands among r
     pub toCome : (r : Row) → r ∈ rows → r .stamp ∈ ss → Unchecked r
     -- only rows that were not checked are both accepted and clash
     pub apart : (r q : Row) → r ∈ rows → q ∈ rows → Clash r q → accepted r ≡ true → accepted q ≡ true → Unchecked r × Unchecked q
-    -- an agreed stamp that waited was found OK, or there is a reason
-    pub reasoned : (r : Row) → r ∈ rows → Waits amongAgreed (r .stamp) → (r .stamp ∈ ss) ⊎ ((r .prepare ≡ final OK) ⊎ Reason rows r)
+    pub reasoned : (r : Row) → r ∈ rows → Waits amongAgreed (r .stamp) → Reasoned ss rows r
 
+  -- a stamp that waits holds nothing yet
   pub waits-unsettled : (among : Standing → Bool) (s : ℕ) → Waits among s → isSettled (before s) ≡ false
   waits-unsettled among s w = not-true _ (both-right _ _ w)
 
@@ -67,14 +75,17 @@ module _ (agreement : ℕ) (Us : List Table) where
     new = withPrepare (final result) (before s)
 
     -- the row of s is new, and the others are as they were
-    made : (q : Row) → q ∈ checkedAt check s rows → (q ≡ new) ⊎ ((q ∈ rows) × (eqb (q .stamp) s ≡ false))
+    abbrev NewOrOld : Row → Type 0
+    NewOrOld r = (r ≡ new) ⊎ ((r ∈ rows) × (eqb (r .stamp) s ≡ false))
+
+    made : (q : Row) → q ∈ checkedAt check s rows → NewOrOld q
     unfolding checkedAt
     made q n = go (changed-from s _ rows q n)
       where
         Change : Row → Row
         Change r = withPrepare (final (check (those isSettled rows) s (r .body))) r
 
-        go : (r : Row) × (r ∈ rows) × (((r .stamp ≡ s) × (q ≡ Change r)) ⊎ ((eqb (r .stamp) s ≡ false) × (q ≡ r))) → (q ≡ new) ⊎ ((q ∈ rows) × (eqb (q .stamp) s ≡ false))
+        go : (r : Row) × (r ∈ rows) × (((r .stamp ≡ s) × (q ≡ Change r)) ⊎ ((eqb (r .stamp) s ≡ false) × (q ≡ r))) → NewOrOld q
         go (r, i, inl (k, e)) = inl (e ∙ ap Change (way .toCome r i (List·Memᴰ·head k) ∙ ap before k))
         go (r, i, inr (k, e)) = inr (rw e i, rw e k)
 
@@ -95,10 +106,11 @@ module _ (agreement : ℕ) (Us : List Table) where
         ok : result ≡ OK
         ok = checked-ok (before s) result (waiting-empty (before s) (waits-unsettled among s waits) .1) (rw e at a)
 
+    -- so only old rows can be accepted and clash, and of those it is known already
     next-apart : (r q : Row) → r ∈ checkedAt check s rows → q ∈ checkedAt check s rows → Clash r q → accepted r ≡ true → accepted q ≡ true → Unchecked r × Unchecked q
     next-apart r q m n c a b = go (made r m) (made q n)
       where
-        go : (r ≡ new) ⊎ ((r ∈ rows) × (eqb (r .stamp) s ≡ false)) → (q ≡ new) ⊎ ((q ∈ rows) × (eqb (q .stamp) s ≡ false)) → Unchecked r × Unchecked q
+        go : NewOrOld r → NewOrOld q → Unchecked r × Unchecked q
         go (inl e) (inl k) = impossible (rw (e, k) at c) (clash-irreflexive (new .stamp) (new .body) (new .body))
         go (inl e) (inr (j, d)) = clear r q e j c a b
         go (inr (i, d)) (inl k) = clear q r k i (sym (clash-sym (r .stamp) (r .body) (q .stamp) (q .body)) ∙ c) b a
@@ -106,7 +118,7 @@ module _ (agreement : ℕ) (Us : List Table) where
 
     module _ (early : Waits amongAgreed s → (q : Row) → Stands among q → Stands amongAgreed q) where
       -- the check said OK, or it saw the reason
-      new-reasoned : (r : Row) → r ≡ new → Waits amongAgreed (r .stamp) → (r .prepare ≡ final OK) ⊎ Reason (checkedAt check s rows) r
+      new-reasoned : (r : Row) → r ≡ new → Waits amongAgreed (r .stamp) → Reasoned ss (checkedAt check s rows) r
       unfolding uncheckedRow
       new-reasoned r e w = go (ok? result)
         where
@@ -115,16 +127,16 @@ module _ (agreement : ℕ) (Us : List Table) where
               let (q, n, a, c) = check-against rows s (before s .body) (λ k. d (check-settled rows s (before s .body) ∙ k)) in
               (q, stays q n a, c, a, early (rw e at w) q (way .stands q n))
 
-          go : (result ≡ OK) ⊎ (result ≡ OK → ⊥) → (r .prepare ≡ final OK) ⊎ Reason (checkedAt check s rows) r
-          go (inl k) = inl (ap (λ (x : Row). x .prepare) e ∙ ap final k)
-          go (inr d) = inr (rw e (against d))
+          go : (result ≡ OK) ⊎ (result ≡ OK → ⊥) → Reasoned ss (checkedAt check s rows) r
+          go (inl k) = inr (inl (ap (λ (x : Row). x .prepare) e ∙ ap final k))
+          go (inr d) = inr (inr (rw e (against d)))
 
-      old-reasoned : (r : Row) → eqb (r .stamp) s ≡ false → (r .stamp ∈ (s ∷ ss)) ⊎ ((r .prepare ≡ final OK) ⊎ Reason rows r) → (r .stamp ∈ ss) ⊎ ((r .prepare ≡ final OK) ⊎ Reason (checkedAt check s rows) r)
+      old-reasoned : (r : Row) → eqb (r .stamp) s ≡ false → Reasoned (s ∷ ss) rows r → Reasoned ss (checkedAt check s rows) r
       old-reasoned r d (inr (inl p)) = inr (inl p)
       old-reasoned r d (inr (inr (q, n, c, a, w))) = inr (inr (q, stays q n a, c, a, w))
       old-reasoned r d (inl m) = go (List·Memᴰ·cases-cons m)
         where
-          go : (r .stamp ≡ s) ⊎ (r .stamp ∈ ss) → (r .stamp ∈ ss) ⊎ ((r .prepare ≡ final OK) ⊎ Reason (checkedAt check s rows) r)
+          go : (r .stamp ≡ s) ⊎ (r .stamp ∈ ss) → Reasoned ss (checkedAt check s rows) r
           go (inl e) = impossible (eq-eqb (r .stamp) s e) d
           go (inr k) = inl k
 
@@ -132,16 +144,16 @@ module _ (agreement : ℕ) (Us : List Table) where
       unfolding uncheckedRow
       next = record { stands = λ r m. stands r (made r m); toCome = λ r m. toCome r (made r m); apart = next-apart; reasoned = λ r m. reasoned r (made r m) }
         where
-          stands : (r : Row) → (r ≡ new) ⊎ ((r ∈ rows) × (eqb (r .stamp) s ≡ false)) → Stands among r
+          stands : (r : Row) → NewOrOld r → Stands among r
           stands r (inl e) = inr (rw e (waits, (result, refl)))
           stands r (inr (m, d)) = way .stands r m
 
-          toCome : (r : Row) → (r ≡ new) ⊎ ((r ∈ rows) × (eqb (r .stamp) s ≡ false)) → r .stamp ∈ ss → Unchecked r
+          toCome : (r : Row) → NewOrOld r → r .stamp ∈ ss → Unchecked r
           toCome r (inl e) k = absurd (once (rw e at k))
           toCome r (inr (m, d)) k = way .toCome r m (List·Memᴰ·tail k)
 
-          reasoned : (r : Row) → (r ≡ new) ⊎ ((r ∈ rows) × (eqb (r .stamp) s ≡ false)) → Waits amongAgreed (r .stamp) → (r .stamp ∈ ss) ⊎ ((r .prepare ≡ final OK) ⊎ Reason (checkedAt check s rows) r)
-          reasoned r (inl e) w = inr (new-reasoned r e w)
+          reasoned : (r : Row) → NewOrOld r → Waits amongAgreed (r .stamp) → Reasoned ss (checkedAt check s rows) r
+          reasoned r (inl e) w = new-reasoned r e w
           reasoned r (inr (m, d)) w = old-reasoned r d (way .reasoned r m w)
 
   -- ---- all checks
@@ -157,9 +169,6 @@ module _ (agreement : ℕ) (Us : List Table) where
       let (w, early) = f s (List·Memᴰ·head refl) in
       in-turn among (suc s) ss h (λ t m. f t (List·Memᴰ·tail m)) (checkedAt check s rows) (next among s ss rows way w (λ m. omega (arith, rising-least (suc s) ss h s m)) early)
 
-  abbrev pub anyOf : Standing → Bool
-  anyOf c = true
-
   abbrev agreedTurns : List ℕ
   agreedTurns = toCheck amongAgreed agreement Us
 
@@ -174,6 +183,7 @@ module _ (agreement : ℕ) (Us : List Table) where
   unfolding toCheck
   turn-waits among s m = those-of _ (stamps Us) s m .1
 
+  -- at first no row is checked
   before-agreed : Midway amongAgreed agreedTurns (uncheckedRows agreement Us)
   unfolding uncheckedRows uncheckedRow toCheck
   before-agreed = record { stands = λ r m. inl (unchecked r m .1); toCome = λ r m k. unchecked r m .1; apart = λ r q m n c a b. (unchecked r m .1, unchecked q n .1); reasoned = λ r m w. inl (in-those _ (stamps Us) (r .stamp) (unchecked r m .0) w) }
@@ -190,6 +200,7 @@ module _ (agreement : ℕ) (Us : List Table) where
       go (hasAgreed a) h h′ = impossible h′ refl
       go hasOpen h h′ = impossible h refl
 
+  -- what was checked among the agreed is not checked again among the open
   before-open : {rows : List Row} → Midway amongAgreed [] rows → Midway anyOf openTurns rows
   before-open {rows} way = record { stands = λ r m. any r (way .stands r m); toCome = λ r m k. toCome r (turn-waits amongOpen (r .stamp) k) (way .stands r m); apart = way .apart; reasoned = λ r m w. reasoned r (way .reasoned r m w) }
     where
@@ -201,7 +212,7 @@ module _ (agreement : ℕ) (Us : List Table) where
       toCome r k (inl e) = e
       toCome r k (inr (w, a)) = agreed-not-open (r .stamp) w k
 
-      reasoned : (r : Row) → (r .stamp ∈ []) ⊎ ((r .prepare ≡ final OK) ⊎ Reason rows r) → (r .stamp ∈ openTurns) ⊎ ((r .prepare ≡ final OK) ⊎ Reason rows r)
+      reasoned : (r : Row) → Reasoned [] rows r → Reasoned openTurns rows r
       reasoned r (inl m) = absurd (List·Memᴰ·not-nil m)
       reasoned r (inr h) = inr h
 

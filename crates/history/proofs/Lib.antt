@@ -1,3 +1,4 @@
 pub mod Fair
 pub mod OneStamp
 pub mod InTurn
+pub mod FairMerge

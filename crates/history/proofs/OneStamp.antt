@@ -18,7 +18,7 @@ use Rattle.rules.proofs.Logic.{impossible, none-some, cases, not-false-of, both
 use Rattle.rules.proofs.Lists.{_∈_, none-any, any-some, some-any, pair-none, provided-some, first-from, first-is, none-first}
 use Rattle.rules.proofs.Same.{same-result, same-verdict, not-other-result}
 use Rattle.rules.proofs.Tables.{verdict-counts, result-counts}
-use Rattle.rules.proofs.Standings.{is-final, outcome-cases, Says, standing-says}
+use Rattle.rules.proofs.Standings.{is-final, NoneOrDone, outcome-cases, Says, standing-says}
 use Rattle.rules.proofs.Votes.{count-none}
 use Rattle.rules.proofs.Merge.{final-held}
 
@@ -200,7 +200,7 @@ unchecked-accepted agreement s rs h = go (outcome-cases rs)
     final-ok hasNone k = impossible k refl
     final-ok hasOpen k = impossible k refl
 
-    go : ((mergedOutcome rs ≡ noOutcome) × ((r : Row) → r ∈ rs → r .outcome ≡ noOutcome)) ⊎ ((v : Verdict) × (mergedOutcome rs ≡ done v)) → ((r : Row) × (r ∈ rs) × (r .prepare ≡ final OK)) ⊎ (mergedOutcome rs ≡ done commit)
+    go : NoneOrDone rs → ((r : Row) × (r ∈ rs) × (r .prepare ≡ final OK)) ⊎ (mergedOutcome rs ≡ done commit)
     go (inl (e, n)) = inl (subst (Says rs) (final-ok (standing agreement rs) (with-outcome e)) (standing-says rs agreement))
     go (inr (commit, e)) = inr e
     go (inr (abort, e)) = not-aborted (uncheckedPrepare (standing agreement rs) (done abort)) (with-outcome e)
