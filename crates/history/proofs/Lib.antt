@@ -8,6 +8,9 @@ pub mod Acts
 pub mod Facts
 pub mod Steps
 pub mod Fair
+pub mod OneStamp
+pub mod InTurn
+pub mod FairMerge
 pub mod Taken
 pub mod World
 pub mod Boxes

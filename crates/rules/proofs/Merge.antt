@@ -7,23 +7,24 @@ use mathlib.Core.Option.{some}
 use Prim.Native.Nat.{ℕ, suc, _+_, _<_, _%_}
 use native.Mathlib.Omega.{arith}
 use native.Mathlib.Nat.{mod-lt}
-use lib.Dec.{eqb, leb}
+use lib.Dec.{eqb}
 use lib.ListN.{length, length-map}
-use borrow.Author.Tests.{eq-eqb, lt-ltb}
-use Rattle.rules.specs.Tests.{both, either, every, those}
+use borrow.Author.Tests.{eq-eqb, ne-eqb, lt-ltb}
+use Rattle.rules.specs.Tests.{both, every, those}
 use Rattle.rules.specs.Groups.{fOf, agreementCount}
 use Rattle.rules.specs.Stamps.{isStamp, countsByRule, contentsByRule}
 use Rattle.rules.specs.Tables.{Result, Result.OK, Result.ABORT, Result.ABSTAIN, Result.RETRY, Prepare, Prepare.noPrepare, Prepare.final, Verdict, Verdict.commit, Verdict.abort, Outcome, Outcome.noOutcome, Outcome.noted, Outcome.done, prepareCode, outcomeCode, resultByRule, retryByRule, somethingHeld, Row, rowByRule, rising, Model, Table, normalMode, modeByRule, tableByRule}
 use Rattle.rules.specs.Messages.{Check, held, changed, withPrepare}
 use Rattle.rules.specs.Circumstances.{settled, startsView}
 use Rattle.rules.specs.Merge.{used, stamps, rowsOf, mergedOutcome, Standing, Standing.hasNone, Standing.hasFinal, Standing.hasAgreed, Standing.hasOpen, standing, uncheckedPrepare, bodyOf, uncheckedRow, uncheckedRows, amongAgreed, amongOpen, toCheck, isSettled, checkedAt, checkedInTurn, mergedRows, groupOf, mergedTable, mergeNumber, merge}
-use Rattle.rules.proofs.Logic.{impossible, both-right, both-true, either-first, eqb-self}
+use Rattle.rules.proofs.Logic.{impossible, both-true, either-first, eqb-self}
 use Rattle.rules.proofs.Lists.{_∈_, every-one, all-every, those-of, in-those, in-all}
 use Rattle.rules.proofs.Check.{CheckByRule}
-use Rattle.rules.proofs.Rows.{held-is, changed-from}
+use Rattle.rules.proofs.Rows.{rising-above, held-cons, held-is, changed-from}
 use Rattle.rules.proofs.Tables.{stamp-positive, row-facts, row-by, ByRule, table-facts, table-by}
 use Rattle.rules.proofs.Used.{used-newest, merge-is, merge-fits, first-table}
-use Rattle.rules.proofs.Standings.{outcome-cases, Says, standing-says}
+use Rattle.rules.proofs.Standings.{NoneOrDone, outcome-cases, Says, standing-says}
+use Rattle.rules.proofs.Settled.{merged-settled}
 use Rattle.rules.proofs.Stamps.{RisingFrom, stamps-rising, stamps-from, rows-from}
 
 -- ---- checks change results alone
@@ -65,14 +66,27 @@ unfolding rising
 rising-stamps low [] h = refl
 rising-stamps low (r ∷ rs) (l, h) = both-true (lt-ltb low (r .stamp) l) (rising-stamps (r .stamp) rs h)
 
--- ---- rows on their way: by the rule, settled, and held or still to be checked
+-- and each of them is the row held
+pub rising-held : (low : ℕ) (rows : List Row) → RisingFrom low (stampsOf rows) → (r : Row) → r ∈ rows → held rows (r .stamp) ≡ some r
+rising-held low [] h r m = absurd (List·Memᴰ·not-nil m)
+rising-held low (q ∷ qs) (l, h) r m = go (List·Memᴰ·cases-cons m)
+  where
+    rise : rising (q .stamp) qs ≡ true
+    rise = rising-stamps (q .stamp) qs h
+
+    go : (r ≡ q) ⊎ (r ∈ qs) → held (q ∷ qs) (r .stamp) ≡ some r
+    go (inl e) = rw (e, held-cons q qs (q .stamp), eqb-self (q .stamp)) refl
+    go (inr m′) =
+        let d = ne-eqb (q .stamp) (r .stamp) (λ e. omega (arith, rising-above (q .stamp) qs rise r m′)) in
+        rw (held-cons q qs (r .stamp), d) (held-is (q .stamp) qs rise r m′)
+
+-- ---- rows on their way: by the rule, and held or still to be checked
 
 pub record OnTheWay (ss : List ℕ) (r : Row) : Type 0 where
   pub stamp : isStamp (r .stamp) ≡ true
   pub counts : countsByRule (length (r .body .reads)) (length (r .body .writes)) ≡ true
   pub retry : retryByRule (r .prepare) ≡ true
   pub contents : contentsByRule (r .stamp) (r .body) ≡ true
-  pub shut : settled r ≡ true
   pub waits : (somethingHeld (r .prepare) (r .outcome) ≡ true) ⊎ (r .stamp ∈ ss)
 
 held-rule : {ss : List ℕ} {r : Row} → OnTheWay ss r → somethingHeld (r .prepare) (r .outcome) ≡ true → rowByRule r ≡ true
@@ -85,17 +99,7 @@ settled-rows-rule : {ss : List ℕ} (rows : List Row) → AllOnTheWay ss rows �
 unfolding isSettled
 settled-rows-rule rows h = all-every rowByRule (those isSettled rows) (λ r m. let (i, k) = those-of _ rows r m in held-rule (h r i) k)
 
-checked-settled : (r : Row) (q : Result) → settled r ≡ true → settled (withPrepare (final q) r) ≡ true
-unfolding settled either
-checked-settled r q h = both-true (go q) (both-right _ _ h)
-  where
-    go : (q : Result) → either (eqb (prepareCode (final q)) 0) (leb 5 (prepareCode (final q))) ≡ true
-    go OK = refl
-    go ABORT = refl
-    go ABSTAIN = refl
-    go (RETRY s) = refl
-
-final-held : (q : Result) (o : Outcome) → somethingHeld (final q) o ≡ true
+pub final-held : (q : Result) (o : Outcome) → somethingHeld (final q) o ≡ true
 unfolding somethingHeld
 final-held q o = lt-ltb 0 (prepareCode (final q) + outcomeCode o) (omega arith)
 
@@ -115,7 +119,6 @@ module _ (check : Check) (checks : CheckByRule check) where
             counts = w .counts;
             retry = checks (those isSettled rows) s (r .body) (settled-rows-rule rows h);
             contents = w .contents;
-            shut = checked-settled r _ (w .shut);
             waits = inl (final-held _ (r .outcome));
           }
 
@@ -128,7 +131,7 @@ module _ (check : Check) (checks : CheckByRule check) where
           past (inr k′) = inr k′
 
       same : (r : Row) → r ∈ rows → eqb (r .stamp) s ≡ false → OnTheWay ss r
-      same r i d = let w = h r i in record { stamp = w .stamp; counts = w .counts; retry = w .retry; contents = w .contents; shut = w .shut; waits = still r d (w .waits) }
+      same r i d = let w = h r i in record { stamp = w .stamp; counts = w .counts; retry = w .retry; contents = w .contents; waits = still r d (w .waits) }
 
       go : (r : Row) × (r ∈ rows) × (((r .stamp ≡ s) × (q ≡ Change r)) ⊎ ((eqb (r .stamp) s ≡ false) × (q ≡ r))) → OnTheWay ss q
       go (r, i, inl (k, e)) = rw e (moved r i)
@@ -141,38 +144,7 @@ module _ (check : Check) (checks : CheckByRule check) where
 
 -- ---- the rows before the checks
 
-settled-prepare : (c : Standing) (o : Outcome) → either (eqb (prepareCode (uncheckedPrepare c o)) 0) (leb 5 (prepareCode (uncheckedPrepare c o))) ≡ true
-unfolding either
-settled-prepare hasNone o = refl
-settled-prepare (hasFinal OK) o = refl
-settled-prepare (hasFinal ABORT) o = refl
-settled-prepare (hasFinal ABSTAIN) o = refl
-settled-prepare (hasFinal (RETRY s)) o = refl
-settled-prepare (hasAgreed OK) noOutcome = refl
-settled-prepare (hasAgreed OK) (noted v) = refl
-settled-prepare (hasAgreed OK) (done v) = refl
-settled-prepare (hasAgreed ABORT) o = refl
-settled-prepare (hasAgreed ABSTAIN) o = refl
-settled-prepare (hasAgreed (RETRY s)) o = refl
-settled-prepare hasOpen noOutcome = refl
-settled-prepare hasOpen (noted commit) = refl
-settled-prepare hasOpen (noted abort) = refl
-settled-prepare hasOpen (done commit) = refl
-settled-prepare hasOpen (done abort) = refl
-
 module _ (agreement s : ℕ) (rs : List Row) (good : (r : Row) → r ∈ rs → (rowByRule r ≡ true) × (r .stamp ≡ s)) where
-  settled-outcome : either (eqb (outcomeCode (mergedOutcome rs)) 0) (leb 3 (outcomeCode (mergedOutcome rs))) ≡ true
-  unfolding either
-  settled-outcome = go (outcome-cases rs)
-    where
-      verdict : (v : Verdict) → either (eqb (outcomeCode (done v)) 0) (leb 3 (outcomeCode (done v))) ≡ true
-      verdict commit = refl
-      verdict abort = refl
-
-      go : ((mergedOutcome rs ≡ noOutcome) × ((r : Row) → r ∈ rs → r .outcome ≡ noOutcome)) ⊎ ((v : Verdict) × (mergedOutcome rs ≡ done v)) → either (eqb (outcomeCode (mergedOutcome rs)) 0) (leb 3 (outcomeCode (mergedOutcome rs))) ≡ true
-      go (inl (e, h)) = rw e refl
-      go (inr (v, e)) = rw e (verdict v)
-
   -- results come from rows by the rule
   unchecked-retry : (c : Standing) (o : Outcome) → Says rs c → retryByRule (uncheckedPrepare c o) ≡ true
   unfolding retryByRule resultByRule
@@ -256,7 +228,6 @@ module _ (M : Model) (agreement : ℕ) (Ts : List Table) (rules : every (tableBy
         counts = b;
         retry = unchecked-retry agreement s (rowsOf Ts s) (rows-rule s) (standing agreement (rowsOf Ts s)) (mergedOutcome (rowsOf Ts s)) says;
         contents = c;
-        shut = both-true (settled-prepare (standing agreement (rowsOf Ts s)) (mergedOutcome (rowsOf Ts s))) (settled-outcome agreement s (rowsOf Ts s) (rows-rule s));
         waits = go (outcome-cases (rowsOf Ts s)) q i says;
       }
     where
@@ -267,7 +238,7 @@ module _ (M : Model) (agreement : ℕ) (Ts : List Table) (rules : every (tableBy
       place (inl h) = inl h
       place (inr h) = inr (turn-of s m h)
 
-      go : ((mergedOutcome (rowsOf Ts s) ≡ noOutcome) × ((r : Row) → r ∈ rowsOf Ts s → r .outcome ≡ noOutcome)) ⊎ ((v : Verdict) × (mergedOutcome (rowsOf Ts s) ≡ done v)) → (q : Row) → q ∈ rowsOf Ts s → Says (rowsOf Ts s) C → (somethingHeld (uncheckedPrepare C (mergedOutcome (rowsOf Ts s))) (mergedOutcome (rowsOf Ts s)) ≡ true) ⊎ (s ∈ turns)
+      go : NoneOrDone (rowsOf Ts s) → (q : Row) → q ∈ rowsOf Ts s → Says (rowsOf Ts s) C → (somethingHeld (uncheckedPrepare C (mergedOutcome (rowsOf Ts s))) (mergedOutcome (rowsOf Ts s)) ≡ true) ⊎ (s ∈ turns)
       go (inl (e, h)) q i says = place (to-come agreement s (rowsOf Ts s) (rows-rule s) C (mergedOutcome (rowsOf Ts s)) says q i (λ k. h q i) (λ v k. let z : _≡_ {A = ℕ} 0 1 = cc in omega arith))
       go (inr (v, e)) q i says = place (to-come agreement s (rowsOf Ts s) (rows-rule s) C (mergedOutcome (rowsOf Ts s)) says q i (λ k. let z : _≡_ {A = ℕ} 0 1 = cc in absurd (omega arith)) (λ u k. let z : _≡_ {A = ℕ} 0 1 = cc in omega arith))
 
@@ -287,9 +258,6 @@ module _ (M : Model) (agreement : ℕ) (Ts : List Table) (rules : every (tableBy
       go : (r : Row) → (somethingHeld (r .prepare) (r .outcome) ≡ true) ⊎ (r .stamp ∈ []) → somethingHeld (r .prepare) (r .outcome) ≡ true
       go r (inl h) = h
       go r (inr m) = absurd (List·Memᴰ·not-nil m)
-
-  merged-settled : (check : Check) → CheckByRule check → every settled (mergedRows check agreement Ts) ≡ true
-  merged-settled check checks = all-every settled _ (λ r m. merged-way check checks r m .shut)
 
   -- stamps are above 0, and rise
   merged-rising : (check : Check) → rising 0 (mergedRows check agreement Ts) ≡ true
@@ -349,7 +317,7 @@ module _ (M : Model) (check : Check) (v : ℕ) (Ts : List Table) where
         both-true refl
         (both-true (eqb-self v)
         (both-true (eqb-self (v % groupOf Ts))
-        (both-true (eqb-self (groupOf Ts)) (both-true (eqb-self (length (mergedRows check agreement (used Ts)))) (merged-settled M agreement (used Ts) used-rules check checks)))))
+        (both-true (eqb-self (groupOf Ts)) (both-true (eqb-self (length (mergedRows check agreement (used Ts)))) (merged-settled check agreement (used Ts))))))
 
 -- a merge of tables by the rules is a table by the rules, of their group, and one that starts view v: normal, box v mod n, start rows equal to rows, all settled
 pub merge-by-rule : (M : Model) (check : Check) → CheckByRule check → (v : ℕ) (Ts : List Table) → every (tableByRule M) Ts ≡ true → (U : Table) → merge M check v Ts ≡ some U → (tableByRule M U ≡ true) × (U .n ≡ groupOf Ts) × (startsView (groupOf Ts) v U ≡ true)

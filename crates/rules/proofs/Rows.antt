@@ -101,6 +101,16 @@ module _ (s : ℕ) (change : Row → Row) where
       go (inl e) (inr k) below = (r, List·Memᴰ·head refl, inr (k, e ∙ rw k refl))
       go (inr m′) k below = let (p, n, w) = below m′ in (p, List·Memᴰ·tail n, w)
 
+  -- a row of another stamp stays
+  pub in-changed : (rows : List Row) (r : Row) → r ∈ rows → eqb (r .stamp) s ≡ false → r ∈ changed s change rows
+  unfolding changed
+  in-changed [] r m d = absurd (List·Memᴰ·not-nil m)
+  in-changed (q ∷ qs) r m d = go (List·Memᴰ·cases-cons m) (λ m′. in-changed qs r m′ d)
+    where
+      go : (r ≡ q) ⊎ (r ∈ qs) → (r ∈ qs → r ∈ changed s change qs) → r ∈ (cond (eqb (q .stamp) s) (change q) q ∷ changed s change qs)
+      go (inl e) below = let d′ : eqb (q .stamp) s ≡ false = rw e at d in rw d′ (List·Memᴰ·head e)
+      go (inr m′) below = List·Memᴰ·tail (below m′)
+
   module _ (keeps : (r : Row) → change r .stamp ≡ r .stamp) where
     stamp-kept : (b : Bool) (r : Row) → cond b (change r) r .stamp ≡ r .stamp
     stamp-kept true r = keeps r

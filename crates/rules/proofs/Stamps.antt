@@ -7,7 +7,7 @@ use Prim.Native.Nat.{ℕ, suc, _≤_, _<_}
 use native.Mathlib.Omega.{arith}
 use lib.Dec.{eqb, ltb}
 use borrow.Author.Tests.{ltb-true, ltb-false, eqb-true, eqb-false}
-use Rattle.rules.specs.Tests.{any}
+use Rattle.rules.specs.Tests.{any, kept, those}
 use Rattle.rules.specs.Tables.{Row, Table}
 use Rattle.rules.specs.Messages.{held}
 use Rattle.rules.specs.Merge.{withStamp, withStamps, stamps, rowsOf}
@@ -28,6 +28,20 @@ rising-least low (y ∷ ys) (l, h) x m = go (List·Memᴰ·cases-cons m) (λ m�
     go : (x ≡ y) ⊎ (x ∈ ys) → (x ∈ ys → y < x) → low ≤ x
     go (inl e) below = omega arith
     go (inr m′) below = omega (arith, below m′)
+
+rising-lower : (low high : ℕ) (xs : List ℕ) → low ≤ high → RisingFrom high xs → RisingFrom low xs
+rising-lower low high [] l h = tt
+rising-lower low high (x ∷ xs) l (k, h) = (omega arith, h)
+
+-- those of rising numbers that pass a test rise
+pub rising-those : (test : ℕ → Bool) (low : ℕ) (xs : List ℕ) → RisingFrom low xs → RisingFrom low (those test xs)
+unfolding those
+rising-those test low [] h = tt
+rising-those test low (x ∷ xs) (l, h) = go (test x) (rising-those test (suc x) xs h)
+  where
+    go : (b : Bool) → RisingFrom (suc x) (those test xs) → RisingFrom low (kept b x (those test xs))
+    go true k = (l, k)
+    go false k = rising-lower low (suc x) (those test xs) (omega arith) k
 
 -- rising lists with the same members are equal
 pub rising-same : (low : ℕ) (xs : List ℕ) → RisingFrom low xs → (bound : ℕ) (ys : List ℕ) → RisingFrom bound ys → ((x : ℕ) → x ∈ xs → x ∈ ys) → ((y : ℕ) → y ∈ ys → y ∈ xs) → xs ≡ ys

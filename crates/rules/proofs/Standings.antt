@@ -46,11 +46,14 @@ no-verdict (done abort) p q = impossible refl q
 
 module _ (rs : List Row) where
   -- none, and then no row holds one, or done
-  pub outcome-cases : ((mergedOutcome rs ≡ noOutcome) × ((r : Row) → r ∈ rs → r .outcome ≡ noOutcome)) ⊎ ((v : Verdict) × (mergedOutcome rs ≡ done v))
+  abbrev pub NoneOrDone : Type 0
+  NoneOrDone = ((mergedOutcome rs ≡ noOutcome) × ((r : Row) → r ∈ rs → r .outcome ≡ noOutcome)) ⊎ ((v : Verdict) × (mergedOutcome rs ≡ done v))
+
+  pub outcome-cases : NoneOrDone
   unfolding mergedOutcome
   outcome-cases = go (cases (any (λ r. holdsVerdict commit (r .outcome)) rs)) (cases (any (λ r. holdsVerdict abort (r .outcome)) rs))
     where
-      go : (any (λ r. holdsVerdict commit (r .outcome)) rs ≡ true) ⊎ (any (λ r. holdsVerdict commit (r .outcome)) rs ≡ false) → (any (λ r. holdsVerdict abort (r .outcome)) rs ≡ true) ⊎ (any (λ r. holdsVerdict abort (r .outcome)) rs ≡ false) → ((mergedOutcome rs ≡ noOutcome) × ((r : Row) → r ∈ rs → r .outcome ≡ noOutcome)) ⊎ ((v : Verdict) × (mergedOutcome rs ≡ done v))
+      go : (any (λ r. holdsVerdict commit (r .outcome)) rs ≡ true) ⊎ (any (λ r. holdsVerdict commit (r .outcome)) rs ≡ false) → (any (λ r. holdsVerdict abort (r .outcome)) rs ≡ true) ⊎ (any (λ r. holdsVerdict abort (r .outcome)) rs ≡ false) → NoneOrDone
       go (inl p) q = inr (commit, rw p refl)
       go (inr p) (inl q) = inr (abort, rw (p, q) refl)
       go (inr p) (inr q) = inl (rw (p, q) refl, λ r m. no-verdict (r .outcome) (any-none _ rs p r m) (any-none _ rs q r m))
