@@ -21,19 +21,23 @@ Duty X G entries (promised b v x cells) = Promise entries b v x cells × ((u t :
 Duty X G entries (bodySent t) = Unit {0}
 Duty X G entries (started v) = Began X G v (X .begun v)
 
--- a certificate of how a view began stays one
-pub began-more : {X : Setup} {G : List Fact} {v : ℕ} {M : Cells} (φ : Fact) → Began X G v M → Began X (φ ∷ G) v M
-began-more φ m =
+-- a certificate of how a view began stays one with more facts
+pub began-wider : {X : Setup} {facts more : List Fact} {v : ℕ} {M : Cells} → ((φ : Fact) → φ ∈ facts → φ ∈ more) → Began X facts v M → Began X more v M
+began-wider {X} {facts} {more} up m =
     record {
       w = m .w;
       before = m .before;
       tables = m .tables;
       last = m .last;
-      gathered = at-least-map (λ b h. (List·Memᴰ·tail (h .0), h .1)) (m .gathered);
+      gathered = at-least-map (λ b h. (up _ (h .0), h .1)) (m .gathered);
       top = m .top;
-      base = still φ (m .base);
+      base = based (m .base);
       fair = m .fair;
     }
+  where
+    based : {A : Type 0} {φ : Fact} → A ⊎ (φ ∈ facts) → A ⊎ (φ ∈ more)
+    based (inl a) = inl a
+    based (inr k) = inr (up _ k)
 
 module _ (X : Setup) (G : List Fact) (entries : Entries) (φ : Fact) (i : Invariant X G entries) (n : Duty X G entries φ) where
   -- a fact of the longer list is the new one, with its duty, or an old one
@@ -65,5 +69,5 @@ module _ (X : Setup) (G : List Fact) (entries : Entries) (φ : Fact) (i : Invari
         promise = λ b v x cells. pick (λ e d. d .0) (i .promise b v x cells);
         crossing = λ b v x cells u t m h. pick (λ e d. d .1 u t h) (λ m′. i .crossing b v x cells u t m′ h) m;
         seen = λ b w t h. still φ (i .seen b w t h);
-        began = λ v. pick (λ e d. began-more φ d) (λ h. began-more φ (i .began v h));
+        began = λ v. pick (λ e d. began-wider (λ ψ h. List·Memᴰ·tail h) d) (λ h. began-wider (λ ψ k. List·Memᴰ·tail k) (i .began v h));
       }

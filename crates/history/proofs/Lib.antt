@@ -17,3 +17,4 @@ pub mod Boxes
 pub mod Answering
 pub mod Views
 pub mod Gathered
+pub mod Follows
