@@ -18,3 +18,4 @@ pub mod Answering
 pub mod Views
 pub mod Gathered
 pub mod Follows
+pub mod Arrivals
