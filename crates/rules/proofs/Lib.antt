@@ -12,6 +12,7 @@ pub mod Stamps
 pub mod Used
 pub mod Standings
 pub mod Votes
+pub mod Count
 pub mod Settled
 pub mod Merge
 pub mod Orders

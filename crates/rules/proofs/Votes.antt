@@ -142,11 +142,17 @@ merge-agreed-once v Ts w s r q =
 
 -- ---- the count: no two results both reach the fast count
 
+-- replies that are not bad are from different boxes of the group
+pub replies-different : (n : ℕ) (hs : List Heard) → badReplies n hs ≡ false → twice (λ h. h .box) hs ≡ false
+unfolding badReplies
+replies-different n hs good = either-left _ _ (either-right _ _ (either-right _ _ good))
+
+pub replies-inside : (n : ℕ) (hs : List Heard) → badReplies n hs ≡ false → (h : Heard) → h ∈ hs → h .box < n
+unfolding badReplies
+replies-inside n hs good h m = ltb-true _ _ (not-false _ (any-none _ hs (either-left _ _ (either-right _ _ good)) h m))
+
 pub fast-one : (n : ℕ) (hs : List Heard) (r q : Result) → badReplies n hs ≡ false → isFast n hs r ≡ true → isFast n hs q ≡ true → r ≡ q
 unfolding badReplies isFast agreeing
 fast-one n hs r q good =
     half-once (λ a h. sameResult a (h .result)) (λ a b h e e′. same-result a (h .result) e ∙ sym (same-result b (h .result) e′)) (fastCount (fOf n)) hs r q
-    (omega (arith, group-size n (not-false _ (either-left _ _ good)), fast-once (fOf n), different-below (λ h. h .box) n hs (either-left _ _ (either-right _ _ (either-right _ _ good))) inside))
-  where
-    inside : (h : Heard) → h ∈ hs → h .box < n
-    inside h m = ltb-true _ _ (not-false _ (any-none _ hs (either-left _ _ (either-right _ _ good)) h m))
+    (omega (arith, group-size n (not-false _ (either-left _ _ good)), fast-once (fOf n), different-below (λ h. h .box) n hs (replies-different n hs good) (replies-inside n hs good)))
