@@ -19,3 +19,4 @@ pub mod Views
 pub mod Gathered
 pub mod Follows
 pub mod Arrivals
+pub mod Coordinators
