@@ -115,7 +115,7 @@ module _ (W : World) (b t : ℕ) (T : Table) (normal : isChanging T ≡ false) (
   before = s .entry b (s .view b) t
 
   -- one act
-  abbrev pub act : (a : Act) → Can (s .facts) (s .view b) t a before → (a ≡ addRow OK → Passed (setup W) s b t) → (rows : List Row) → Owned W rows → Looks (T .rows) rows t (apply a before .prepare) (apply a before .outcome) → Shows W s b T rows
+  abbrev pub act : (a : Act) → Can (s .facts) (s .view b) t a before → (a ≡ addRow OK → Passed (setup W) s b t) → (rows : List Row) → Owned W (s .facts) rows → Looks (T .rows) rows t (apply a before .prepare) (apply a before .outcome) → Shows W s b T rows
   act a can passed rows own looks =
       record {
         next = acting s b t a;
@@ -129,10 +129,10 @@ module _ (W : World) (b t : ℕ) (T : Table) (normal : isChanging T ≡ false) (
   logged a P h = subst (λ (w : ℕ). P (acting s b t a .entry b w t)) (sym (i .view)) (subst P (sym (acted s b t a)) h)
 
   -- the box says what it holds, or accepts the outcome that it holds
-  say : (rows : List Row) → Owned W rows → Looks (T .rows) rows t (before .prepare) (before .outcome) → (r : Result) (f : Bool) → before .prepare ≡ asPrepare r f → (h : Shows W s b T rows) × (said r f ∈ h .next .entry b (T .view) t .answers)
+  say : (rows : List Row) → Owned W (s .facts) rows → Looks (T .rows) rows t (before .prepare) (before .outcome) → (r : Result) (f : Bool) → before .prepare ≡ asPrepare r f → (h : Shows W s b T rows) × (said r f ∈ h .next .entry b (T .view) t .answers)
   say rows own looks r f e = (act (answerResult r f) e (λ z. let y : _≡_ {A = ℕ} 0 1 = cc in absurd (omega arith)) rows own looks, logged (answerResult r f) (λ (y : Entry). said r f ∈ y .answers) (List·Memᴰ·head refl))
 
-  accept : (rows : List Row) → Owned W rows → Looks (T .rows) rows t (before .prepare) (before .outcome) → (o : Verdict) → Holds o (before .outcome) → (h : Shows W s b T rows) × (o ∈ h .next .entry b (T .view) t .acceptances)
+  accept : (rows : List Row) → Owned W (s .facts) rows → Looks (T .rows) rows t (before .prepare) (before .outcome) → (o : Verdict) → Holds o (before .outcome) → (h : Shows W s b T rows) × (o ∈ h .next .entry b (T .view) t .acceptances)
   accept rows own looks o e = (act (acceptOutcome o) e (λ z. let y : _≡_ {A = ℕ} 0 1 = cc in absurd (omega arith)) rows own looks, logged (acceptOutcome o) (λ (y : Entry). o ∈ y .acceptances) (List·Memᴰ·head refl))
 
   -- rows that show p and o for t, where the entry holds them
@@ -144,7 +144,7 @@ module _ (W : World) (b t : ℕ) (T : Table) (normal : isChanging T ≡ false) (
   as-held = shown (T .rows) (prepareOf (held (T .rows) t)) (outcomeOf (held (T .rows) t)) (sym (i .prepare t)) (sym (i .outcome t)) (looks-same (T .rows) t)
 
   -- no act at all
-  unmoved : (rows : List Row) → Owned W rows → Looks (T .rows) rows t (before .prepare) (before .outcome) → BoxIs W s b (withRows T rows)
+  unmoved : (rows : List Row) → Owned W (s .facts) rows → Looks (T .rows) rows t (before .prepare) (before .outcome) → BoxIs W s b (withRows T rows)
   unmoved rows own (lp, lo) =
       record {
         box = i .box;
@@ -197,7 +197,7 @@ module _ (W : World) (b t : ℕ) (x : Body) (T : Table) (normal : isChanging T �
       rows : List Row
       rows = changed t rowChange (T .rows)
 
-      own : Owned W rows
+      own : Owned W (s .facts) rows
       own = owned-changed W t rowChange (λ r. refl) (λ r. refl) (T .rows) (i .owned)
 
       holdsP : before W b t T normal s k i .prepare ≡ q .prepare
@@ -243,7 +243,7 @@ module _ (W : World) (b t : ℕ) (x : Body) (T : Table) (normal : isChanging T �
   -- a new stamp: the check's result is stored and answered
   new-1 : held (T .rows) t ≡ none → bodySent t ∈ s .facts → x ≡ W .bodies t → TakenAs W s b (proposePrepare t x) (withRows T (added (record { stamp = t; body = x; prepare = tentative (W .proposals (T .rows) t x); outcome = noOutcome }) (T .rows)))
   new-1 e sent own =
-      replied-1 rows r false now (then-say W b t T normal s rows (act W b t T normal s k i (addRow r) (sym (i .prepare t) ∙ ap prepareOf e, sym (i .outcome t) ∙ ap outcomeOf e, sent) (λ z. check-passed W s b t T i (sym (ap (W .proposals (T .rows) t) own) ∙ cc)) rows (owned-added W new own (T .rows) (i .owned)) (rw (← i .outcome t, ap outcomeOf e) shows)) r false now)
+      replied-1 rows r false now (then-say W b t T normal s rows (act W b t T normal s k i (addRow r) (sym (i .prepare t) ∙ ap prepareOf e, sym (i .outcome t) ∙ ap outcomeOf e, sent) (λ z. check-passed W s b t T i (sym (ap (W .proposals (T .rows) t) own) ∙ cc)) rows (owned-added W new (own, sent) (T .rows) (i .owned)) (rw (← i .outcome t, ap outcomeOf e) shows)) r false now)
     where
       r : Result
       r = W .proposals (T .rows) t x
@@ -280,7 +280,7 @@ module _ (W : World) (b t : ℕ) (T : Table) (normal : isChanging T ≡ false) (
       rows : List Row
       rows = changed t (withPrepare (final r)) (T .rows)
 
-      own : Owned W rows
+      own : Owned W (s .facts) rows
       own = owned-changed W t (withPrepare (final r)) (λ p. refl) (λ p. refl) (T .rows) (i .owned)
 
       shows : Looks (T .rows) rows t (final r) (q .outcome)
@@ -305,7 +305,7 @@ module _ (W : World) (b t : ℕ) (T : Table) (normal : isChanging T ≡ false) (
 
     module _ (prop : Proposed (s .facts) t (s .view b) o) (sent : bodySent t ∈ s .facts) where
       -- noted now
-      noted-3 : (rows : List Row) (p : Prepare) → Owned W rows → s .entry b (s .view b) t .prepare ≡ p → s .entry b (s .view b) t .outcome ≡ noOutcome → Looks (T .rows) rows t p (noted o) → TakenAs W s b (proposeOutcome t o x) (withRows T rows)
+      noted-3 : (rows : List Row) (p : Prepare) → Owned W (s .facts) rows → s .entry b (s .view b) t .prepare ≡ p → s .entry b (s .view b) t .outcome ≡ noOutcome → Looks (T .rows) rows t p (noted o) → TakenAs W s b (proposeOutcome t o x) (withRows T rows)
       noted-3 rows p own ep eo shows =
           accepted-3 rows
           (then-accept W b t T normal s rows (act W b t T normal s k i (noteOutcome o) (eo, prop, sent) (λ z. let y : _≡_ {A = ℕ} 0 1 = cc in absurd (omega arith)) rows own (rw ep shows)) o (inl (shows .1 t ∙ rw (eqb-self t) refl)))
@@ -316,7 +316,7 @@ module _ (W : World) (b t : ℕ) (T : Table) (normal : isChanging T ≡ false) (
           rows : List Row
           rows = changed t outcomeChange (T .rows)
 
-          own : Owned W rows
+          own : Owned W (s .facts) rows
           own = owned-changed W t outcomeChange (λ r. refl) (λ r. refl) (T .rows) (i .owned)
 
           shows : Looks (T .rows) rows t (q .prepare) (notedAs o (q .outcome))
@@ -336,7 +336,7 @@ module _ (W : World) (b t : ℕ) (T : Table) (normal : isChanging T ≡ false) (
       pub taken-outcome : x ≡ W .bodies t → (held (T .rows) t ≡ none) ⊎ RowHeld T t (λ q. (q .outcome ≡ noOutcome) ⊎ HasVerdict o q) → TakenAs W s b (proposeOutcome t o x) (withRows T (outcomeProposed (T .rows) t o x))
       unfolding outcomeProposed
       taken-outcome own (inr (q, e, h)) = rw e (known-3 q e h)
-      taken-outcome own (inl e) = rw e (noted-3 (added new (T .rows)) noPrepare (owned-added W new own (T .rows) (i .owned)) (sym (i .prepare t) ∙ ap prepareOf e) (sym (i .outcome t) ∙ ap outcomeOf e) (looks-added (T .rows) new e))
+      taken-outcome own (inl e) = rw e (noted-3 (added new (T .rows)) noPrepare (owned-added W new (own, sent) (T .rows) (i .owned)) (sym (i .prepare t) ∙ ap prepareOf e) (sym (i .outcome t) ∙ ap outcomeOf e) (looks-added (T .rows) new e))
         where
           new : Row
           new = record { stamp = t; body = x; prepare = noPrepare; outcome = noted o }
@@ -350,7 +350,7 @@ module _ (W : World) (b t : ℕ) (T : Table) (normal : isChanging T ≡ false) (
       rows : List Row
       rows = changed t (withOutcome (done o)) (T .rows)
 
-      own : Owned W rows
+      own : Owned W (s .facts) rows
       own = owned-changed W t (withOutcome (done o)) (λ r. refl) (λ r. refl) (T .rows) (i .owned)
 
       shows : Looks (T .rows) rows t (q .prepare) (done o)

@@ -25,22 +25,25 @@ use Rattle.history.proofs.Growth.{Place, place}
 use Rattle.history.proofs.Acts.{State, Sound, Passed, acting, act-keeps}
 use Rattle.history.proofs.World.{World, setup, cellsIn, Looks}
 
--- ---- rows whose bodies are those of their stamps
+-- ---- rows whose bodies are those of their stamps, and were sent
 
-abbrev pub Owned : World → List Row → Type 0
-Owned W rows = (r : Row) → r ∈ rows → r .body ≡ W .bodies (r .stamp)
+abbrev pub Owned : World → List Fact → List Row → Type 0
+Owned W facts rows = (r : Row) → r ∈ rows → (r .body ≡ W .bodies (r .stamp)) × (bodySent (r .stamp) ∈ facts)
 
-pub owned-changed : (W : World) (t : ℕ) (change : Row → Row) → ((r : Row) → change r .stamp ≡ r .stamp) → ((r : Row) → change r .body ≡ r .body) → (rows : List Row) → Owned W rows → Owned W (changed t change rows)
-owned-changed W t change stamp body rows h q m = go (changed-from t change rows q m)
+pub owned-wider : (W : World) {facts more : List Fact} → ((φ : Fact) → φ ∈ facts → φ ∈ more) → (rows : List Row) → Owned W facts rows → Owned W more rows
+owned-wider W up rows h r m = let (e, k) = h r m in (e, up _ k)
+
+pub owned-changed : (W : World) {facts : List Fact} (t : ℕ) (change : Row → Row) → ((r : Row) → change r .stamp ≡ r .stamp) → ((r : Row) → change r .body ≡ r .body) → (rows : List Row) → Owned W facts rows → Owned W facts (changed t change rows)
+owned-changed W {facts} t change stamp body rows h q m = go (changed-from t change rows q m)
   where
-    go : (r : Row) × (r ∈ rows) × (((r .stamp ≡ t) × (q ≡ change r)) ⊎ ((eqb (r .stamp) t ≡ false) × (q ≡ r))) → q .body ≡ W .bodies (q .stamp)
+    go : (r : Row) × (r ∈ rows) × (((r .stamp ≡ t) × (q ≡ change r)) ⊎ ((eqb (r .stamp) t ≡ false) × (q ≡ r))) → (q .body ≡ W .bodies (q .stamp)) × (bodySent (q .stamp) ∈ facts)
     go (r, i, inl (k, e)) = rw (e, stamp r, body r) (h r i)
     go (r, i, inr (k, e)) = rw e (h r i)
 
-pub owned-added : (W : World) (r : Row) → r .body ≡ W .bodies (r .stamp) → (rows : List Row) → Owned W rows → Owned W (added r rows)
-owned-added W r k rows h q m = go (added-from r rows q m)
+pub owned-added : (W : World) {facts : List Fact} (r : Row) → (r .body ≡ W .bodies (r .stamp)) × (bodySent (r .stamp) ∈ facts) → (rows : List Row) → Owned W facts rows → Owned W facts (added r rows)
+owned-added W {facts} r k rows h q m = go (added-from r rows q m)
   where
-    go : (q ≡ r) ⊎ (q ∈ rows) → q .body ≡ W .bodies (q .stamp)
+    go : (q ≡ r) ⊎ (q ∈ rows) → (q .body ≡ W .bodies (q .stamp)) × (bodySent (q .stamp) ∈ facts)
     go (inl e) = rw e k
     go (inr i) = h q i
 
@@ -54,7 +57,7 @@ pub record BoxIs (W : World) (s : State) (b : ℕ) (T : Table) : Type 0 where
   pub mode : modeByRule (T .mode) (T .view) (T .promised) ≡ true
   pub prepare : (t : ℕ) → prepareOf (held (T .rows) t) ≡ s .entry b (s .view b) t .prepare
   pub outcome : (t : ℕ) → outcomeOf (held (T .rows) t) ≡ s .entry b (s .view b) t .outcome
-  pub owned : Owned W (T .rows)
+  pub owned : Owned W (s .facts) (T .rows)
   -- while it changes view, it has promised the rows that it holds
   pub handed : T .mode ≡ changingMode → promised b (T .promised) (T .view) (cellsIn (T .rows)) ∈ s .facts
 
@@ -188,7 +191,7 @@ module _ (s : State) (b t : ℕ) (a : Act) where
 
 module _ (W : World) (s : State) (b t : ℕ) (a : Act) (T : Table) (i : BoxIs W s b T) (normal : isChanging T ≡ false) where
   -- the box after an act that its rows show
-  pub act-box : (rows : List Row) → Owned W rows → Looks (T .rows) rows t (apply a (entry s b t a) .prepare) (apply a (entry s b t a) .outcome) → BoxIs W (acting s b t a) b (withRows T rows)
+  pub act-box : (rows : List Row) → Owned W (s .facts) rows → Looks (T .rows) rows t (apply a (entry s b t a) .prepare) (apply a (entry s b t a) .outcome) → BoxIs W (acting s b t a) b (withRows T rows)
   unfolding both
   act-box rows own (lp, lo) =
       record {
@@ -219,7 +222,7 @@ check-passed W s b t T i ok u c = go (held (T .rows) u) refl (cases (isAccepted 
     Clashes r = clash t (W .bodies t) (r .stamp) (r .body) ≡ true
 
     from : (r : Row) → held (T .rows) u ≡ some r → Clashes r
-    from r e = let (m, k) = held-from (T .rows) u r e in rw (i .owned r m, k) c
+    from r e = let (m, k) = held-from (T .rows) u r e in rw (i .owned r m .0, k) c
 
     here : isAccepted (prepareOf (held (T .rows) u)) (outcomeOf (held (T .rows) u)) ≡ false → isAccepted (s .entry b (s .view b) u .prepare) (s .entry b (s .view b) u .outcome) ≡ false
     here h = sym (ap₂ isAccepted (i .prepare u) (i .outcome u)) ∙ h

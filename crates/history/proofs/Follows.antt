@@ -21,7 +21,7 @@ use Rattle.history.proofs.Invariant.{Setup, Began}
 use Rattle.history.proofs.Acts.{State, Sound}
 use Rattle.history.proofs.Facts.{began-wider}
 use Rattle.history.proofs.World.{World, setup, cellsIn}
-use Rattle.history.proofs.Boxes.{Owned, BoxIs, Onward, OfBoxes}
+use Rattle.history.proofs.Boxes.{Owned, owned-wider, BoxIs, Onward, OfBoxes}
 use Rattle.history.proofs.Answering.{Echo}
 use Rattle.history.proofs.Gathered.{HadIs}
 
@@ -39,7 +39,7 @@ Named W (readRegister t k) = Unit {0}
 
 -- a merged table is a fair merge of what was gathered
 abbrev pub Grounded : World → State → ℕ → Table → Type 0
-Grounded W s v I = Began (setup W) (s .facts) v (cellsIn (I .rows)) × Owned W (I .rows)
+Grounded W s v I = Began (setup W) (s .facts) v (cellsIn (I .rows)) × Owned W (s .facts) (I .rows)
 
 abbrev pub Backed : World → State → ℕ → Message → Type 0
 Backed W s b (proposePrepare t x) = bodySent t ∈ s .facts
@@ -93,7 +93,7 @@ pub record Wider (s next : State) : Type 0 where
 
 module _ (W : World) (s next : State) (w : Wider s next) where
   grounded-wider : (v : ℕ) (I : Table) → Grounded W s v I → Grounded W next v I
-  grounded-wider v I (m, own) = (began-wider (w .facts) m, own)
+  grounded-wider v I (m, own) = (began-wider (w .facts) m, owned-wider W (w .facts) (I .rows) own)
 
   backed-wider : (b : ℕ) (m : Message) → Backed W s b m → Backed W next b m
   backed-wider b (proposePrepare t x) k = w .facts _ k
@@ -117,7 +117,7 @@ module _ (W : World) (s next : State) (w : Wider s next) where
   answer-wider a (l, k) = (l, λ e. record { reached = omega (arith, k e .reached, w .views (a .box)); echo = echo-wider (a .box) (a .message) (a .reply) (k e .echo) })
 
   had-wider : (T : Table) → HadIs W (s .facts) T → HadIs W (next .facts) T
-  had-wider T h = record { box = h .box; group = h .group; mode = h .mode; owned = h .owned; handed = λ e. let (m, base) = h .handed e in (w .facts _ m, wide base) }
+  had-wider T h = record { box = h .box; group = h .group; mode = h .mode; owned = owned-wider W (w .facts) (T .rows) (h .owned); handed = λ e. let (m, base) = h .handed e in (w .facts _ m, wide base) }
     where
       wide : {A : Type 0} {φ : Fact} → A ⊎ (φ ∈ s .facts) → A ⊎ (φ ∈ next .facts)
       wide (inl a) = inl a
@@ -176,7 +176,7 @@ box-alone W b c s next T o d i =
       mode = i .mode;
       prepare = λ t. i .prepare t ∙ ap (λ (e : Entry). e .prepare) (entry-same t);
       outcome = λ t. i .outcome t ∙ ap (λ (e : Entry). e .outcome) (entry-same t);
-      owned = i .owned;
+      owned = owned-wider W (o .facts) (T .rows) (i .owned);
       handed = λ e. o .facts _ (i .handed e);
     }
   where
@@ -237,7 +237,7 @@ module _ (W : World) (G : Group) (s : State) (more : List Fact) (up : (φ : Fact
   box-knowing : (b : ℕ) → BoxIs W (knowing s more) b (G .table b)
   box-knowing b =
       let i = F .boxes b in
-      record { box = i .box; group = i .group; view = i .view; promise = i .promise; mode = i .mode; prepare = i .prepare; outcome = i .outcome; owned = i .owned; handed = λ e. up _ (i .handed e) }
+      record { box = i .box; group = i .group; view = i .view; promise = i .promise; mode = i .mode; prepare = i .prepare; outcome = i .outcome; owned = owned-wider W up (G .table b .rows) (i .owned); handed = λ e. up _ (i .handed e) }
 
   -- what is true of G stays so with these facts, for any group H that has no other boxes, answers or merges
   pub known-sent : (x : Sent) → Backed W (knowing s more) (x .box) (x .message) → Named W (x .message) → ((φ : Fact) → φ ∈ more → (φ ∈ s .facts) ⊎ Back W (sending G x) φ) → Follows W (sending G x) (knowing s more)

@@ -15,6 +15,6 @@ pub record HadIs (W : World) (facts : List Fact) (T : Table) : Type 0 where
   pub box : T .box < W .n
   pub group : T .n ≡ W .n
   pub mode : modeByRule (T .mode) (T .view) (T .promised) ≡ true
-  pub owned : Owned W (T .rows)
+  pub owned : Owned W facts (T .rows)
   -- while the box changed view, it had promised the rows that it held, and its last normal view had begun
   pub handed : T .mode ≡ changingMode → (promised (T .box) (T .promised) (T .view) (cellsIn (T .rows)) ∈ facts) × ((T .view ≡ 0) ⊎ (started (T .view) ∈ facts))

@@ -21,7 +21,7 @@ use Rattle.history.proofs.Acts.{State, Sound}
 use Rattle.history.proofs.Steps.{setAt-here, setAt-off, setAt-at, cellsOf, withFact, start-keeps, promise-keeps, adopt-keeps}
 use Rattle.history.proofs.Steps as Steps
 use Rattle.history.proofs.World.{World, setup, cellsIn}
-use Rattle.history.proofs.Boxes.{Owned, BoxIs, normal-promise, Onward, OfBoxes}
+use Rattle.history.proofs.Boxes.{Owned, owned-wider, BoxIs, normal-promise, Onward, OfBoxes}
 use Rattle.history.proofs.Answering.{TakenAs}
 
 -- one more fact that is no coordinator's
@@ -66,7 +66,7 @@ module _ (W : World) (b : ℕ) (T : Table) (s : State) (k : Sound (setup W) s) (
               mode = changing-by-rule v (omega (arith, l, i .view, i .promise, k .order b));
               prepare = i .prepare;
               outcome = i .outcome;
-              owned = i .owned;
+              owned = owned-wider W (λ φ m. List·Memᴰ·tail m) (T .rows) (i .owned);
               handed = λ e. subst (λ (y : ℕ). promised b v y (cellsIn (T .rows)) ∈ Steps.promising s b v .facts) (sym (i .view)) (subst (λ (y : Cells). promised b v (s .view b) y ∈ Steps.promising s b v .facts) cells-same (List·Memᴰ·head refl));
             };
         echo = tt;
@@ -87,7 +87,7 @@ module _ (W : World) (b : ℕ) (T : Table) (s : State) (k : Sound (setup W) s) (
         let e = both-right (eqb (I .n) (T .n)) _ d in
         (eqb-true (I .mode) normalMode (both-left _ _ starts), eqb-true (I .view) v (both-left _ _ a), eqb-true (I .n) (T .n) (both-left _ _ d), both-right (eqb (I .start) (length (I .rows))) _ e)
 
-    module _ (above : (w t : ℕ) → s .view b < w → (s .entry b w t .prepare ≡ setup W .begun w t .prepare) × (s .entry b w t .outcome ≡ setup W .begun w t .outcome)) (own : Owned W (I .rows)) (rows : W .begun v ≡ I .rows) (began : Began (setup W) (s .facts) v (cellsIn (I .rows))) where
+    module _ (above : (w t : ℕ) → s .view b < w → (s .entry b w t .prepare ≡ setup W .begun w t .prepare) × (s .entry b w t .outcome ≡ setup W .begun w t .outcome)) (own : Owned W (s .facts) (I .rows)) (rows : W .begun v ≡ I .rows) (began : Began (setup W) (s .facts) v (cellsIn (I .rows))) where
       abbrev after : State
       after = Steps.adopting (withFact s (started v)) b v
 
@@ -125,7 +125,7 @@ module _ (W : World) (b : ℕ) (T : Table) (s : State) (k : Sound (setup W) s) (
                   mode = table-facts (W .model) I rule .mode;
                   prepare = λ t. rw (setAt-here (s .view) b v b refl) (prepare-at t);
                   outcome = λ t. rw (setAt-here (s .view) b v b refl) (outcome-at t);
-                  owned = own;
+                  owned = owned-wider W (λ φ m. List·Memᴰ·tail m) (I .rows) own;
                   handed = λ e. let z : _≡_ {A = ℕ} 0 1 = sym (start-facts .0) ∙ e in absurd (omega arith);
                 };
             echo = tt;
