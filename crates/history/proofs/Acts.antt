@@ -23,6 +23,7 @@ pub record State : Type 0 where
 abbrev pub Bound : State → ℕ → ℕ → ℕ → Type 0
 Bound s b v x = (v ≤ s .promised b) × ((s .view b ≡ x) ⊎ (v ≤ s .view b))
 
+-- the invariant, and what holds of the boxes' views: none is above the promised one, each began, promises bind, and a box has answered in none above its own
 pub record Sound (X : Setup) (s : State) : Type 0 where
   pub invariant : Invariant X (s .facts) (s .entry)
   pub order : (b : ℕ) → s .view b ≤ s .promised b

@@ -12,6 +12,8 @@ use Rattle.rules.specs.Merge.{holdsVerdict}
 use Rattle.rules.proofs.Logic.{impossible, both-false, eqb-self}
 use Rattle.rules.proofs.Same.{same-verdict}
 
+-- ---- what is said of a row
+
 abbrev pub isOK : Result → Bool
 isOK OK = true
 isOK ABORT = false
@@ -23,18 +25,19 @@ isOKPrepare noPrepare = false
 isOKPrepare (tentative r) = isOK r
 isOKPrepare (final r) = isOK r
 
+-- committed or prepared, as the rules count a row
 abbrev pub isAccepted : Prepare → Outcome → Bool
 isAccepted p noOutcome = isOKPrepare p
 isAccepted p (noted o) = isOKPrepare p
 isAccepted p (done commit) = true
 isAccepted p (done abort) = false
 
--- a row is there
 abbrev pub hasOutcome : Outcome → Bool
 hasOutcome noOutcome = false
 hasOutcome (noted o) = true
 hasOutcome (done o) = true
 
+-- the row is there: it holds something
 abbrev pub isThere : Prepare → Outcome → Bool
 isThere noPrepare x = hasOutcome x
 isThere (tentative r) x = true
@@ -59,6 +62,8 @@ Placed p = Stands OK p
 -- what message 2 with this result may make final
 abbrev pub Finalisable : Result → Prepare → Type 0
 Finalisable r p = ((q : Result) × (p ≡ tentative q)) ⊎ (p ≡ final r)
+
+-- ---- cases
 
 pub prepare-cases : (p : Prepare) → (p ≡ noPrepare) ⊎ (((r : Result) × (p ≡ tentative r)) ⊎ ((r : Result) × (p ≡ final r)))
 prepare-cases noPrepare = inl refl

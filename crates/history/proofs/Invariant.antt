@@ -11,7 +11,7 @@ use Rattle.history.proofs.Below.{AtLeast}
 use Rattle.history.proofs.Cells.{isOK, isAccepted, isThere, Holds, Dead}
 use Rattle.history.proofs.Entries.{Cell, Cells, Fact, Fact.gaveResult, Fact.declaredFinal, Fact.proposed, Fact.finalised, Fact.promised, Fact.started, Said, Said.said, Entry, Good, Settled}
 
--- what is fixed for a group: the clash of two stamps' bodies, and the one table that each view begins with
+-- what is fixed for a group: its size, the clash of two stamps' bodies, and the one table that each view begins with, settled, that of view 0 empty
 pub record Setup : Type 1 where
   pub n : ℕ
   pub f : ℕ
@@ -58,7 +58,7 @@ module _ (X : Setup) (U : ℕ → Type 0) (T : ℕ → Cells) (M : Cells) where
     -- no two rows of which one was checked are both accepted and clash
     pub apart : (t u : ℕ) → X .clash t u → acceptedCell (M t) ≡ true → acceptedCell (M u) ≡ true → FixedAt t × FixedAt u
 
--- how view v began: f+1 boxes that promised v, the greatest last normal view w among them, and a fair merge of the tables of that view
+-- how view v began, with table M: f+1 boxes that promised v, the greatest last normal view w among them, one box that has it, and a fair merge of the tables of that view
 pub record Began (X : Setup) (G : List Fact) (v : ℕ) (M : Cells) : Type 0 where
   pub w : ℕ
   pub before : w < v
@@ -77,7 +77,6 @@ Touched e = ((a : Said) × (a ∈ e .answers)) ⊎ ((o : Verdict) × (o ∈ e .a
 abbrev pub Entries : Type 0
 Entries = ℕ → ℕ → ℕ → Entry
 
--- a row that no later step makes accepted
 abbrev pub DeadEntry : Entry → Type 0
 DeadEntry e = Dead (e .prepare) (e .outcome)
 

@@ -35,6 +35,7 @@ module _ (X : Setup) (G : List Fact) (entries : Entries) where
   abbrev pub Sure : ℕ → ℕ → Type 0
   Sure w t = (X .begun w t .prepare ≡ final OK) ⊎ ((gaveResult t w OK ∈ G) × Quorum X (λ b. entries b w t .checked ≡ true))
 
+  -- t's abort was in the table of view w, or f+1 boxes accepted it there
   abbrev pub Aborted : ℕ → ℕ → Type 0
   Aborted w t = (X .begun w t .outcome ≡ done abort) ⊎ Quorum X (λ b. abort ∈ entries b w t .acceptances)
 
@@ -73,6 +74,7 @@ module _ (X : Setup) (G : List Fact) (entries : Entries) where
             let (b, l, k) = some-one m (omega arith) in
             aborted-from b w t (i .clearOfBegun b w t u cl a k)
 
+    -- of two rows that clash and whose OK is sure in one view, one was aborted there: every hard case below rests on this
     heart : (w t u : ℕ) → Kept w → X .clash t u → Sure w t → Sure w u → Aborted w t ⊎ Aborted w u
     heart w t u kw cl (inl a) (inl b) = go (settle w t a) (settle w u b)
       where
@@ -369,7 +371,7 @@ module _ (X : Setup) (G : List Fact) (entries : Entries) where
           rows = λ t h. impossible h (ap₂ isThere (X .fresh-prepare t) (X .fresh-outcome t));
         }
 
-    -- every view's table
+    -- every view's table keeps all this: by induction on views, at one time, since what a promise handed over changes no more
     pub keeps : (v : ℕ) → (v ≡ 0) ⊎ (started v ∈ G) → Kept v
     keeps = strong (λ v. (v ≡ 0) ⊎ (started v ∈ G) → Kept v) step
       where
@@ -377,7 +379,7 @@ module _ (X : Setup) (G : List Fact) (entries : Entries) where
         step v below (inl e) = rw e fresh-kept
         step v below (inr s) = let m = i .began v s in kept v (X .begun v) m (below (m .w) (m .before) (m .base))
 
-    -- and no opposite outcomes
+    -- two boxes of one view have no opposite outcomes
     pub same-outcomes : (b c w t : ℕ) (o u : Verdict) → (w ≡ 0) ⊎ (started w ∈ G) → Holds o (entries b w t .outcome) → Holds u (entries c w t .outcome) → o ≡ u
     same-outcomes b c w t o u known hb hc = one o u (held-proposed b w t o (keeps w known) hb .0) (held-proposed c w t u (keeps w known) hc .0)
       where
@@ -391,7 +393,6 @@ module _ (X : Setup) (G : List Fact) (entries : Entries) where
     pub any-merge : (v : ℕ) (M : Cells) → Began X G v M → KeptIn v M
     any-merge v M m = kept v M m (keeps (m .w) (m .base))
 
-    -- committed transactions never clash
     view-known : (t u : ℕ) (r : Result) → declaredFinal t u r ∈ G → (u ≡ 0) ⊎ (started u ∈ G)
     view-known t u r d = go (i .declared t u r d .1)
       where
@@ -415,6 +416,7 @@ module _ (X : Setup) (G : List Fact) (entries : Entries) where
         go (inl d) = i .oneVerdict t pt (abort-proposed y t kw d)
         go (inr d) = i .oneVerdict u pu (abort-proposed y u kw d)
 
+    -- committed transactions never clash
     pub committed-apart : (t u : ℕ) → proposed t commit ∈ G → proposed u commit ∈ G → X .clash t u → ⊥
     committed-apart t u pt pu cl = go (decLe x y)
       where
