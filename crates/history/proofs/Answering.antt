@@ -243,7 +243,7 @@ module _ (W : World) (b t : ℕ) (x : Body) (T : Table) (normal : isChanging T �
   -- a new stamp: the check's result is stored and answered
   new-1 : held (T .rows) t ≡ none → bodySent t ∈ s .facts → x ≡ W .bodies t → TakenAs W s b (proposePrepare t x) (withRows T (added (record { stamp = t; body = x; prepare = tentative (W .proposals (T .rows) t x); outcome = noOutcome }) (T .rows)))
   new-1 e sent own =
-      replied-1 rows r false now (then-say W b t T normal s rows (act W b t T normal s k i (addRow r) (sym (i .prepare t) ∙ ap prepareOf e, sym (i .outcome t) ∙ ap outcomeOf e, sent) (λ z. check-passed W s b t T i (sym (ap (W .proposals (T .rows) t) own) ∙ cc)) rows (owned-added W new (own, sent) (T .rows) (i .owned)) (rw (← i .outcome t, ap outcomeOf e) shows)) r false now)
+      replied-1 rows r false now (then-say W b t T normal s rows (act W b t T normal s k i (addRow r) (sym (i .prepare t) ∙ ap prepareOf e, sym (i .outcome t) ∙ ap outcomeOf e) (λ z. check-passed W s b t T i (sym (ap (W .proposals (T .rows) t) own) ∙ cc)) rows (owned-added W new (own, sent) (T .rows) (i .owned)) (rw (← i .outcome t, ap outcomeOf e) shows)) r false now)
     where
       r : Result
       r = W .proposals (T .rows) t x
@@ -308,7 +308,7 @@ module _ (W : World) (b t : ℕ) (T : Table) (normal : isChanging T ≡ false) (
       noted-3 : (rows : List Row) (p : Prepare) → Owned W (s .facts) rows → s .entry b (s .view b) t .prepare ≡ p → s .entry b (s .view b) t .outcome ≡ noOutcome → Looks (T .rows) rows t p (noted o) → TakenAs W s b (proposeOutcome t o x) (withRows T rows)
       noted-3 rows p own ep eo shows =
           accepted-3 rows
-          (then-accept W b t T normal s rows (act W b t T normal s k i (noteOutcome o) (eo, prop, sent) (λ z. let y : _≡_ {A = ℕ} 0 1 = cc in absurd (omega arith)) rows own (rw ep shows)) o (inl (shows .1 t ∙ rw (eqb-self t) refl)))
+          (then-accept W b t T normal s rows (act W b t T normal s k i (noteOutcome o) (eo, prop) (λ z. let y : _≡_ {A = ℕ} 0 1 = cc in absurd (omega arith)) rows own (rw ep shows)) o (inl (shows .1 t ∙ rw (eqb-self t) refl)))
 
       known-3 : (q : Row) → held (T .rows) t ≡ some q → (q .outcome ≡ noOutcome) ⊎ HasVerdict o q → TakenAs W s b (proposeOutcome t o x) (withRows T (changed t outcomeChange (T .rows)))
       known-3 q e h = by h

@@ -171,7 +171,8 @@ module _ {A : Type 0} (number : A → ℕ) (p : A → Bool) (n : ℕ) where
       new : (y : A) → y ∈ xs → both (eqb (number y) (number x)) (p y) ≡ false
       new y m = rw (any-none _ xs (either-left _ _ d) y m) refl
 
-  pub list-at-least : (k : ℕ) (xs : List A) (P : ℕ → Type 0) → twice number xs ≡ false → ((x : A) → x ∈ xs → number x < n) → k ≤ count p xs → ((x : A) → x ∈ xs → p x ≡ true → P (number x)) → AtLeast n k P
+  -- it unfolds, since a certificate's later fields name the test of its crowd
+  abbrev pub list-at-least : (k : ℕ) (xs : List A) (P : ℕ → Type 0) → twice number xs ≡ false → ((x : A) → x ∈ xs → number x < n) → k ≤ count p xs → ((x : A) → x ∈ xs → p x ≡ true → P (number x)) → AtLeast n k P
   list-at-least k xs P d h l holds =
       record {
         test = λ b. any (λ x. both (eqb (number x) b) (p x)) xs;

@@ -1,4 +1,4 @@
--- One row's state, its prepare and its outcome: when it is there, when it is accepted, when it never will be; and its cases told apart.
+-- One row's state, its prepare and its outcome: when it is accepted, when it never will be; and its cases told apart.
 use mathlib.Core.Path.{_≡_, refl, sym, ap, _∙_}
 use mathlib.Core.Bool.{Bool, true, false}
 use mathlib.Core.Logic.{_⊎_, inl, inr}
@@ -31,17 +31,6 @@ isAccepted p noOutcome = isOKPrepare p
 isAccepted p (noted o) = isOKPrepare p
 isAccepted p (done commit) = true
 isAccepted p (done abort) = false
-
-abbrev pub hasOutcome : Outcome → Bool
-hasOutcome noOutcome = false
-hasOutcome (noted o) = true
-hasOutcome (done o) = true
-
--- the row is there: it holds something
-abbrev pub isThere : Prepare → Outcome → Bool
-isThere noPrepare x = hasOutcome x
-isThere (tentative r) x = true
-isThere (final r) x = true
 
 -- noted or done
 abbrev pub Holds : Verdict → Outcome → Type 0
@@ -144,16 +133,6 @@ accepted-not-aborted p x a e = impossible a (rw e)
 
 pub noted-done : {A : Type 0} {x : Outcome} {o u : Verdict} → x ≡ noted o → x ≡ done u → A
 noted-done {A} {x} {o} {u} a b = let z : _≡_ {A = ℕ} 0 1 = cc in absurd (omega arith)
-
-pub held-there : (p : Prepare) (x : Outcome) (o : Verdict) → Holds o x → isThere p x ≡ true
-held-there noPrepare x o (inl e) = ap hasOutcome e
-held-there noPrepare x o (inr e) = ap hasOutcome e
-held-there (tentative r) x o h = refl
-held-there (final r) x o h = refl
-
-pub finalisable-there : (p : Prepare) (x : Outcome) (r : Result) → Finalisable r p → isThere p x ≡ true
-finalisable-there p x r (inl (q, h)) = rw h refl
-finalisable-there p x r (inr h) = rw h refl
 
 -- ---- the same tests in the words of the rules
 

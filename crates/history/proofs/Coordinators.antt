@@ -108,12 +108,11 @@ module _ (W : World) (G : Group) (s : State) (k : Sound (setup W) s) (F : Follow
       from q (inr i) = asDeclared q i
 
   pub declare-followed : (t v : ℕ) (r : Result) → OneResult G t v r → OnFastOrConfirmed G t v r → BeforeOutcome G t → Followed W (declaring G (record { stamp = t; view = v; result = r }))
-  declare-followed t v r one crowd free =
-      (
-        withFact (withFact s (gaveResult t v r)) (declaredFinal t v r),
-        declare-keeps (setup W) s k t v r (may-give t v r one free) (declared-crowd t v r crowd),
-        known-declared W G s (declaredFinal t v r ∷ gaveResult t v r ∷ s .facts) (λ φ m. List·Memᴰ·tail (List·Memᴰ·tail m)) F d (List·Memᴰ·head refl) new,
-      )
+  declare-followed t v r one crowd free = (
+    withFact (withFact s (gaveResult t v r)) (declaredFinal t v r),
+    declare-keeps (setup W) s k t v r (may-give t v r one free) (declared-crowd t v r crowd),
+    known-declared W G s (declaredFinal t v r ∷ gaveResult t v r ∷ s .facts) (λ φ m. List·Memᴰ·tail (List·Memᴰ·tail m)) F d (List·Memᴰ·head refl) new,
+  )
     where
       d : Declared
       d = record { stamp = t; view = v; result = r }
@@ -152,12 +151,11 @@ module _ (W : World) (G : Group) (s : State) (k : Sound (setup W) s) (F : Follow
 
   -- an outcome: its body and the proposal are two facts
   outcome-followed : (b t : ℕ) (o : Verdict) (y : Body) → Named W (proposeOutcome t o y) → CommitAfterOK G b t o → NeverBoth G t o → Followed W (sending G (record { box = b; message = proposeOutcome t o y }))
-  outcome-followed b t o y named after never =
-      (
-        withFact (withFact s (bodySent t)) (proposed t o),
-        propose-keeps (setup W) (withFact s (bodySent t)) (body-keeps (setup W) s k t) t o (λ u i. same u (List·Memᴰ·cases-cons i)) (λ e. let (u, d, z) = after e in (u, List·Memᴰ·tail (F .declared _ d))),
-        known-sent W G s (proposed t o ∷ bodySent t ∷ s .facts) (λ φ i. List·Memᴰ·tail (List·Memᴰ·tail i)) F (x b m named) (List·Memᴰ·head refl, why, List·Memᴰ·tail (List·Memᴰ·head refl)) named new,
-      )
+  outcome-followed b t o y named after never = (
+    withFact (withFact s (bodySent t)) (proposed t o),
+    propose-keeps (setup W) (withFact s (bodySent t)) (body-keeps (setup W) s k t) t o (λ u i. same u (List·Memᴰ·cases-cons i)) (λ e. let (u, d, z) = after e in (u, List·Memᴰ·tail (F .declared _ d))),
+    known-sent W G s (proposed t o ∷ bodySent t ∷ s .facts) (λ φ i. List·Memᴰ·tail (List·Memᴰ·tail i)) F (x b m named) (List·Memᴰ·head refl, why, List·Memᴰ·tail (List·Memᴰ·head refl)) named new,
+  )
     where
       m : Message
       m = proposeOutcome t o y

@@ -9,7 +9,7 @@ use Rattle.rules.specs.Tables.{Result, Result.OK, Prepare, Prepare.noPrepare, P
 use Rattle.rules.specs.Messages.{resultFor}
 use Rattle.rules.proofs.Logic.{impossible}
 use Rattle.rules.proofs.Lists.{_∈_}
-use Rattle.history.proofs.Cells.{isOK, isOKPrepare, isThere, Holds, Placed, only-OK, tentative-final, none-final, one-final, one-tentative, one-done, none-held, one-held, prepare-cases, outcome-cases, noted-done, held-there, Stands, Finalisable, none-stands, finalisable-same, finalisable-there}
+use Rattle.history.proofs.Cells.{isOK, isOKPrepare, Holds, Placed, only-OK, tentative-final, none-final, one-final, one-tentative, one-done, none-held, one-held, prepare-cases, outcome-cases, noted-done, Stands, Finalisable, none-stands, finalisable-same}
 
 pub record Cell : Type 0 where
   pub prepare : Prepare
@@ -69,10 +69,10 @@ apply (acceptOutcome o) e = record { prepare = e .prepare; outcome = e .outcome;
 
 -- when a box in view w may do this at stamp t; what an OK of the check means stands with the group, since it looks at other stamps
 abbrev pub Can : List Fact → ℕ → ℕ → Act → Entry → Type 0
-Can G w t (addRow r) e = (e .prepare ≡ noPrepare) × (e .outcome ≡ noOutcome) × (bodySent t ∈ G)
+Can G w t (addRow r) e = (e .prepare ≡ noPrepare) × (e .outcome ≡ noOutcome)
 Can G w t (fillRow o) e = (e .prepare ≡ noPrepare) × Holds o (e .outcome)
 Can G w t (makeFinal r) e = (gaveResult t w r ∈ G) × Finalisable r (e .prepare)
-Can G w t (noteOutcome o) e = (e .outcome ≡ noOutcome) × Proposed G t w o × (bodySent t ∈ G)
+Can G w t (noteOutcome o) e = (e .outcome ≡ noOutcome) × Proposed G t w o
 Can G w t (finishOutcome o) e = (e .outcome ≡ noted o) × (finalised t w o ∈ G)
 Can G w t (answerResult r x) e = e .prepare ≡ asPrepare r x
 Can G w t (acceptOutcome o) e = Holds o (e .outcome)
@@ -95,10 +95,9 @@ pub record Good (G : List Fact) (w t : ℕ) (c : Cell) (e : Entry) : Type 0 wher
   pub answerTentative : (r : Result) → said r false ∈ e .answers → (c .prepare ≡ noPrepare) × Stands r (e .prepare)
   pub answerOK : said OK false ∈ e .answers → OKReason (e .checked) (e .outcome)
   pub acceptanceHeld : (o : Verdict) → o ∈ e .acceptances → Holds o (e .outcome)
-  -- outcomes and rows come from what was sent
+  -- outcomes come from what was sent
   pub doneFrom : (o : Verdict) → e .outcome ≡ done o → (c .outcome ≡ done o) ⊎ (finalised t w o ∈ G)
   pub heldFrom : (o : Verdict) → Holds o (e .outcome) → (c .outcome ≡ done o) ⊎ Proposed G t w o
-  pub rowFrom : isThere (e .prepare) (e .outcome) ≡ true → (isThere (c .prepare) (c .outcome) ≡ true) ⊎ (bodySent t ∈ G)
   -- a checked row was not there when the view began, and stays
   pub checkedNew : e .checked ≡ true → (c .prepare ≡ noPrepare) × (c .outcome ≡ noOutcome)
   pub checkedPlaced : e .checked ≡ true → Placed (e .prepare)
@@ -132,7 +131,7 @@ module _ {G : List Fact} {w t : ℕ} {c : Cell} {e : Entry} (s : Settled c) (g :
   none-checked pb k = none-stands pb (g .checkedPlaced k)
 
   keep-add : (r : Result) → Can G w t (addRow r) e → Good G w t c (apply (addRow r) e)
-  keep-add r (pb, oo, sn) =
+  keep-add r (pb, oo) =
       record {
         finalStays = λ r′ h. none-final pb (g .finalStays r′ h);
         doneStays = g .doneStays;
@@ -147,7 +146,6 @@ module _ {G : List Fact} {w t : ℕ} {c : Cell} {e : Entry} (s : Settled c) (g :
         heldFrom = g .heldFrom;
         checkedNew = λ h. (none-before pb, open-before oo);
         checkedPlaced = λ h. inl (ap tentative (only-OK r h));
-        rowFrom = λ h. inr sn;
       }
 
   keep-fill : (o : Verdict) → Can G w t (fillRow o) e → Good G w t c (apply (fillRow o) e)
@@ -166,7 +164,6 @@ module _ {G : List Fact} {w t : ℕ} {c : Cell} {e : Entry} (s : Settled c) (g :
         heldFrom = g .heldFrom;
         checkedNew = g .checkedNew;
         checkedPlaced = λ h. none-checked pb h;
-        rowFrom = λ h. g .rowFrom (held-there (e .prepare) (e .outcome) o held);
       }
     where
       why : (o : Verdict) → Holds o (e .outcome) → tentative (resultFor o) ≡ tentative OK → Holds commit (e .outcome)
@@ -189,11 +186,10 @@ module _ {G : List Fact} {w t : ℕ} {c : Cell} {e : Entry} (s : Settled c) (g :
         heldFrom = g .heldFrom;
         checkedNew = g .checkedNew;
         checkedPlaced = λ h. inr (r, refl);
-        rowFrom = λ h. g .rowFrom (finalisable-there (e .prepare) (e .outcome) r was);
       }
 
   keep-note : (o : Verdict) → Can G w t (noteOutcome o) e → Good G w t c (apply (noteOutcome o) e)
-  keep-note o (oo, prp, sn) =
+  keep-note o (oo, prp) =
       record {
         finalStays = g .finalStays;
         doneStays = λ o′ h. none-held oo (inr (g .doneStays o′ h));
@@ -208,7 +204,6 @@ module _ {G : List Fact} {w t : ℕ} {c : Cell} {e : Entry} (s : Settled c) (g :
         heldFrom = λ o′ h. inr (rw (← one-held (inl refl) h) prp);
         checkedNew = g .checkedNew;
         checkedPlaced = g .checkedPlaced;
-        rowFrom = λ h. inr sn;
       }
     where
       lost : OKReason (e .checked) (e .outcome) → OKReason (e .checked) (noted o)
@@ -231,7 +226,6 @@ module _ {G : List Fact} {w t : ℕ} {c : Cell} {e : Entry} (s : Settled c) (g :
         heldFrom = λ o′ h. g .heldFrom o′ (rw (one-held h (inr refl)) (inl oo));
         checkedNew = g .checkedNew;
         checkedPlaced = g .checkedPlaced;
-        rowFrom = λ h. g .rowFrom (held-there (e .prepare) (e .outcome) o (inl oo));
       }
     where
       up : {o′ : Verdict} → Holds o′ (e .outcome) → Holds o′ (done o)
@@ -257,7 +251,6 @@ module _ {G : List Fact} {w t : ℕ} {c : Cell} {e : Entry} (s : Settled c) (g :
         heldFrom = g .heldFrom;
         checkedNew = g .checkedNew;
         checkedPlaced = g .checkedPlaced;
-        rowFrom = g .rowFrom;
       }
     where
       final-said : (r′ : Result) (x : Bool) → e .prepare ≡ asPrepare r x → (said r′ true ≡ said r x) ⊎ (said r′ true ∈ e .answers) → e .prepare ≡ final r′
@@ -291,7 +284,6 @@ module _ {G : List Fact} {w t : ℕ} {c : Cell} {e : Entry} (s : Settled c) (g :
         heldFrom = g .heldFrom;
         checkedNew = g .checkedNew;
         checkedPlaced = g .checkedPlaced;
-        rowFrom = g .rowFrom;
       }
     where
       still-held : (o′ : Verdict) → (o′ ≡ o) ⊎ (o′ ∈ e .acceptances) → Holds o′ (e .outcome)

@@ -156,7 +156,7 @@ last-or {A} {x} {y} xs m = go (List·Memᴰ·append-cases xs m)
     go (inr k) = inr (List·Memᴰ·eq-of-singleton k)
 
 -- what holds of each and of one more
-and-last : {A : Type 0} (P : A → Type 0) (xs : List A) (y : A) → ((x : A) → x ∈ xs → P x) → P y → (x : A) → x ∈ (xs ++ (y ∷ [])) → P x
+pub and-last : {A : Type 0} (P : A → Type 0) (xs : List A) (y : A) → ((x : A) → x ∈ xs → P x) → P y → (x : A) → x ∈ (xs ++ (y ∷ [])) → P x
 and-last {A} P xs y each one x m = go (last-or xs m)
   where
     go : (x ∈ xs) ⊎ (x ≡ y) → P x

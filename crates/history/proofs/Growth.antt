@@ -38,7 +38,6 @@ module _ (φ : Fact) {G : List Fact} where
         heldFrom = λ o h. held (g .heldFrom o h);
         checkedNew = g .checkedNew;
         checkedPlaced = g .checkedPlaced;
-        rowFrom = λ h. still (g .rowFrom h);
       }
     where
       held : {A : Type 0} {o : Verdict} → A ⊎ Proposed G t w o → A ⊎ Proposed (φ ∷ G) t w o
@@ -68,10 +67,10 @@ module _ {G : List Fact} {w t : ℕ} {c : Cell} {e : Entry} (s : Settled c) (g :
       dead (inr h) = inr (hd abort h)
 
   pub grows : (a : Act) → Can G w t a e → Grows e (apply a e)
-  grows (addRow r) (pb, oo, sn) = grow (addRow r) (λ k. none-checked s g pb k) (λ o h. h) (λ r′ h. none-final pb h) (λ x m. m) (λ o m. m)
+  grows (addRow r) (pb, oo) = grow (addRow r) (λ k. none-checked s g pb k) (λ o h. h) (λ r′ h. none-final pb h) (λ x m. m) (λ o m. m)
   grows (fillRow o) (pb, held) = grow (fillRow o) (λ k. k) (λ o h. h) (λ r′ h. none-final pb h) (λ x m. m) (λ o m. m)
   grows (makeFinal r) (gave, was) = grow (makeFinal r) (λ k. k) (λ o h. h) (λ r′ h. ap final (finalisable-same was h)) (λ x m. m) (λ o m. m)
-  grows (noteOutcome o) (oo, p, sn) = grow (noteOutcome o) (λ k. k) (λ o′ h. none-held oo (inr h)) (λ r′ h. h) (λ x m. m) (λ o m. m)
+  grows (noteOutcome o) (oo, p) = grow (noteOutcome o) (λ k. k) (λ o′ h. none-held oo (inr h)) (λ r′ h. h) (λ x m. m) (λ o m. m)
   grows (finishOutcome o) (oo, p) = grow (finishOutcome o) (λ k. k) (λ o′ h. noted-done oo h) (λ r′ h. h) (λ x m. m) (λ o m. m)
   grows (answerResult r x) can = grow (answerResult r x) (λ k. k) (λ o h. h) (λ r′ h. h) (λ x m. List·Memᴰ·tail m) (λ o m. m)
   grows (acceptOutcome o) can = grow (acceptOutcome o) (λ k. k) (λ o h. h) (λ r′ h. h) (λ x m. m) (λ o m. List·Memᴰ·tail m)

@@ -8,7 +8,7 @@ use Rattle.rules.specs.Groups.{quorum, fastCount, agreementCount}
 use Rattle.rules.specs.Tables.{Result, Result.OK, Prepare.noPrepare, Prepare.tentative, Prepare.final, Verdict, Verdict.commit, Verdict.abort, Outcome.noOutcome, Outcome.done}
 use Rattle.rules.proofs.Lists.{_∈_}
 use Rattle.history.proofs.Below.{AtLeast}
-use Rattle.history.proofs.Cells.{isOK, isAccepted, isThere, Holds, Dead}
+use Rattle.history.proofs.Cells.{isOK, isAccepted, Holds, Dead}
 use Rattle.history.proofs.Entries.{Cell, Cells, Fact, Fact.gaveResult, Fact.declaredFinal, Fact.proposed, Fact.finalised, Fact.promised, Fact.started, Said, Said.said, Entry, Good, Settled}
 
 -- what is fixed for a group: its size, the clash of two stamps' bodies, and the one table that each view begins with, settled, that of view 0 empty
@@ -46,10 +46,9 @@ module _ (X : Setup) (U : ℕ → Type 0) (T : ℕ → Cells) (M : Cells) where
   FixedAt t = ((b : ℕ) × U b × (T b t .prepare ≡ final OK)) ⊎ (M t .outcome ≡ done commit)
 
   pub record FairCells : Type 0 where
-    -- outcomes are those held, done; rows are those held
+    -- outcomes are those held, done
     pub outcomeKept : (b t : ℕ) (o : Verdict) → U b → Holds o (T b t .outcome) → M t .outcome ≡ done o
     pub outcomeFrom : (t : ℕ) (o : Verdict) → M t .outcome ≡ done o → (b : ℕ) × U b × Holds o (T b t .outcome)
-    pub rowFrom : (t : ℕ) → isThere (M t .prepare) (M t .outcome) ≡ true → (b : ℕ) × U b × (isThere (T b t .prepare) (T b t .outcome) ≡ true)
     -- a final result and an agreed refusal are kept
     pub finalKept : (b t : ℕ) (r : Result) → U b → T b t .prepare ≡ final r → M t .prepare ≡ final r
     pub refusalKept : (t : ℕ) (r : Result) → NoFinalAt t → AgreedAt t r → isOK r ≡ false → M t .prepare ≡ final r

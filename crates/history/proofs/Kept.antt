@@ -15,8 +15,8 @@ use Rattle.rules.proofs.Logic.{impossible, cases, same?}
 use Rattle.rules.proofs.Lists.{_∈_}
 use Rattle.rules.proofs.Groups.{quorums-meet, agreement-once, fast-meets, fast-quorum}
 use Rattle.history.proofs.Below.{lt-or-eq, strong, search-below, at-least-map, at-least-below, shared, some-one, common}
-use Rattle.history.proofs.Cells.{isOK, isAccepted, isThere, Holds, one-final, none-final, tentative-final, ok-or-aborted, accepted-not-aborted, none-held, only-OK, prepare-cases, Stands}
-use Rattle.history.proofs.Entries.{Cells, Fact, Fact.gaveResult, Fact.declaredFinal, Fact.proposed, Fact.finalised, Fact.promised, Fact.bodySent, Fact.started, Said.said, Proposed, OKReason}
+use Rattle.history.proofs.Cells.{isOK, isAccepted, Holds, one-final, none-final, tentative-final, ok-or-aborted, accepted-not-aborted, none-held, only-OK, prepare-cases, Stands}
+use Rattle.history.proofs.Entries.{Cells, Fact, Fact.gaveResult, Fact.declaredFinal, Fact.proposed, Fact.finalised, Fact.promised, Fact.started, Said.said, Proposed, OKReason}
 use Rattle.history.proofs.Invariant.{Setup, Crowd, Quorum, acceptedCell, NoFinalAt, AgreedAt, FixedAt, Began, Touched, Entries, DeadEntry, Rests, FastAnswers, Crowds, Invariant}
 
 module _ (X : Setup) (G : List Fact) (entries : Entries) where
@@ -26,7 +26,6 @@ module _ (X : Setup) (G : List Fact) (entries : Entries) where
     pub outcomes : (t u : ℕ) (o : Verdict) → u < v → Quorum X (λ b. o ∈ entries b u t .acceptances) → M t .outcome ≡ done o
     pub apart : (t u : ℕ) → X .clash t u → acceptedCell (M t) ≡ true → acceptedCell (M u) ≡ true → ⊥
     pub proposed : (t : ℕ) (o : Verdict) → M t .outcome ≡ done o → Proposed G t v o
-    pub rows : (t : ℕ) → isThere (M t .prepare) (M t .outcome) ≡ true → bodySent t ∈ G
 
   abbrev pub Kept : ℕ → Type 0
   Kept v = KeptIn v (X .begun v)
@@ -348,18 +347,9 @@ module _ (X : Setup) (G : List Fact) (entries : Entries) where
           let (p, why) = held-proposed b (m .w) t o kw (rw (← table-outcome b t h) k) in
           (p, λ c. let (u, l, d) = why c in (u, omega (arith, m .before), d))
 
-      rows-kept : Kept (m .w) → (t : ℕ) → isThere (M t .prepare) (M t .outcome) ≡ true → bodySent t ∈ G
-      rows-kept kw t h =
-          let (b, u, k) = m .fair .rowFrom t h in
-          go (i .good b (m .w) t .rowFrom (sym (ap₂ isThere (table-prepare b t u) (table-outcome b t u)) ∙ k))
-        where
-          go : (isThere (X .begun (m .w) t .prepare) (X .begun (m .w) t .outcome) ≡ true) ⊎ (bodySent t ∈ G) → bodySent t ∈ G
-          go (inl e) = kw .rows t e
-          go (inr e) = e
-
       pub kept : Kept (m .w) → KeptIn v M
       kept kw =
-          record { results = results-kept kw; outcomes = outcomes-kept kw; apart = apart-kept kw; proposed = proposed-kept kw; rows = rows-kept kw }
+          record { results = results-kept kw; outcomes = outcomes-kept kw; apart = apart-kept kw; proposed = proposed-kept kw }
 
     fresh-kept : Kept 0
     fresh-kept =
@@ -368,7 +358,6 @@ module _ (X : Setup) (G : List Fact) (entries : Entries) where
           outcomes = λ t u o l q. absurd (not-suc-le-zero l);
           apart = λ t u cl a b. impossible a (ap₂ isAccepted (X .fresh-prepare t) (X .fresh-outcome t));
           proposed = λ t o e. none-held (X .fresh-outcome t) (inr e);
-          rows = λ t h. impossible h (ap₂ isThere (X .fresh-prepare t) (X .fresh-outcome t));
         }
 
     -- every view's table keeps all this: by induction on views, at one time, since what a promise handed over changes no more

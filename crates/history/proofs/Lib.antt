@@ -16,7 +16,14 @@ pub mod World
 pub mod Boxes
 pub mod Answering
 pub mod Views
+pub mod Gathering
 pub mod Gathered
 pub mod Follows
 pub mod Arrivals
 pub mod Coordinators
+pub mod Merging
+pub mod Following
+pub mod Names
+pub mod Survival
+pub mod Regular
+pub mod Beyond

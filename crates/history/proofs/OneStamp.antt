@@ -34,7 +34,7 @@ one-verdict u v noOutcome p h k c = impossible h refl
 one-verdict u v (noted a) p h k c = same-verdict u a h ∙ not-opposite a v p k c
 one-verdict u v (done a) p h k c = same-verdict u a h ∙ not-opposite a v p k c
 
-is-tentative : (a : Result) (p : Prepare) → holdsTentative a p ≡ true → p ≡ tentative a
+pub is-tentative : (a : Result) (p : Prepare) → holdsTentative a p ≡ true → p ≡ tentative a
 is-tentative a noPrepare h = impossible h refl
 is-tentative a (tentative b) h = ap tentative (sym (same-result a b h))
 is-tentative a (final b) h = impossible h refl

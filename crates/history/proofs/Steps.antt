@@ -99,7 +99,6 @@ module _ (X : Setup) where
                     heldFrom = λ o h. inl (held w t o h);
                     checkedNew = λ h. impossible h refl;
                     checkedPlaced = λ h. impossible h refl;
-                    rowFrom = λ h. inl h;
                   };
               clearOfBegun = λ b w t u cl ac k. impossible k refl;
               checkedApart = λ b w t u cl k k′. impossible k refl;

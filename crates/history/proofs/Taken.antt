@@ -45,12 +45,11 @@ module _ (M : Model) (room : Room) (T : Table) where
 
   pub taken-2 : (s v : ℕ) (r : Result) → answerNumber M room T (finalisePrepare s v r) ≡ 0 → (isChanging T ≡ false) × (v ≡ T .view) × RowHeld T s (λ q. ((p : Result) × (q .prepare ≡ tentative p)) ⊎ (q .prepare ≡ final r))
   unfolding circumstances furtherCircumstances forOtherView prepareNotHeld heldUnequalFinal
-  taken-2 s v r h =
-      (
-        normal-if m h (search places),
-        eqb-true v (T .view) (not-false _ (met-none M room T m h otherView (not (eqb v (T .view))) (search places depth 11) (search places))),
-        go (held (T .rows) s) refl (met-none M room T m h unknown _ (search places depth 11) (search places)) (met-none M room T m h contradiction _ (search places depth 11) (search places)),
-      )
+  taken-2 s v r h = (
+    normal-if m h (search places),
+    eqb-true v (T .view) (not-false _ (met-none M room T m h otherView (not (eqb v (T .view))) (search places depth 11) (search places))),
+    go (held (T .rows) s) refl (met-none M room T m h unknown _ (search places depth 11) (search places)) (met-none M room T m h contradiction _ (search places depth 11) (search places)),
+  )
     where
       m : Message
       m = finalisePrepare s v r
@@ -77,12 +76,11 @@ module _ (M : Model) (room : Room) (T : Table) where
 
   pub taken-4 : (s v : ℕ) (o : Verdict) → answerNumber M room T (finaliseOutcome s v o) ≡ 0 → (isChanging T ≡ false) × (v ≡ T .view) × RowHeld T s (HasVerdict o)
   unfolding circumstances furtherCircumstances forOtherView outcomeNotHeld heldOppositeOutcome
-  taken-4 s v o h =
-      (
-        normal-if m h (search places),
-        eqb-true v (T .view) (not-false _ (met-none M room T m h otherView (not (eqb v (T .view))) (search places depth 11) (search places))),
-        go (held (T .rows) s) refl (met-none M room T m h unknown _ (search places depth 11) (search places)) (met-none M room T m h contradiction _ (search places depth 11) (search places)),
-      )
+  taken-4 s v o h = (
+    normal-if m h (search places),
+    eqb-true v (T .view) (not-false _ (met-none M room T m h otherView (not (eqb v (T .view))) (search places depth 11) (search places))),
+    go (held (T .rows) s) refl (met-none M room T m h unknown _ (search places depth 11) (search places)) (met-none M room T m h contradiction _ (search places depth 11) (search places)),
+  )
     where
       m : Message
       m = finaliseOutcome s v o

@@ -121,8 +121,8 @@ module _ (W : World) (b : ℕ) (T : Table) (s : State) (k : Sound (setup W) s) (
                   box = i .box;
                   group = start-facts .2 ∙ i .group;
                   view = start-facts .1 ∙ sym (setAt-here (s .view) b v b refl);
-                  promise = normal-promise I (table-facts (W .model) I rule .mode) normal-start ∙ start-facts .1 ∙ sym (setAt-here (s .promised) b v b refl);
-                  mode = table-facts (W .model) I rule .mode;
+                  promise = normal-promise I (table-facts (W .model) I rule .0 .mode) normal-start ∙ start-facts .1 ∙ sym (setAt-here (s .promised) b v b refl);
+                  mode = table-facts (W .model) I rule .0 .mode;
                   prepare = λ t. rw (setAt-here (s .view) b v b refl) (prepare-at t);
                   outcome = λ t. rw (setAt-here (s .view) b v b refl) (outcome-at t);
                   owned = owned-wider W (λ φ m. List·Memᴰ·tail m) (I .rows) own;

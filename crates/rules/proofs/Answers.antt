@@ -22,7 +22,7 @@ use Rattle.rules.proofs.Lists.{_∈_, places, every-one, all-every}
 use Rattle.rules.proofs.Check.{CheckByRule}
 use Rattle.rules.proofs.Rows.{rising-added, rising-changed, length-added, length-changed, added-from, changed-from}
 use Rattle.rules.proofs.Numbers.{number-done}
-use Rattle.rules.proofs.Tables.{verdict-counts, result-counts, stamp-positive, RowByRule, row-facts, row-by, ByRule, table-facts, table-by}
+use Rattle.rules.proofs.Tables.{verdict-counts, result-counts, stamp-positive, RowByRule, row-facts, row-by, Regular, table-facts, table-by}
 
 -- what later layers ask of any rule of room: that it never goes past the row limit
 abbrev pub RoomFits : Room → Type 0
@@ -36,8 +36,9 @@ pub fresh-by-rule : (M : Model) (n box : ℕ) → badGroup n box ≡ false → t
 unfolding badGroup freshTable isView modeByRule rising every both either
 fresh-by-rule M n box h =
     let g = not-false _ h in
-    table-by
-    (record { group = both-left (isGroup n) (ltb box n) g; box = ltb-true box n (both-right (isGroup n) (ltb box n) g); view = refl; promised = refl; mode = refl; start = omega arith; limit = omega arith; rise = refl; rows = refl })
+    table-by M
+    (record { group = both-left (isGroup n) (ltb box n) g; box = ltb-true box n (both-right (isGroup n) (ltb box n) g); view = refl; promised = refl; mode = refl; start = omega arith; rise = refl; rows = refl })
+    (omega arith)
 
 -- ---- rows by the rule, changed and added
 
@@ -55,24 +56,23 @@ every-added r rows k h = all-every rowByRule (added r rows) (λ q m. go q (added
     go q (inl e) = rw e k
     go q (inr m) = every-one rowByRule rows h q m
 
-module _ (M : Model) (T : Table) (t : ByRule M T) where
+module _ (T : Table) (t : Regular T) where
   -- other rows in its place
-  with-rows : (rows : List Row) → T .start ≤ length rows → length rows ≤ M .rowLimit → rising 0 rows ≡ true → every rowByRule rows ≡ true → ByRule M (withRows T rows)
-  with-rows rows s l r e =
-      record { group = t .group; box = t .box; view = t .view; promised = t .promised; mode = t .mode; start = s; limit = l; rise = r; rows = e }
+  with-rows : (rows : List Row) → T .start ≤ length rows → rising 0 rows ≡ true → every rowByRule rows ≡ true → Regular (withRows T rows)
+  with-rows rows s r e = record { group = t .group; box = t .box; view = t .view; promised = t .promised; mode = t .mode; start = s; rise = r; rows = e }
 
   -- a row is changed, with its stamp kept
-  changed-rule : (s : ℕ) (change : Row → Row) → ((r : Row) → change r .stamp ≡ r .stamp) → ((r : Row) → rowByRule r ≡ true → rowByRule (change r) ≡ true) → ByRule M (withRows T (changed s change (T .rows)))
+  changed-rule : (s : ℕ) (change : Row → Row) → ((r : Row) → change r .stamp ≡ r .stamp) → ((r : Row) → rowByRule r ≡ true → rowByRule (change r) ≡ true) → Regular (withRows T (changed s change (T .rows)))
   changed-rule s change same keeps =
       let n = length-changed s change (T .rows) in
-      with-rows (changed s change (T .rows)) (omega (arith, t .start)) (omega (arith, t .limit)) (rising-changed s change same 0 (T .rows) ∙ t .rise) (every-changed s change (T .rows) keeps (t .rows))
+      with-rows (changed s change (T .rows)) (omega (arith, t .start)) (rising-changed s change same 0 (T .rows) ∙ t .rise) (every-changed s change (T .rows) keeps (t .rows))
 
-  -- a row of a new stamp is added, where there is room
-  added-rule : (r : Row) → rowByRule r ≡ true → held (T .rows) (r .stamp) ≡ none → length (T .rows) < M .rowLimit → ByRule M (withRows T (added r (T .rows)))
-  added-rule r k new room =
+  -- a row of a new stamp is added
+  added-rule : (r : Row) → rowByRule r ≡ true → held (T .rows) (r .stamp) ≡ none → Regular (withRows T (added r (T .rows)))
+  added-rule r k new =
       let n = length-added r (T .rows) in
       let low = stamp-positive (r .stamp) (row-facts r k .stamp) in
-      with-rows (added r (T .rows)) (omega (arith, t .start)) (omega arith) (rising-added r 0 (T .rows) low new (t .rise)) (every-added r (T .rows) k (t .rows))
+      with-rows (added r (T .rows)) (omega (arith, t .start)) (rising-added r 0 (T .rows) low new (t .rise)) (every-added r (T .rows) k (t .rows))
 
 -- ---- what messages do to a row keeps its rule
 
@@ -125,33 +125,28 @@ taken-by-rule M room T m h = not-false _ (met-none M room T m h badMessage _ (se
 
 -- ---- the table after a message that was taken
 
-module _ (M : Model) (room : Room) (check : Check) (fits : RoomFits room) (checks : CheckByRule check) (T : Table) (t : ByRule M T) where
-  -- there is room for a new stamp, since the message was not refused as full
-  has-room : (s : ℕ) → newButFull M room T s ≡ false → held (T .rows) s ≡ none → length (T .rows) < M .rowLimit
-  unfolding newButFull both
-  has-room s h e = fits (M .rowLimit) (fOf (T .n)) (T .start) (length (T .rows)) (not-false _ (rw e at h))
-
+module _ (M : Model) (room : Room) (check : Check) (checks : CheckByRule check) (T : Table) (t : Regular T) where
   new-row : (s : ℕ) (x : Body) (p : Prepare) (o : Outcome) → both (isStamp s) (bodyByRule s x) ≡ true → 0 < prepareCode p + outcomeCode o → retryByRule p ≡ true → rowByRule (record { stamp = s; body = x; prepare = p; outcome = o }) ≡ true
   unfolding bodyByRule somethingHeld
   new-row s x p o m l k =
       let b = both-right _ _ m in
       row-by (record { stamp = both-left _ _ m; counts = both-left _ _ b; held = lt-ltb 0 (prepareCode p + outcomeCode o) l; retry = k; contents = both-right _ _ b })
 
-  after-1 : (s : ℕ) (x : Body) → both (isStamp s) (bodyByRule s x) ≡ true → newButFull M room T s ≡ false → ByRule M (withRows T (prepareProposed check (T .rows) s x))
+  after-1 : (s : ℕ) (x : Body) → both (isStamp s) (bodyByRule s x) ≡ true → Regular (withRows T (prepareProposed check (T .rows) s x))
   unfolding prepareProposed retryByRule
-  after-1 s x m n = go (held (T .rows) s) refl
+  after-1 s x m = go (held (T .rows) s) refl
     where
-      go : (h : Option Row) → held (T .rows) s ≡ h → ByRule M (withRows T (cond (isSome h) (changed s (λ r. withPrepare (answered (r .prepare) (r .outcome)) r) (T .rows)) (added (record { stamp = s; body = x; prepare = tentative (check (T .rows) s x); outcome = noOutcome }) (T .rows))))
-      go (some r) e = changed-rule M T t s _ (λ q. refl) answered-row
-      go none e = added-rule M T t _ (new-row s x (tentative (check (T .rows) s x)) noOutcome m (omega (arith, result-counts (check (T .rows) s x))) (checks (T .rows) s x (t .rows))) e (has-room s n e)
+      go : (h : Option Row) → held (T .rows) s ≡ h → Regular (withRows T (cond (isSome h) (changed s (λ r. withPrepare (answered (r .prepare) (r .outcome)) r) (T .rows)) (added (record { stamp = s; body = x; prepare = tentative (check (T .rows) s x); outcome = noOutcome }) (T .rows))))
+      go (some r) e = changed-rule T t s _ (λ q. refl) answered-row
+      go none e = added-rule T t _ (new-row s x (tentative (check (T .rows) s x)) noOutcome m (omega (arith, result-counts (check (T .rows) s x))) (checks (T .rows) s x (t .rows))) e
 
-  after-3 : (s : ℕ) (v : Verdict) (x : Body) → both (isStamp s) (bodyByRule s x) ≡ true → newButFull M room T s ≡ false → ByRule M (withRows T (outcomeProposed (T .rows) s v x))
+  after-3 : (s : ℕ) (v : Verdict) (x : Body) → both (isStamp s) (bodyByRule s x) ≡ true → Regular (withRows T (outcomeProposed (T .rows) s v x))
   unfolding outcomeProposed retryByRule
-  after-3 s v x m n = go (held (T .rows) s) refl
+  after-3 s v x m = go (held (T .rows) s) refl
     where
-      go : (h : Option Row) → held (T .rows) s ≡ h → ByRule M (withRows T (cond (isSome h) (changed s (λ r. withOutcome (notedAs v (r .outcome)) r) (T .rows)) (added (record { stamp = s; body = x; prepare = noPrepare; outcome = noted v }) (T .rows))))
-      go (some r) e = changed-rule M T t s _ (λ q. refl) (noted-row v)
-      go none e = added-rule M T t _ (new-row s x noPrepare (noted v) m (omega (arith, verdict-counts v)) refl) e (has-room s n e)
+      go : (h : Option Row) → held (T .rows) s ≡ h → Regular (withRows T (cond (isSome h) (changed s (λ r. withOutcome (notedAs v (r .outcome)) r) (T .rows)) (added (record { stamp = s; body = x; prepare = noPrepare; outcome = noted v }) (T .rows))))
+      go (some r) e = changed-rule T t s _ (λ q. refl) (noted-row v)
+      go none e = added-rule T t _ (new-row s x noPrepare (noted v) m (omega (arith, verdict-counts v)) refl) e
 
   changing-by-rule : (view v : ℕ) → view < v → modeByRule changingMode view v ≡ true
   unfolding modeByRule
@@ -165,7 +160,7 @@ module _ (M : Model) (room : Room) (check : Check) (fits : RoomFits room) (check
       go (inl k) = let e = eqb-true promised view (both-right _ _ k) in omega arith
       go (inr k) = let l = ltb-true view promised (both-right _ _ k) in omega arith
 
-  after-5 : (v : ℕ) → isView v ≡ true → changesToOldView T v ≡ false → ByRule M (promising T v)
+  after-5 : (v : ℕ) → isView v ≡ true → changesToOldView T v ≡ false → Regular (promising T v)
   unfolding changesToOldView
   after-5 v m n =
       let l = leb-false v (T .promised) n in
@@ -177,15 +172,14 @@ module _ (M : Model) (room : Room) (check : Check) (fits : RoomFits room) (check
         promised = m;
         mode = changing-by-rule (T .view) v (omega arith);
         start = t .start;
-        limit = t .limit;
         rise = t .rise;
         rows = t .rows;
       }
 
-  after-6 : (v : ℕ) (I : Table) → tableByRule M I ≡ true → startsView (T .n) v I ≡ true → ByRule M (keepingBox I (T .box)) × (I .n ≡ T .n)
+  after-6 : (v : ℕ) (I : Table) → tableByRule M I ≡ true → startsView (T .n) v I ≡ true → Regular (keepingBox I (T .box)) × (I .n ≡ T .n)
   unfolding startsView
   after-6 v I m k =
-      let i = table-facts M I m in
+      let i = table-facts M I m .0 in
       let e = eqb-true (I .n) (T .n) (both-left _ _ (both-right _ _ (both-right _ _ (both-right _ _ k)))) in (
         record {
           group = i .group;
@@ -194,7 +188,6 @@ module _ (M : Model) (room : Room) (check : Check) (fits : RoomFits room) (check
           promised = i .promised;
           mode = i .mode;
           start = i .start;
-          limit = i .limit;
           rise = i .rise;
           rows = i .rows;
         },
@@ -203,16 +196,16 @@ module _ (M : Model) (room : Room) (check : Check) (fits : RoomFits room) (check
 
   -- by the rules again, of the same group and the same box
   abbrev pub Kept : Table → Type 0
-  Kept U = ByRule M U × (U .box ≡ T .box) × (U .n ≡ T .n)
+  Kept U = Regular U × (U .box ≡ T .box) × (U .n ≡ T .n)
 
   taken-kept : (m : Message) → answerNumber M room T m ≡ 0 → messageByRule M (T .n) m ≡ true → Kept (tableAfter check T m)
   unfolding circumstances furtherCircumstances messageByRule tableAfter prepareFinalised outcomeFinalised retryByRule
-  taken-kept (proposePrepare s x) h k = (after-1 s x k (met-none M room T (proposePrepare s x) h full _ (search places depth 11) (search places)), refl, refl)
+  taken-kept (proposePrepare s x) h k = (after-1 s x k, refl, refl)
   taken-kept (finalisePrepare s v r) h k =
       let p = both-right _ _ (both-right _ _ k) in
-      (changed-rule M T t s _ (λ q. refl) (λ q. with-prepare (final r) q (omega arith) p), refl, refl)
-  taken-kept (proposeOutcome s v x) h k = (after-3 s v x k (met-none M room T (proposeOutcome s v x) h full _ (search places depth 11) (search places)), refl, refl)
-  taken-kept (finaliseOutcome s v u) h k = (changed-rule M T t s _ (λ q. refl) (λ q. with-outcome (done u) q (omega arith)), refl, refl)
+      (changed-rule T t s _ (λ q. refl) (λ q. with-prepare (final r) q (omega arith) p), refl, refl)
+  taken-kept (proposeOutcome s v x) h k = (after-3 s v x k, refl, refl)
+  taken-kept (finaliseOutcome s v u) h k = (changed-rule T t s _ (λ q. refl) (λ q. with-outcome (done u) q (omega arith)), refl, refl)
   taken-kept (changeView v) h k = (after-5 v k (met-none M room T (changeView v) h oldView _ (search places depth 11) (search places)), refl, refl)
   taken-kept (startView v I) h k =
       let p = both-right _ _ k in
@@ -229,9 +222,43 @@ module _ (M : Model) (room : Room) (check : Check) (fits : RoomFits room) (check
       go (inl e) = let h = eqb-true (answerNumber M room T m) 0 e in rw e (taken-kept m h (taken-by-rule M room T m h))
       go (inr e) = rw e (t, refl, refl)
 
+-- ---- how many rows it has
+
+module _ (M : Model) (room : Room) (check : Check) (fits : RoomFits room) (T : Table) (l : length (T .rows) ≤ M .rowLimit) where
+  -- there is room for a new stamp, since the message was not refused as full
+  has-room : (s : ℕ) → newButFull M room T s ≡ false → held (T .rows) s ≡ none → length (T .rows) < M .rowLimit
+  unfolding newButFull both
+  has-room s h e = fits (M .rowLimit) (fOf (T .n)) (T .start) (length (T .rows)) (not-false _ (rw e at h))
+
+  -- a row changed, or one more where there is room
+  changed-or-added : (s : ℕ) (change : Row → Row) (r : Row) → newButFull M room T s ≡ false → length (cond (isSome (held (T .rows) s)) (changed s change (T .rows)) (added r (T .rows))) ≤ M .rowLimit
+  changed-or-added s change r n = go (held (T .rows) s) refl
+    where
+      go : (h : Option Row) → held (T .rows) s ≡ h → length (cond (isSome h) (changed s change (T .rows)) (added r (T .rows))) ≤ M .rowLimit
+      go (some q) e = omega (arith, l, length-changed s change (T .rows))
+      go none e = omega (arith, has-room s n e, length-added r (T .rows))
+
+  taken-limit : (m : Message) → answerNumber M room T m ≡ 0 → length (tableAfter check T m .rows) ≤ M .rowLimit
+  unfolding circumstances furtherCircumstances messageByRule tableAfter prepareProposed outcomeProposed prepareFinalised outcomeFinalised
+  taken-limit (proposePrepare s x) h = changed-or-added s _ _ (met-none M room T (proposePrepare s x) h full _ (search places depth 11) (search places))
+  taken-limit (finalisePrepare s v r) h = omega (arith, l, length-changed s (withPrepare (final r)) (T .rows))
+  taken-limit (proposeOutcome s v x) h = changed-or-added s _ _ (met-none M room T (proposeOutcome s v x) h full _ (search places depth 11) (search places))
+  taken-limit (finaliseOutcome s v u) h = omega (arith, l, length-changed s (withOutcome (done u)) (T .rows))
+  taken-limit (changeView v) h = l
+  taken-limit (startView v I) h = table-facts M I (both-left _ _ (both-right _ _ (taken-by-rule M room T (startView v I) h))) .1
+  taken-limit (readRegister s k) h = l
+
+  answer-limit : (m : Message) → length (answer M room check T m .table .rows) ≤ M .rowLimit
+  unfolding answer taken refused
+  answer-limit m = go (cases (eqb (answerNumber M room T m) 0))
+    where
+      go : (eqb (answerNumber M room T m) 0 ≡ true) ⊎ (eqb (answerNumber M room T m) 0 ≡ false) → length (answer M room check T m .table .rows) ≤ M .rowLimit
+      go (inl e) = rw e (taken-limit m (eqb-true (answerNumber M room T m) 0 e))
+      go (inr e) = rw e l
+
 -- the table after an answer is a table by the rules, with the same box and the same n
 pub answer-by-rule : (M : Model) (room : Room) (check : Check) → RoomFits room → CheckByRule check → (T : Table) (m : Message) → tableByRule M T ≡ true → tableByRule M (answer M room check T m .table) ≡ true
-answer-by-rule M room check fits checks T m h = table-by (answer-kept M room check fits checks T (table-facts M T h) m .0)
+answer-by-rule M room check fits checks T m h = let (t, l) = table-facts M T h in table-by M (answer-kept M room check checks T t m .0) (answer-limit M room check fits T l m)
 
-pub answer-same-box : (M : Model) (room : Room) (check : Check) → RoomFits room → CheckByRule check → (T : Table) (m : Message) → tableByRule M T ≡ true → (answer M room check T m .table .box ≡ T .box) × (answer M room check T m .table .n ≡ T .n)
-answer-same-box M room check fits checks T m h = let k = answer-kept M room check fits checks T (table-facts M T h) m in (k .1, k .2)
+pub answer-same-box : (M : Model) (room : Room) (check : Check) → CheckByRule check → (T : Table) (m : Message) → tableByRule M T ≡ true → (answer M room check T m .table .box ≡ T .box) × (answer M room check T m .table .n ≡ T .n)
+answer-same-box M room check checks T m h = let k = answer-kept M room check checks T (table-facts M T h .0) m in (k .1, k .2)

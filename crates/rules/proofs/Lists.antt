@@ -188,6 +188,10 @@ module _ {A : Type 0} where
   unfolding somePair
   pair-none test xs e x y mx my = any-none (test x) xs (any-none (λ z. any (test z) xs) xs e x mx) y my
 
+  pub none-pair : (test : A → A → Bool) (xs : List A) → ((x y : A) → x ∈ xs → y ∈ xs → test x y ≡ false) → somePair test xs ≡ false
+  unfolding somePair
+  none-pair test xs h = none-any (λ x. any (test x) xs) xs (λ x m. none-any (test x) xs (λ y n. h x y m n))
+
   pub provided-some : (b : Bool) (x y : A) → provided b x ≡ some y → (b ≡ true) × (x ≡ y)
   provided-some true x y e = (refl, cc)
   provided-some false x y e = let c : _≡_ {A = ℕ} 0 1 = cc in absurd (omega arith)

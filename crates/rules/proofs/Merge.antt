@@ -4,7 +4,7 @@ use mathlib.Core.Bool.{Bool, true, false, not, cond}
 use mathlib.Core.Logic.{_⊎_, inl, inr}
 use mathlib.Core.List.{List, [], _∷_, _++_, map, List·Memᴰ·head, List·Memᴰ·cases-cons, List·Memᴰ·not-nil, Memᴰ·append-left, Memᴰ·append-right, Memᴰ·of-map}
 use mathlib.Core.Option.{some}
-use Prim.Native.Nat.{ℕ, suc, _+_, _<_, _%_}
+use Prim.Native.Nat.{ℕ, suc, _+_, _≤_, _<_, _%_}
 use native.Mathlib.Omega.{arith}
 use native.Mathlib.Nat.{mod-lt}
 use lib.Dec.{eqb}
@@ -21,7 +21,7 @@ use Rattle.rules.proofs.Logic.{impossible, both-true, either-first, eqb
 use Rattle.rules.proofs.Lists.{_∈_, every-one, all-every, those-of, in-those, in-all}
 use Rattle.rules.proofs.Check.{CheckByRule}
 use Rattle.rules.proofs.Rows.{rising-above, held-cons, held-is, changed-from}
-use Rattle.rules.proofs.Tables.{stamp-positive, row-facts, row-by, ByRule, table-facts, table-by}
+use Rattle.rules.proofs.Tables.{stamp-positive, row-facts, row-by, Regular, table-by}
 use Rattle.rules.proofs.Used.{used-newest, merge-is, merge-fits, first-table}
 use Rattle.rules.proofs.Standings.{NoneOrDone, outcome-cases, Says, standing-says}
 use Rattle.rules.proofs.Settled.{merged-settled}
@@ -186,19 +186,19 @@ module _ (agreement s : ℕ) (rs : List Row) (good : (r : Row) → r ∈ rs → 
   to-come (hasAgreed (RETRY t)) noOutcome h q m n d = inl (final-held (RETRY t) noOutcome)
   to-come hasOpen noOutcome h q m n d = inr (inr refl)
 
-module _ (M : Model) (agreement : ℕ) (Ts : List Table) (rules : every (tableByRule M) Ts ≡ true) where
+module _ (agreement : ℕ) (Ts : List Table) (rules : (T : Table) → T ∈ Ts → Regular T) where
   -- the rows of a stamp are by the rule
   rows-rule : (s : ℕ) (r : Row) → r ∈ rowsOf Ts s → (rowByRule r ≡ true) × (r .stamp ≡ s)
   rows-rule s r m =
       let (T, i, k, e) = rows-from Ts s r m in
-      (every-one rowByRule (T .rows) (table-facts M T (every-one (tableByRule M) Ts rules T i) .rows) r k, e)
+      (every-one rowByRule (T .rows) (rules T i .rows) r k, e)
 
   -- and there is one for each stamp
   pub some-row : (s : ℕ) → s ∈ stamps Ts → (r : Row) × (r ∈ rowsOf Ts s)
   unfolding rowsOf
   some-row s m =
       let (T, i, (r, k, e)) = stamps-from Ts s m in
-      let f = table-facts M T (every-one (tableByRule M) Ts rules T i) in
+      let f = rules T i in
       (r, in-all (λ U. held (U .rows) s) Ts T r i (rw e at (held-is 0 (T .rows) (f .rise) r k)))
 
   body-rule : (s : ℕ) (rs : List Row) → ((r : Row) → r ∈ rs → (rowByRule r ≡ true) × (r .stamp ≡ s)) → (r : Row) → r ∈ rs → (isStamp s ≡ true) × (countsByRule (length (bodyOf rs .reads)) (length (bodyOf rs .writes)) ≡ true) × (contentsByRule s (bodyOf rs) ≡ true)
@@ -278,9 +278,9 @@ unfolding mergedTable
 merge-stamps check v Ts = merged-stamps check (agreementCount (fOf (groupOf Ts))) (used Ts)
 
 module _ (M : Model) (check : Check) (v : ℕ) (Ts : List Table) where
-  module _ (checks : CheckByRule check) (rules : every (tableByRule M) Ts ≡ true) (done : mergeNumber M v Ts ≡ 0) where
-    used-rules : every (tableByRule M) (used Ts) ≡ true
-    used-rules = all-every (tableByRule M) (used Ts) (λ T m. every-one (tableByRule M) Ts rules T (used-newest Ts T m .0))
+  module _ (checks : CheckByRule check) (rules : (T : Table) → T ∈ Ts → Regular T) (done : mergeNumber M v Ts ≡ 0) where
+    used-rules : (T : Table) → T ∈ used Ts → Regular T
+    used-rules T m = rules T (used-newest Ts T m .0)
 
     abbrev agreement : ℕ
     agreement = agreementCount (fOf (groupOf Ts))
@@ -293,11 +293,11 @@ module _ (M : Model) (check : Check) (v : ℕ) (Ts : List Table) where
     unfolding modeByRule
     normal-by-rule = either-first _ _ (both-true refl (eqb-self v))
 
-    pub merged-facts : ByRule M (mergedTable check v Ts)
+    pub merged-facts : Regular (mergedTable check v Ts)
     unfolding mergedTable
     merged-facts =
         let (T, m, g, p) = first-table M v Ts done in
-        let f = table-facts M T (every-one (tableByRule M) Ts rules T m) in
+        let f = rules T m in
         let b = f .box in
         record {
           group = rw g (f .group);
@@ -306,10 +306,13 @@ module _ (M : Model) (check : Check) (v : ℕ) (Ts : List Table) where
           promised = rw p at (f .promised);
           mode = normal-by-rule;
           start = omega arith;
-          limit = omega (arith, merged-length, merge-fits M v Ts done);
-          rise = merged-rising M agreement (used Ts) used-rules check;
-          rows = merged-rows-rule M agreement (used Ts) used-rules check checks;
+          rise = merged-rising agreement (used Ts) used-rules check;
+          rows = merged-rows-rule agreement (used Ts) used-rules check checks;
         }
+
+    merged-limit : length (mergedTable check v Ts .rows) ≤ M .rowLimit
+    unfolding mergedTable
+    merged-limit = omega (arith, merged-length, merge-fits M v Ts done)
 
     pub merged-starts : startsView (groupOf Ts) v (mergedTable check v Ts) ≡ true
     unfolding mergedTable startsView
@@ -319,9 +322,9 @@ module _ (M : Model) (check : Check) (v : ℕ) (Ts : List Table) where
         (both-true (eqb-self (v % groupOf Ts))
         (both-true (eqb-self (groupOf Ts)) (both-true (eqb-self (length (mergedRows check agreement (used Ts)))) (merged-settled check agreement (used Ts))))))
 
--- a merge of tables by the rules is a table by the rules, of their group, and one that starts view v: normal, box v mod n, start rows equal to rows, all settled
-pub merge-by-rule : (M : Model) (check : Check) → CheckByRule check → (v : ℕ) (Ts : List Table) → every (tableByRule M) Ts ≡ true → (U : Table) → merge M check v Ts ≡ some U → (tableByRule M U ≡ true) × (U .n ≡ groupOf Ts) × (startsView (groupOf Ts) v U ≡ true)
+-- a merge of tables by the rules, however many rows they have, is a table by the rules, of their group, and one that starts view v: normal, box v mod n, start rows equal to rows, all settled
+pub merge-by-rule : (M : Model) (check : Check) → CheckByRule check → (v : ℕ) (Ts : List Table) → ((T : Table) → T ∈ Ts → Regular T) → (U : Table) → merge M check v Ts ≡ some U → (tableByRule M U ≡ true) × (U .n ≡ groupOf Ts) × (startsView (groupOf Ts) v U ≡ true)
 unfolding mergedTable
 merge-by-rule M check checks v Ts rules U h =
     let (d, e) = merge-is M check v Ts U h in
-    rw e (table-by (merged-facts M check v Ts checks rules d), refl, merged-starts M check v Ts checks rules d)
+    rw e (table-by M (merged-facts M check v Ts checks rules d) (merged-limit M check v Ts checks rules d), refl, merged-starts M check v Ts checks rules d)

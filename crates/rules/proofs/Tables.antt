@@ -58,40 +58,41 @@ row-by f = both-true (f .stamp) (both-true (f .counts) (both-true (f .held) (bot
 
 -- ---- a table
 
-pub record ByRule (M : Model) (T : Table) : Type 0 where
+-- all that a table by the rules keeps but for how many rows it may have
+pub record Regular (T : Table) : Type 0 where
   pub group : isGroup (T .n) ≡ true
   pub box : T .box < T .n
   pub view : isView (T .view) ≡ true
   pub promised : isView (T .promised) ≡ true
   pub mode : modeByRule (T .mode) (T .view) (T .promised) ≡ true
   pub start : T .start ≤ length (T .rows)
-  pub limit : length (T .rows) ≤ M .rowLimit
   pub rise : rising 0 (T .rows) ≡ true
   pub rows : every rowByRule (T .rows) ≡ true
 
-pub table-facts : (M : Model) (T : Table) → tableByRule M T ≡ true → ByRule M T
+pub table-facts : (M : Model) (T : Table) → tableByRule M T ≡ true → Regular T × (length (T .rows) ≤ M .rowLimit)
 unfolding tableByRule headerByRule
 table-facts M T h =
     let head = both-left _ _ h in
     let tail = both-right _ _ h in
     let names = both-left _ _ head in
     let views = both-left _ _ (both-right _ _ head) in
-    let rest = both-right _ _ (both-right _ _ head) in
-    record {
-      group = both-left _ _ names;
-      box = ltb-true _ _ (both-right _ _ names);
-      view = both-left _ _ views;
-      promised = both-right _ _ views;
-      mode = both-left _ _ rest;
-      start = leb-true _ _ (both-right _ _ rest);
-      limit = leb-true _ _ (both-left _ _ tail);
-      rise = both-left _ _ (both-right _ _ tail);
-      rows = both-right _ _ (both-right _ _ tail);
-    }
+    let rest = both-right _ _ (both-right _ _ head) in (
+      record {
+        group = both-left _ _ names;
+        box = ltb-true _ _ (both-right _ _ names);
+        view = both-left _ _ views;
+        promised = both-right _ _ views;
+        mode = both-left _ _ rest;
+        start = leb-true _ _ (both-right _ _ rest);
+        rise = both-left _ _ (both-right _ _ tail);
+        rows = both-right _ _ (both-right _ _ tail);
+      },
+      leb-true _ _ (both-left _ _ tail),
+    )
 
-pub table-by : {M : Model} {T : Table} → ByRule M T → tableByRule M T ≡ true
+pub table-by : (M : Model) {T : Table} → Regular T → length (T .rows) ≤ M .rowLimit → tableByRule M T ≡ true
 unfolding tableByRule headerByRule
-table-by {M} {T} f =
+table-by M {T} f limit =
     both-true
     (both-true (both-true (f .group) (lt-ltb _ _ (f .box))) (both-true (both-true (f .view) (f .promised)) (both-true (f .mode) (le-leb _ _ (f .start)))))
-    (both-true (le-leb _ _ (f .limit)) (both-true (f .rise) (f .rows)))
+    (both-true (le-leb _ _ limit) (both-true (f .rise) (f .rows)))
