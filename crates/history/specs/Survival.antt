@@ -1,4 +1,5 @@
 -- Demand 3: a group of boxes over time, the premises on what coordinators send, and what survives. All of it is said over the answer, the merge and the count of `rules`.
+-- To believe `survival` (proofs/Survival) is to believe this file, from top to bottom, and what it takes from `rules`.
 use mathlib.Core.Path.{_≡_}
 use mathlib.Core.Bool.{true, false, cond}
 use mathlib.Core.Logic.{_⊎_}
@@ -58,7 +59,7 @@ unfoldable pub boxesBelow : ℕ → List ℕ
 boxesBelow zero = []
 boxesBelow (suc n) = boxesBelow n ++ (n ∷ [])
 
--- "from fresh": each box has its fresh table, and nothing was sent
+-- the fresh start: each box has its fresh table, and nothing was sent
 unfoldable pub freshGroup : ℕ → Group
 freshGroup n = record { n = n; table = freshTable n; had = map (freshTable n) (boxesBelow n); sent = []; answers = []; declared = []; merged = [] }
 
@@ -105,6 +106,7 @@ declaring G d = record { n = G .n; table = G .table; had = G .had; sent = G .sen
 abbrev pub merging : Group → Merged → Group
 merging G m = record { n = G .n; table = G .table; had = G .had; sent = G .sent; answers = G .answers; declared = G .declared; merged = G .merged ++ (m ∷ []) }
 
+-- for boxes of any row limit, by any rule of room, with any check for message 1; the merge has the rules' own
 module _ (M : Model) (room : Room) (proposals : Check) where
   -- a box of the group answers by the rules; there is no other box
   abbrev pub arriving : Group → Option Sent → Group
@@ -116,7 +118,7 @@ module _ (M : Model) (room : Room) (proposals : Check) where
   mergingAs G v none = G
   mergingAs G v (some T) = merging G (record { view = v; table = T; sentByThen = G .sent })
 
-  -- whatever happens, and whether or not it keeps a rule
+  -- whatever happens, whether or not it keeps a rule
   abbrev pub step : Group → Event → Group
   step G (sends b m) = sending G (record { box = b; message = m })
   step G (arrives k) = arriving G (at (G .sent) k)
@@ -152,9 +154,13 @@ module _ (G : Group) where
   abbrev pub Gave : ℕ → Message → Reply → Type 0
   Gave b m p = (record { box = b; message = m; reply = p } ∈ G .answers) × (p .number ≡ 0)
 
+  -- this many different boxes
+  abbrev pub DifferentBoxes : ℕ → (ℕ → Type 0) → Type 0
+  DifferentBoxes k P = (bs : List ℕ) × (twice (λ b. b) bs ≡ false) × (k ≤ length bs) × ((b : ℕ) → b ∈ bs → P b)
+
   -- "f+1 different boxes"
   abbrev pub QuorumOf : (ℕ → Type 0) → Type 0
-  QuorumOf P = (bs : List ℕ) × (twice (λ b. b) bs ≡ false) × (quorum (fOf (G .n)) ≤ length bs) × ((b : ℕ) → b ∈ bs → P b)
+  QuorumOf P = DifferentBoxes (quorum (fOf (G .n))) P
 
   -- what the count is told of box b is a reply of view v that b has given for the prepare of stamp s, by its prepare byte and retry stamp
   pub record Replied (s v : ℕ) (h : Heard) : Type 0 where
@@ -178,44 +184,45 @@ module _ (G : Group) where
   abbrev pub Accepted : ℕ → ℕ → Verdict → ℕ → Type 0
   Accepted s v o b = (x : Body) × (p : Reply) × Gave b (proposeOutcome s o x) p × (p .view ≡ v)
 
-  -- ---- the premises
+  -- ---- the seven rules, each over all that was sent, answered and declared before
 
-  -- "(1) one stamp, one body"
+  -- rule 1: "one stamp, one body"
   abbrev pub OneBody : ℕ → Body → Type 0
   OneBody s x = (m : Message) (y : Body) → WasSent m → Carries s y m → y ≡ x
 
-  -- "(2) .. one result per stamp and view, sent or declared"
+  -- rule 2: "one coordinator per stamp, and one result per stamp and view, sent or declared". One coordinator: whatever is asked here of a stamp is asked of all that was sent and heard for it
   abbrev pub OneResult : ℕ → ℕ → Result → Type 0
   OneResult s v r = ((q : Result) → WasSent (finalisePrepare s v q) → q ≡ r) × ((q : Result) → WasDeclared s v q → q ≡ r)
 
-  -- "(3) message 2 is sent only on a fast or slow answer from replies of that view, with that answer's result"
+  -- rule 3: "message 2 is sent only on a fast or slow answer from replies of that view, with that answer's result"
   abbrev pub OnAnAnswer : ℕ → ℕ → Result → Type 0
   OnAnAnswer s v r = (hs : List Heard) × Replies s v hs × ((counted (G .n) hs ≡ fast r) ⊎ (counted (G .n) hs ≡ slow r))
 
-  -- "(4) a result is declared final only on the fast count, or on confirmations (number 0) of message 2 by f+1 different boxes, in one view"
+  -- rule 4: "a result is declared final only on the fast count, or on confirmations (number 0) of message 2 by f+1 different boxes, in one view"
   abbrev pub OnFastOrConfirmed : ℕ → ℕ → Result → Type 0
   OnFastOrConfirmed s v r = ((hs : List Heard) × Replies s v hs × (counted (G .n) hs ≡ fast r)) ⊎ QuorumOf (Confirmed s v r)
 
-  -- "(5) commit only after OK was declared final, and proposed only to a box that has already given an answer numbered 0 in the view of that declaration or a later one; never both outcomes"
+  -- rule 5: "commit only after OK was declared final, and proposed only to a box that has already given an answer numbered 0 in the view of that declaration or a later one; never both outcomes"
   abbrev pub CommitAfterOK : ℕ → ℕ → Verdict → Type 0
   CommitAfterOK b s o = o ≡ commit → (u : ℕ) × WasDeclared s u OK × ((m : Message) × (p : Reply) × Gave b m p × (u ≤ p .view))
 
   abbrev pub NeverBoth : ℕ → Verdict → Type 0
   NeverBoth s o = (u : Verdict) (x : Body) → WasSent (proposeOutcome s u x) → u ≡ o
 
-  -- "(6) message 4 names a view in which f+1 different boxes have accepted message 3 (number 0) with that outcome"
+  -- rule 6: "message 4 names a view in which f+1 different boxes have accepted message 3 (number 0) with that outcome"
   abbrev pub OnAcceptances : ℕ → ℕ → Verdict → Type 0
   OnAcceptances s v o = QuorumOf (Accepted s v o)
 
-  -- "(7) after proposing an outcome, nothing more is finalised or declared for that stamp's prepare."
+  -- rule 7: "after proposing an outcome, nothing more is finalised or declared for that stamp's prepare."
   abbrev pub BeforeOutcome : ℕ → Type 0
   BeforeOutcome s = (o : Verdict) (x : Body) → WasSent (proposeOutcome s o x) → ⊥
 
-  -- one merged table is sent for a view
+  -- and one merged table is sent for a view: a merge of tables that boxes have had, and no other
   abbrev pub TheMerged : ℕ → Table → Type 0
   TheMerged v I = ((m : Merged) × (m ∈ G .merged) × (m .view ≡ v) × (m .table ≡ I)) × ((J : Table) → WasSent (startView v J) → J ≡ I)
 
-  -- what each event is held to
+  -- ---- what each event is held to
+
   abbrev pub MaySend : ℕ → Message → Type 0
   MaySend b (proposePrepare s x) = OneBody s x
   MaySend b (finalisePrepare s v r) = OneResult s v r × OnAnAnswer s v r × BeforeOutcome s
@@ -240,13 +247,13 @@ module _ (M : Model) (room : Room) (proposals : Check) where
 -- ---- what survives
 
 pub record Survival (G : Group) : Type 0 where
-  -- "what was declared final .. stands in every later merge"
+  -- what was declared final stands in every merge for a later view, whichever came first
   pub declared : (m : Merged) (s u : ℕ) (r : Result) → m ∈ G .merged → WasDeclared G s u r → u < m .view → prepareOf (held (m .table .rows) s) ≡ final r
-  -- "what was .. accepted by f+1 boxes in one view, stands in every later merge"
+  -- what was accepted by f+1 boxes in one view stands in every merge for a later view
   pub accepted : (m : Merged) (s u : ℕ) (o : Verdict) → m ∈ G .merged → QuorumOf G (Accepted G s u o) → u < m .view → outcomeOf (held (m .table .rows) s) ≡ done o
-  -- "no merge holds what nobody sent": no transaction
+  -- no merge holds what nobody sent: no transaction
   pub rowsSent : (m : Merged) (r : Row) → m ∈ G .merged → r ∈ m .table .rows → (x : Sent) × (x ∈ m .sentByThen) × Carries (r .stamp) (r .body) (x .message)
   -- and no outcome
   pub outcomesSent : (m : Merged) (r : Row) (o : Verdict) → m ∈ G .merged → r ∈ m .table .rows → holdsVerdict o (r .outcome) ≡ true → (x : Sent) × (x ∈ m .sentByThen) × (x .message ≡ proposeOutcome (r .stamp) o (r .body))
-  -- "no two committed transactions clash": no write of the one, at its stamp t, lies between a version that the other read of that register and the other's stamp s
+  -- no two committed transactions clash ("In demand 3 a transaction is committed once its commit was proposed."): no write of the one, at its stamp t, lies between a version that the other read of that register and the other's stamp s
   pub noClash : (s t : ℕ) (x y : Body) → WasSent G (proposeOutcome s commit x) → WasSent G (proposeOutcome t commit y) → (read write : Access) → read ∈ x .reads → write ∈ y .writes → read .register ≡ write .register → read .number < t → t < s → ⊥
