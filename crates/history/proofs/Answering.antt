@@ -3,22 +3,22 @@ use mathlib.Core.Path.{_≡_, refl, sym, ap, ap₂, subst, _∙_}
 use mathlib.Core.Bool.{Bool, true, false, cond}
 use mathlib.Core.Logic.{_⊎_, inl, inr}
 use mathlib.Core.Option.{Option, none, some}
-use mathlib.Core.List.{List, [], _∷_, List·Memᴰ·head, List·Memᴰ·tail, List·Memᴰ·cases-cons}
-use Prim.Native.Nat.{ℕ, _+_, _≤_, _<_}
+use mathlib.Core.List.{List, List·Memᴰ·head}
+use Prim.Native.Nat.{ℕ}
 use native.Mathlib.Omega.{arith}
 use lib.Dec.{eqb}
 use Rattle.rules.specs.Tests.{isSome}
 use Rattle.rules.specs.Stamps.{Body}
-use Rattle.rules.specs.Tables.{Result, Result.OK, Result.ABORT, Result.ABSTAIN, Result.RETRY, Prepare, Prepare.noPrepare, Prepare.tentative, Prepare.final, Verdict, Verdict.commit, Outcome, Outcome.noOutcome, Outcome.noted, Outcome.done, prepareCode, prepareRetry, Row, Table}
-use Rattle.rules.specs.Messages.{Message, Message.proposePrepare, Message.finalisePrepare, Message.proposeOutcome, Message.finaliseOutcome, Message.changeView, Message.startView, Message.readRegister, held, prepareOf, outcomeOf, changed, added, withPrepare, withOutcome, withRows, resultFor, answered, notedAs, prepareProposed, prepareFinalised, outcomeProposed, outcomeFinalised, tableAfter}
+use Rattle.rules.specs.Tables.{Result, Result.OK, Result.ABORT, Result.ABSTAIN, Result.RETRY, Prepare, Prepare.noPrepare, Prepare.tentative, Prepare.final, Verdict, Outcome, Outcome.noOutcome, Outcome.noted, Outcome.done, prepareCode, prepareRetry, Row, Table}
+use Rattle.rules.specs.Messages.{Message, Message.proposePrepare, Message.finalisePrepare, Message.proposeOutcome, Message.finaliseOutcome, Message.changeView, Message.startView, Message.readRegister, held, prepareOf, outcomeOf, changed, added, withPrepare, withOutcome, withRows, resultFor, answered, notedAs, prepareProposed, prepareFinalised, outcomeProposed, outcomeFinalised}
 use Rattle.rules.specs.Circumstances.{isChanging}
-use Rattle.rules.specs.Answers.{Reply, replyFrom, stateByte, replyValue, answerNumber}
-use Rattle.rules.proofs.Logic.{impossible, cases, eqb-self}
+use Rattle.rules.specs.Answers.{Reply, replyFrom, stateByte, replyValue}
+use Rattle.rules.proofs.Logic.{eqb-self}
 use Rattle.rules.proofs.Lists.{_∈_}
 use Rattle.history.proofs.Cells.{Holds}
-use Rattle.history.proofs.Entries.{Cells, Fact, Fact.gaveResult, Fact.declaredFinal, Fact.proposed, Fact.finalised, Fact.bodySent, Said, Said.said, Entry, Act, Act.addRow, Act.fillRow, Act.makeFinal, Act.noteOutcome, Act.finishOutcome, Act.answerResult, Act.acceptOutcome, apply, Can, asPrepare, Proposed}
+use Rattle.history.proofs.Entries.{Fact.gaveResult, Fact.finalised, Fact.bodySent, Said, Said.said, Entry, Act, Act.addRow, Act.fillRow, Act.makeFinal, Act.noteOutcome, Act.finishOutcome, Act.answerResult, Act.acceptOutcome, apply, Can, asPrepare, Proposed}
 use Rattle.history.proofs.Acts.{State, Sound, Passed, acting, act-keeps}
-use Rattle.history.proofs.Taken.{RowHeld, HasVerdict, taken-1, taken-2, taken-3, taken-4}
+use Rattle.history.proofs.Taken.{RowHeld, HasVerdict}
 use Rattle.history.proofs.World.{World, setup, Looks, looks-changed, looks-added, looks-same, kept-value}
 use Rattle.history.proofs.Boxes.{Owned, owned-changed, owned-added, BoxIs, normal-promise, not-changing, Onward, onward-stay, onward-then, act-onward, acted, act-box, check-passed}
 

@@ -1,26 +1,26 @@
 -- A message arrives: the box's answer by the rules is followed by the abstract group, whether it is taken or refused.
-use mathlib.Core.Path.{_≡_, refl, sym, ap, subst, _∙_}
-use mathlib.Core.Bool.{Bool, true, false, cond}
+use mathlib.Core.Path.{_≡_, refl}
+use mathlib.Core.Bool.{true, false, cond}
 use mathlib.Core.Logic.{_⊎_, inl, inr}
 use mathlib.Core.Option.{Option, none, some}
 use mathlib.Core.List.{List, [], _∷_, List·Memᴰ·head, List·Memᴰ·tail}
-use Prim.Native.Nat.{ℕ, zero, suc, _≤_, _<_}
+use Prim.Native.Nat.{ℕ, zero, suc, _<_}
 use native.Mathlib.Omega.{arith}
 use lib.Dec.{eqb, ltb}
 use borrow.Author.Tests.{eqb-true, eqb-false, ltb-true}
 use Rattle.rules.specs.Tables.{Table}
 use Rattle.rules.specs.Messages.{Message, Message.proposePrepare, Message.finalisePrepare, Message.proposeOutcome, Message.finaliseOutcome, Message.changeView, Message.startView, Message.readRegister, tableAfter}
-use Rattle.rules.specs.Answers.{Answer, replyFrom, refusal, refused, taken, answerNumber, answer}
+use Rattle.rules.specs.Answers.{replyFrom, refusal, refused, taken, answerNumber, answer}
 use Rattle.rules.proofs.Logic.{none-some, cases}
 use Rattle.rules.proofs.Lists.{_∈_}
 use Rattle.history.specs.Survival.{Sent, Group, at, answering, arriving}
 use Rattle.history.proofs.Acts.{State, Sound}
 use Rattle.history.proofs.Taken.{taken-1, taken-2, taken-3, taken-4, taken-5, taken-6}
 use Rattle.history.proofs.World.{World, setup}
-use Rattle.history.proofs.Boxes.{BoxIs, onward-stay}
+use Rattle.history.proofs.Boxes.{onward-stay}
 use Rattle.history.proofs.Answering.{TakenAs, taken-prepare, taken-final, taken-outcome, taken-finish}
 use Rattle.history.proofs.Views.{start-facts, taken-change, taken-start}
-use Rattle.history.proofs.Follows.{Named, Backed, AnswerIs, Follows, answer-follows}
+use Rattle.history.proofs.Follows.{Named, Backed, Follows, answer-follows}
 
 -- what stands at a place of a list is in it
 pub at-in : {A : Type 0} (xs : List A) (i : ℕ) (x : A) → at xs i ≡ some x → x ∈ xs

@@ -1,16 +1,15 @@
 -- A view change that reaches f+1 boxes goes through, short of a full table: no merge is refused with 5 or 6.
-use mathlib.Core.Path.{_≡_, refl, sym, ap, subst, _∙_}
-use mathlib.Core.Bool.{Bool, true, false, not}
+use mathlib.Core.Path.{_≡_, refl, sym, ap, _∙_}
+use mathlib.Core.Bool.{true, false, not}
 use mathlib.Core.Logic.{_⊎_, inl, inr}
-use mathlib.Core.Option.{some}
-use mathlib.Core.List.{List, [], _∷_}
+use mathlib.Core.List.{List, []}
 use Prim.Native.Nat.{ℕ}
 use lib.Dec.{eqb, ltb}
 use lib.ListN.{length}
-use Rattle.rules.specs.Tests.{both, either, any, somePair, allOf, greatest}
+use Rattle.rules.specs.Tests.{both, either, allOf, greatest}
 use Rattle.rules.specs.Groups.{isGroup}
 use Rattle.rules.specs.Stamps.{sameBody}
-use Rattle.rules.specs.Tables.{Result, sameResult, Prepare, Prepare.noPrepare, Prepare.tentative, Prepare.final, Verdict, Outcome, Outcome.noOutcome, Outcome.noted, Outcome.done, verdictCode, Row, Table, Model}
+use Rattle.rules.specs.Tables.{sameResult, Prepare, Prepare.noPrepare, Prepare.tentative, Prepare.final, Verdict, Outcome, Outcome.noOutcome, Outcome.noted, Outcome.done, verdictCode, Row, Table, Model}
 use Rattle.rules.specs.Numbers.{applies, first, number}
 use Rattle.rules.specs.Messages.{held, prepareOf, outcomeOf}
 use Rattle.rules.specs.Circumstances.{Room}
@@ -32,7 +31,7 @@ use Rattle.history.proofs.World.{World, setup, cellsIn}
 use Rattle.history.proofs.Gathered.{HadIs, handed-over}
 use Rattle.history.proofs.Follows.{Follows}
 use Rattle.history.proofs.Arrivals.{at-in}
-use Rattle.history.proofs.Regular.{AllRegular, fresh-regular, all-regular}
+use Rattle.history.proofs.Regular.{fresh-regular, all-regular}
 use Rattle.history.proofs.Survival.{worldOf, followed, fromFresh}
 
 module _ (W : World) (G : Group) (s : State) (k : Sound (setup W) s) (F : Follows W G s) (v : ℕ) (Ts : List Table) (had : (T : Table) → T ∈ Ts → T ∈ G .had) (right : areWrong v Ts ≡ false) where

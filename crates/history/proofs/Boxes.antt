@@ -1,28 +1,25 @@
 -- A box of the history beside its entries in the abstract group, and one act of the abstract group seen at the box.
 use mathlib.Core.Path.{_≡_, refl, sym, ap, ap₂, subst, _∙_}
-use mathlib.Core.Bool.{Bool, true, false, cond}
+use mathlib.Core.Bool.{true, false}
 use mathlib.Core.Logic.{_⊎_, inl, inr}
 use mathlib.Core.Option.{Option, none, some}
-use mathlib.Core.List.{List, [], _∷_, List·Memᴰ·head, List·Memᴰ·tail}
-use Prim.Native.Nat.{ℕ, _+_, _≤_, _<_}
+use mathlib.Core.List.{List, List·Memᴰ·tail}
+use Prim.Native.Nat.{ℕ, _≤_, _<_}
 use native.Mathlib.Omega.{arith}
 use lib.Dec.{eqb, ltb}
 use borrow.Author.Tests.{eqb-true, eq-eqb}
 use Rattle.rules.specs.Tests.{both}
-use Rattle.rules.specs.Stamps.{Body}
-use Rattle.rules.specs.Tables.{Result, Result.OK, Prepare, Prepare.noPrepare, Prepare.tentative, Prepare.final, Verdict, Outcome, prepareCode, prepareRetry, Row, Table, normalMode, changingMode, modeByRule}
-use Rattle.rules.specs.Messages.{Message, Message.proposePrepare, Message.finalisePrepare, Message.proposeOutcome, Message.finaliseOutcome, Message.changeView, Message.startView, Message.readRegister, held, prepareOf, outcomeOf, changed, added, withRows}
+use Rattle.rules.specs.Tables.{Result.OK, Verdict, Row, Table, normalMode, changingMode, modeByRule}
+use Rattle.rules.specs.Messages.{held, prepareOf, outcomeOf, changed, added, withRows}
 use Rattle.rules.specs.Circumstances.{isChanging}
-use Rattle.rules.specs.Answers.{Reply, replyFrom}
-use Rattle.rules.specs.Check.{accepted, clash}
+use Rattle.rules.specs.Check.{clash}
 use Rattle.rules.proofs.Logic.{impossible, cases, both-left, both-right, either-cases, same?, eqb-self}
 use Rattle.rules.proofs.Lists.{_∈_}
 use Rattle.rules.proofs.Rows.{held-from, changed-from, added-from}
 use Rattle.history.proofs.Cells.{isAccepted, accepted-is}
-use Rattle.history.proofs.Entries.{Cells, Fact, Fact.gaveResult, Fact.declaredFinal, Fact.proposed, Fact.finalised, Fact.promised, Fact.bodySent, Fact.started, Said, Said.said, Entry, Act, Act.addRow, Act.fillRow, Act.makeFinal, Act.noteOutcome, Act.finishOutcome, Act.answerResult, Act.acceptOutcome, apply, Can, asPrepare}
-use Rattle.history.proofs.Invariant.{Setup}
+use Rattle.history.proofs.Entries.{Fact, Fact.gaveResult, Fact.declaredFinal, Fact.proposed, Fact.finalised, Fact.promised, Fact.bodySent, Fact.started, Said, Entry, Act, Act.addRow, Act.fillRow, Act.makeFinal, Act.noteOutcome, Act.finishOutcome, Act.answerResult, Act.acceptOutcome, apply}
 use Rattle.history.proofs.Growth.{Place, place}
-use Rattle.history.proofs.Acts.{State, Sound, Passed, acting, act-keeps}
+use Rattle.history.proofs.Acts.{State, Passed, acting}
 use Rattle.history.proofs.World.{World, setup, cellsIn, Looks}
 
 -- ---- rows whose bodies are those of their stamps, and were sent

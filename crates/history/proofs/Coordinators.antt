@@ -2,24 +2,24 @@
 use mathlib.Core.Path.{_≡_, refl, sym, ap, subst, _∙_}
 use mathlib.Core.Bool.{Bool, true, false, cond}
 use mathlib.Core.Logic.{_⊎_, inl, inr}
-use mathlib.Core.List.{List, [], _∷_, _++_, List·Memᴰ·head, List·Memᴰ·tail, List·Memᴰ·cases-cons, Memᴰ·append-right}
-use Prim.Native.Nat.{ℕ, _+_, _≤_, _<_}
+use mathlib.Core.List.{List, _∷_, List·Memᴰ·head, List·Memᴰ·tail, List·Memᴰ·cases-cons, Memᴰ·append-right}
+use Prim.Native.Nat.{ℕ, _≤_, _<_}
 use native.Mathlib.Omega.{arith}
 use lib.ListN.{length}
-use Rattle.rules.specs.Tests.{count, twice}
+use Rattle.rules.specs.Tests.{twice}
 use Rattle.rules.specs.Groups.{fOf, quorum, fastCount}
 use Rattle.rules.specs.Stamps.{Body}
 use Rattle.rules.specs.Tables.{Result, Result.OK, Prepare, Verdict, Verdict.commit, prepareCode, prepareRetry, sameResult, Table}
 use Rattle.rules.specs.Messages.{Message, Message.proposePrepare, Message.finalisePrepare, Message.proposeOutcome, Message.finaliseOutcome, Message.changeView, Message.startView, Message.readRegister}
 use Rattle.rules.specs.Answers.{Reply}
-use Rattle.rules.specs.Count.{Heard, Counted.fast, Counted.slow, badReplies, counted, agreeing}
+use Rattle.rules.specs.Count.{Heard, badReplies, agreeing}
 use Rattle.rules.proofs.Lists.{_∈_}
 use Rattle.rules.proofs.Same.{same-result}
 use Rattle.rules.proofs.Votes.{count-all}
 use Rattle.rules.proofs.Count.{good-replies, fast-behind, ok-behind}
-use Rattle.history.specs.Survival.{Sent, Answered, Declared, Merged, Group, sending, declaring, WasSent, WasDeclared, Gave, QuorumOf, AsksPrepare, prepareHeard, Replied, Replies, Confirmed, Accepted, OneResult, OnAnAnswer, OnFastOrConfirmed, CommitAfterOK, NeverBoth, OnAcceptances, BeforeOutcome, TheMerged, MaySend}
+use Rattle.history.specs.Survival.{Sent, Declared, Group, sending, declaring, WasSent, WasDeclared, Gave, QuorumOf, AsksPrepare, prepareHeard, Replied, Replies, Confirmed, Accepted, OneResult, OnAnAnswer, OnFastOrConfirmed, CommitAfterOK, NeverBoth, BeforeOutcome, MaySend}
 use Rattle.history.proofs.Below.{AtLeast, list-at-least}
-use Rattle.history.proofs.Entries.{Fact, Fact.gaveResult, Fact.declaredFinal, Fact.proposed, Fact.finalised, Fact.bodySent, Said, Said.said, asPrepare}
+use Rattle.history.proofs.Entries.{Fact, Fact.gaveResult, Fact.declaredFinal, Fact.proposed, Fact.finalised, Fact.bodySent, Said.said, asPrepare}
 use Rattle.history.proofs.Invariant.{Crowds, Quorum}
 use Rattle.history.proofs.Acts.{State, Sound}
 use Rattle.history.proofs.Steps.{May, CountedOK, withFact, send-keeps, body-keeps, propose-keeps, finish-keeps, declare-keeps}

@@ -1,14 +1,13 @@
 -- A group of the history beside a state of the abstract group: what was sent, answered, declared and merged stands behind the facts, and the facts behind it.
-use mathlib.Core.Path.{_≡_, refl, sym, ap, subst, _∙_}
-use mathlib.Core.Bool.{true, false, cond}
+use mathlib.Core.Path.{_≡_, sym, ap, _∙_}
+use mathlib.Core.Bool.{true, false}
 use mathlib.Core.Logic.{_⊎_, inl, inr}
-use mathlib.Core.List.{List, [], _∷_, _++_, List·Memᴰ·head, List·Memᴰ·tail, List·Memᴰ·append-cases, List·Memᴰ·eq-of-singleton, Memᴰ·append-left}
+use mathlib.Core.List.{List, [], _∷_, _++_, List·Memᴰ·append-cases, List·Memᴰ·eq-of-singleton, Memᴰ·append-left}
 use Prim.Native.Nat.{ℕ, _+_, _≤_, _<_}
 use native.Mathlib.Omega.{arith}
 use lib.Dec.{eqb}
 use Rattle.rules.specs.Tests.{every}
-use Rattle.rules.specs.Stamps.{Body}
-use Rattle.rules.specs.Tables.{Result, Result.OK, Verdict, Verdict.commit, Row, Table, changingMode}
+use Rattle.rules.specs.Tables.{Result.OK, Verdict, Verdict.commit, Row, Table}
 use Rattle.rules.specs.Messages.{Message, Message.proposePrepare, Message.finalisePrepare, Message.proposeOutcome, Message.finaliseOutcome, Message.changeView, Message.startView, Message.readRegister}
 use Rattle.rules.specs.Circumstances.{settled}
 use Rattle.rules.specs.Answers.{Reply, Answer}
@@ -17,7 +16,7 @@ use Rattle.rules.proofs.Logic.{same?, eqb-self}
 use Rattle.rules.proofs.Lists.{_∈_}
 use Rattle.history.specs.Survival.{Sent, Answered, Declared, Merged, Group, put, sending, answering, declaring, merging, Carries, WasSent, WasDeclared}
 use Rattle.history.proofs.Entries.{Fact, Fact.gaveResult, Fact.declaredFinal, Fact.proposed, Fact.finalised, Fact.promised, Fact.bodySent, Fact.started, Said, Entry}
-use Rattle.history.proofs.Invariant.{Setup, Began}
+use Rattle.history.proofs.Invariant.{Began}
 use Rattle.history.proofs.Acts.{State, Sound}
 use Rattle.history.proofs.Facts.{began-wider}
 use Rattle.history.proofs.World.{World, setup, cellsIn}

@@ -25,7 +25,6 @@ use Rattle.history.proofs.Invariant.{acceptedCell, NoFinalAt, AgreedAt,
 use Rattle.history.proofs.Fair.{NoFinal, Agreed, Fixed, ClashesWith, Fair}
 use Rattle.history.proofs.OneStamp.{is-tentative}
 use Rattle.history.proofs.World.{World, setup, cellsIn}
-use Rattle.history.proofs.Boxes.{Owned}
 
 -- ---- elements with different numbers
 

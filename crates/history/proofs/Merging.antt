@@ -1,19 +1,19 @@
 -- A merge of tables that boxes have had is followed by the abstract group, if it is fair; the merge of the rules is.
-use mathlib.Core.Path.{_≡_, refl, sym, ap, subst, _∙_}
+use mathlib.Core.Path.{_≡_, refl, sym, ap, subst}
 use mathlib.Core.Bool.{true, false}
 use mathlib.Core.Option.{Option, none, some}
-use mathlib.Core.List.{List, []}
+use mathlib.Core.List.{List}
 use Prim.Native.Nat.{ℕ}
 use Rattle.rules.specs.Tests.{allOf}
 use Rattle.rules.specs.Groups.{fOf, agreementCount}
 use Rattle.rules.specs.Stamps.{Body}
-use Rattle.rules.specs.Tables.{Verdict, Outcome.done, Row, Table}
-use Rattle.rules.specs.Messages.{Message, Message.proposeOutcome, held, outcomeOf}
+use Rattle.rules.specs.Tables.{Verdict, Row, Table}
+use Rattle.rules.specs.Messages.{Message.proposeOutcome, held, outcomeOf}
 use Rattle.rules.specs.Check.{check}
 use Rattle.rules.specs.Merge.{holdsVerdict, used, groupOf, areWrong, merge}
 use Rattle.rules.proofs.Lists.{_∈_, all-from}
 use Rattle.rules.proofs.Used.{merge-is, merge-right}
-use Rattle.history.specs.Survival.{Sent, Merged, Group, at, merging, mergingAs, Carries}
+use Rattle.history.specs.Survival.{Sent, Group, at, merging, mergingAs, Carries}
 use Rattle.history.proofs.Entries.{Fact.proposed, Fact.bodySent}
 use Rattle.history.proofs.Acts.{State, Sound}
 use Rattle.history.proofs.Kept.{any-merge}
@@ -23,7 +23,7 @@ use Rattle.history.proofs.World.{World, setup, cellsIn}
 use Rattle.history.proofs.Boxes.{Owned}
 use Rattle.history.proofs.Gathered.{HadIs, merge-began, merge-owned}
 use Rattle.history.proofs.Invariant.{Began}
-use Rattle.history.proofs.Follows.{MergedIs, Follows, known-merged}
+use Rattle.history.proofs.Follows.{Follows, known-merged}
 use Rattle.history.proofs.Arrivals.{at-in, Followed}
 
 module _ (W : World) (G : Group) (s : State) (k : Sound (setup W) s) (F : Follows W G s) where

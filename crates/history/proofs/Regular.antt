@@ -1,20 +1,20 @@
 -- Every table of a lawful history is by the rules, but for how many rows it has, and every start-view message that is sent is a good one.
 use mathlib.Core.Path.{_≡_, refl, sym, ap, subst, _∙_}
-use mathlib.Core.Bool.{Bool, true, false, cond}
+use mathlib.Core.Bool.{true, false}
 use mathlib.Core.Logic.{_⊎_, inl, inr}
 use mathlib.Core.Option.{Option, none, some}
 use mathlib.Core.List.{List, [], _∷_, List·Memᴰ·not-nil, Memᴰ·of-map}
 use Prim.Native.Nat.{ℕ, _<_}
 use lib.Dec.{eqb, ltb}
-use borrow.Author.Tests.{eqb-true, lt-ltb, ltb-true}
-use Rattle.rules.specs.Tests.{both, allOf}
+use borrow.Author.Tests.{lt-ltb, ltb-true}
+use Rattle.rules.specs.Tests.{allOf}
 use Rattle.rules.specs.Groups.{isGroup}
-use Rattle.rules.specs.Tables.{Table, Model, isView, tableByRule, freshTable}
+use Rattle.rules.specs.Tables.{Table, Model, freshTable}
 use Rattle.rules.specs.Messages.{Message, Message.startView, Check}
-use Rattle.rules.specs.Circumstances.{Room, badGroup, startsView, messageByRule}
+use Rattle.rules.specs.Circumstances.{Room, badGroup, messageByRule}
 use Rattle.rules.specs.Answers.{answer}
 use Rattle.rules.specs.Check.{check}
-use Rattle.rules.specs.Merge.{groupOf, merge}
+use Rattle.rules.specs.Merge.{merge}
 use Rattle.rules.proofs.Logic.{cases, both-true, not-false-of, same?, eqb-self}
 use Rattle.rules.proofs.Lists.{_∈_, all-from}
 use Rattle.rules.proofs.Check.{CheckByRule, check-by-rule}
@@ -22,7 +22,7 @@ use Rattle.rules.proofs.Tables.{Regular, table-facts}
 use Rattle.rules.proofs.Answers.{fresh-by-rule, answer-kept}
 use Rattle.rules.proofs.Used.{merge-is, first-table}
 use Rattle.rules.proofs.Merge.{merge-by-rule}
-use Rattle.history.specs.Survival.{Sent, Merged, Group, boxesBelow, freshGroup, Event, Event.sends, Event.arrives, Event.declares, Event.merges, at, put, sending, answering, merging, arriving, mergingAs, step, after, WasSent, TheMerged, MaySend, May, Lawful}
+use Rattle.history.specs.Survival.{Sent, Merged, Group, boxesBelow, freshGroup, Event, Event.sends, Event.arrives, Event.declares, Event.merges, at, put, sending, answering, arriving, mergingAs, step, after, WasSent, TheMerged, MaySend, May, Lawful}
 use Rattle.history.proofs.Follows.{last-or, and-last}
 use Rattle.history.proofs.Arrivals.{at-in}
 use Rattle.history.proofs.Following.{below-from}

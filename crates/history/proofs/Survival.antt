@@ -1,36 +1,25 @@
 -- Demand 3: every lawful history is followed by the abstract group, so what is kept there survives here.
-use mathlib.Core.Path.{_≡_, refl, sym, ap, subst, _∙_}
-use mathlib.Core.Bool.{Bool, true, false, cond}
-use mathlib.Core.Logic.{_⊎_, inl, inr}
-use mathlib.Core.Option.{Option, none, some}
-use mathlib.Core.List.{List, [], _∷_, _++_, map, List·Memᴰ·head, List·Memᴰ·not-nil, Memᴰ·append-left, Memᴰ·append-right, Memᴰ·of-map, List·Memᴰ·append-cases, List·Memᴰ·eq-of-singleton}
-use Prim.Native.Nat.{ℕ, zero, suc, _+_, _<_}
-use native.Mathlib.Omega.{arith}
-use lib.Dec.{eqb, ltb}
-use borrow.Author.Tests.{eqb-true, eq-eqb, ne-eqb}
-use Rattle.rules.specs.Tests.{both, either, every, firstOf, provided, allOf}
+use mathlib.Core.Path.{_≡_, refl}
+use mathlib.Core.Bool.{true}
+use mathlib.Core.List.{List}
+use Prim.Native.Nat.{ℕ, _<_}
+use borrow.Author.Tests.{eq-eqb}
 use Rattle.rules.specs.Groups.{isGroup}
 use Rattle.rules.specs.Stamps.{Access, Body}
-use Rattle.rules.specs.Tables.{Result, Verdict, Verdict.commit, Row, Table, Model, changingMode, modeByRule, freshTable}
-use Rattle.rules.specs.Messages.{Message, Message.proposePrepare, Message.finalisePrepare, Message.proposeOutcome, Message.finaliseOutcome, Message.changeView, Message.startView, Message.readRegister, Check, held, prepareOf, outcomeOf}
-use Rattle.rules.specs.Circumstances.{Room, settled}
-use Rattle.rules.specs.Answers.{answer}
+use Rattle.rules.specs.Tables.{Verdict.commit, Model}
+use Rattle.rules.specs.Messages.{Message, Message.proposePrepare, Message.finalisePrepare, Message.proposeOutcome, Message.finaliseOutcome, Message.changeView, Message.startView, Message.readRegister, Check}
+use Rattle.rules.specs.Circumstances.{Room}
 use Rattle.rules.specs.Check.{check, clash}
-use Rattle.rules.specs.Merge.{noBody, merge}
-use Rattle.rules.proofs.Logic.{none-some, cases, both-left, both-right, both-true, either-first, eqb-self}
-use Rattle.rules.proofs.Lists.{_∈_, first-is, provided-some}
+use Rattle.rules.proofs.Logic.{either-first, eqb-self}
+use Rattle.rules.proofs.Lists.{_∈_}
 use Rattle.rules.proofs.Check.{overwrites-if, check-clear}
-use Rattle.history.specs.Survival.{Sent, Answered, Declared, Merged, Group, boxesBelow, freshGroup, Event, Event.sends, Event.arrives, Event.declares, Event.merges, at, sending, answering, arriving, mergingAs, step, after, WasSent, WasDeclared, Carries, OneBody, TheMerged, MaySend, May, Lawful, Survival}
-use Rattle.history.proofs.Entries.{Fact.proposed}
+use Rattle.history.specs.Survival.{Sent, Merged, Group, freshGroup, Event, after, WasSent, Lawful, Survival}
 use Rattle.history.proofs.Acts.{State, Sound}
 use Rattle.history.proofs.Kept.{KeptIn, any-merge, committed-apart}
-use Rattle.history.proofs.Steps.{freshState, fresh-sound}
 use Rattle.history.proofs.World.{Clear, World, setup, cellsIn}
-use Rattle.history.proofs.Boxes.{BoxIs}
-use Rattle.history.proofs.Gathered.{HadIs}
-use Rattle.history.proofs.Follows.{Named, MergedIs, Follows, last-or}
-use Rattle.history.proofs.Arrivals.{Followed, arrival-followed}
-use Rattle.history.proofs.Coordinators.{declare-followed, send-followed, accepted-crowd}
+use Rattle.history.proofs.Follows.{Named, Follows}
+use Rattle.history.proofs.Arrivals.{Followed}
+use Rattle.history.proofs.Coordinators.{accepted-crowd}
 use Rattle.history.proofs.Following.{fresh-followed, history-followed}
 use Rattle.history.proofs.Names.{carriedBody, bodyNamed, rowsNamed, OneEach, one-each, none-sent, named-shut, named-empty, body-named, rows-named}
 

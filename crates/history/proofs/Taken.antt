@@ -1,16 +1,15 @@
 -- What a message that was taken says of the table that took it, message by message.
 use mathlib.Core.Path.{_≡_, refl, sym, ap, _∙_}
-use mathlib.Core.Bool.{Bool, true, false, not}
+use mathlib.Core.Bool.{true, false, not}
 use mathlib.Core.Logic.{_⊎_, inl, inr}
 use mathlib.Core.Option.{Option, none, some}
-use Prim.Native.Nat.{ℕ, _+_, _≤_, _<_}
-use native.Mathlib.Omega.{arith}
+use Prim.Native.Nat.{ℕ, _≤_, _<_}
 use lib.Dec.{eqb, leb, ltb}
 use borrow.Author.Tests.{eqb-true, ltb-false, leb-false, not-false}
-use Rattle.rules.specs.Tests.{both, either}
+use Rattle.rules.specs.Tests.{either}
 use Rattle.rules.specs.Stamps.{Body}
-use Rattle.rules.specs.Tables.{Result, Prepare, Prepare.noPrepare, Prepare.tentative, Prepare.final, Verdict, Outcome, Outcome.noOutcome, Outcome.noted, Outcome.done, prepareCode, outcomeCode, verdictCode, sameResult, Row, Table, Model, tableByRule}
-use Rattle.rules.specs.Numbers.{Number, Number.changing, Number.contradiction, Number.unknown, Number.otherView, Number.oldView}
+use Rattle.rules.specs.Tables.{Result, Prepare, Prepare.noPrepare, Prepare.tentative, Prepare.final, Verdict, Outcome, Outcome.noOutcome, Outcome.noted, Outcome.done, prepareCode, outcomeCode, Row, Table, Model, tableByRule}
+use Rattle.rules.specs.Numbers.{Number.changing, Number.contradiction, Number.unknown, Number.otherView, Number.oldView}
 use Rattle.rules.specs.Messages.{Message, Message.proposePrepare, Message.finalisePrepare, Message.proposeOutcome, Message.finaliseOutcome, Message.changeView, Message.startView, held, prepareOf, outcomeOf}
 use Rattle.rules.specs.Circumstances.{Room, startsView, messageByRule, isChanging, unequalFinal, oppositeOutcome, heldUnequalFinal, heldOppositeOutcome, prepareNotHeld, outcomeNotHeld, forOtherView, changesToOldView, startsOldView, furtherCircumstances, circumstances}
 use Rattle.rules.specs.Answers.{answerNumber}

@@ -1,18 +1,18 @@
 -- Messages 5 and 6 as steps of the abstract group: a box promises a view, and it takes the table that a view began with.
 use mathlib.Core.Path.{_≡_, refl, sym, ap, subst, _∙_}
-use mathlib.Core.Bool.{true, false, cond}
+use mathlib.Core.Bool.{true, false}
 use mathlib.Core.Logic.{_⊎_, inl, inr}
-use mathlib.Core.List.{List, [], _∷_, List·Memᴰ·head, List·Memᴰ·tail, List·Memᴰ·cases-cons}
-use Prim.Native.Nat.{ℕ, _+_, _≤_, _<_}
+use mathlib.Core.List.{List, _∷_, List·Memᴰ·head, List·Memᴰ·tail, List·Memᴰ·cases-cons}
+use Prim.Native.Nat.{ℕ, _≤_, _<_}
 use native.Mathlib.Omega.{arith}
-use lib.Dec.{eqb, ltb}
+use lib.Dec.{eqb}
 use lib.ListN.{length}
 use borrow.Author.Tests.{eqb-true, lt-ltb}
-use Rattle.rules.specs.Tests.{both, either, every}
+use Rattle.rules.specs.Tests.{every}
 use Rattle.rules.specs.Tables.{Row, Table, changingMode, normalMode, modeByRule, tableByRule}
 use Rattle.rules.specs.Messages.{Message.changeView, Message.startView, held, prepareOf, outcomeOf, promising, keepingBox}
 use Rattle.rules.specs.Circumstances.{settled, startsView, isChanging}
-use Rattle.rules.proofs.Logic.{both-left, both-right, both-true, either-second, same?, eqb-self}
+use Rattle.rules.proofs.Logic.{both-left, both-right, both-true, either-second}
 use Rattle.rules.proofs.Lists.{_∈_}
 use Rattle.rules.proofs.Tables.{table-facts}
 use Rattle.history.proofs.Entries.{Cells, Fact, Fact.promised, Fact.started}
@@ -21,7 +21,7 @@ use Rattle.history.proofs.Acts.{State, Sound}
 use Rattle.history.proofs.Steps.{setAt-here, setAt-off, setAt-at, cellsOf, withFact, start-keeps, promise-keeps, adopt-keeps}
 use Rattle.history.proofs.Steps as Steps
 use Rattle.history.proofs.World.{World, setup, cellsIn}
-use Rattle.history.proofs.Boxes.{Owned, owned-wider, BoxIs, normal-promise, Onward, OfBoxes}
+use Rattle.history.proofs.Boxes.{Owned, owned-wider, BoxIs, normal-promise, OfBoxes}
 use Rattle.history.proofs.Answering.{TakenAs}
 
 -- one more fact that is no coordinator's

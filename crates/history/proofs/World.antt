@@ -3,23 +3,23 @@ use mathlib.Core.Path.{_≡_, refl, sym, ap, _∙_}
 use mathlib.Core.Bool.{Bool, true, false, cond}
 use mathlib.Core.Logic.{_⊎_, inl, inr}
 use mathlib.Core.Option.{Option, none, some}
-use mathlib.Core.List.{List, [], _∷_}
-use Prim.Native.Nat.{ℕ, _+_, _≤_, _<_}
+use mathlib.Core.List.{List, []}
+use Prim.Native.Nat.{ℕ}
 use native.Mathlib.Omega.{arith}
 use lib.Dec.{eqb, leb}
-use Rattle.rules.specs.Tests.{both, either, every, firstOf}
+use Rattle.rules.specs.Tests.{either, every, firstOf}
 use Rattle.rules.specs.Groups.{isGroup, fOf}
 use Rattle.rules.specs.Stamps.{Body}
-use Rattle.rules.specs.Tables.{Result, Result.OK, Result.ABORT, Result.ABSTAIN, Result.RETRY, Prepare, Prepare.noPrepare, Prepare.tentative, Prepare.final, Verdict, Verdict.commit, Verdict.abort, Outcome, Outcome.noOutcome, Outcome.noted, Outcome.done, prepareCode, outcomeCode, Row, Model}
+use Rattle.rules.specs.Tables.{Result, Result.OK, Result.ABORT, Result.ABSTAIN, Result.RETRY, Prepare, Prepare.noPrepare, Prepare.tentative, Verdict, Verdict.commit, Verdict.abort, Outcome, Outcome.noOutcome, Outcome.noted, prepareCode, outcomeCode, Row, Model}
 use Rattle.rules.specs.Messages.{Check, held, prepareOf, outcomeOf, changed, added}
 use Rattle.rules.specs.Circumstances.{Room, settled}
 use Rattle.rules.specs.Check.{clash, accepted}
-use Rattle.rules.proofs.Logic.{impossible, cases, both-left, both-right, same?, eqb-self}
+use Rattle.rules.proofs.Logic.{impossible, both-left, both-right, same?, eqb-self}
 use Rattle.rules.proofs.Lists.{_∈_, every-one}
 use Rattle.rules.proofs.Groups.{group-size}
 use Rattle.rules.proofs.Check.{clash-sym, clash-irreflexive}
 use Rattle.rules.proofs.Rows.{held-from, held-changed, held-unchanged, held-added, changedHeld}
-use Rattle.history.proofs.Entries.{Cell, Cells, Settled}
+use Rattle.history.proofs.Entries.{Cells, Settled}
 use Rattle.history.proofs.Invariant.{Setup}
 
 -- all that is asked of the check for message 1: an OK clashes with no accepted row

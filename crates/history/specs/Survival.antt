@@ -11,13 +11,13 @@ use lib.ListN.{length}
 use Rattle.rules.specs.Tests.{twice, allOf}
 use Rattle.rules.specs.Groups.{fOf, quorum}
 use Rattle.rules.specs.Stamps.{Access, Body}
-use Rattle.rules.specs.Tables.{Result, Result.OK, Prepare, Prepare.tentative, Prepare.final, prepareCode, prepareRetry, Verdict, Verdict.commit, Outcome, Outcome.done, Row, Table, Model, freshTable}
+use Rattle.rules.specs.Tables.{Result, Result.OK, Prepare, Prepare.tentative, Prepare.final, prepareCode, prepareRetry, Verdict, Verdict.commit, Outcome.done, Row, Table, Model, freshTable}
 use Rattle.rules.specs.Circumstances.{Room}
 use Rattle.rules.specs.Messages.{Message, Message.proposePrepare, Message.finalisePrepare, Message.proposeOutcome, Message.finaliseOutcome, Message.changeView, Message.startView, Message.readRegister, Check, held, prepareOf, outcomeOf}
 use Rattle.rules.specs.Answers.{Reply, Answer, answer}
 use Rattle.rules.specs.Check.{check}
 use Rattle.rules.specs.Merge.{holdsVerdict, merge}
-use Rattle.rules.specs.Count.{Heard, Counted, Counted.fast, Counted.slow, counted}
+use Rattle.rules.specs.Count.{Heard, Counted.fast, Counted.slow, counted}
 
 abbrev pub _∈_ : {A : Type 0} → A → List A → Type 0
 _∈_ a l = List·Memᴰ a l
