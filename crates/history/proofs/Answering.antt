@@ -13,7 +13,7 @@ use Rattle.rules.specs.Tables.{Result, Result.OK, Result.ABORT, Result.ABSTAIN,
 use Rattle.rules.specs.Messages.{Message, Message.proposePrepare, Message.finalisePrepare, Message.proposeOutcome, Message.finaliseOutcome, Message.changeView, Message.startView, Message.readRegister, held, prepareOf, outcomeOf, changed, added, withPrepare, withOutcome, withRows, resultFor, answered, notedAs, prepareProposed, prepareFinalised, outcomeProposed, outcomeFinalised}
 use Rattle.rules.specs.Circumstances.{isChanging}
 use Rattle.rules.specs.Answers.{Reply, replyFrom, stateByte, replyValue}
-use Rattle.rules.proofs.Logic.{eqb-self}
+use Rattle.rules.proofs.Logic.{impossible, eqb-self}
 use Rattle.rules.proofs.Lists.{_∈_}
 use Rattle.history.proofs.Cells.{Holds}
 use Rattle.history.proofs.Entries.{Fact.gaveResult, Fact.finalised, Fact.bodySent, Said, Said.said, Entry, Act, Act.addRow, Act.fillRow, Act.makeFinal, Act.noteOutcome, Act.finishOutcome, Act.answerResult, Act.acceptOutcome, apply, Can, asPrepare, Proposed}
@@ -106,6 +106,19 @@ pub record Shows (W : World) (s : State) (b : ℕ) (T : Table) (rows : List Row)
   pub onward : Onward b s next
   pub is : BoxIs W next b (withRows T rows)
 
+-- only an added row is checked
+abbrev isAddition : Act → Bool
+isAddition (addRow r) = true
+isAddition (fillRow o) = false
+isAddition (makeFinal r) = false
+isAddition (noteOutcome o) = false
+isAddition (finishOutcome o) = false
+isAddition (answerResult r f) = false
+isAddition (acceptOutcome o) = false
+
+no-check : {A : Type 0} {a : Act} → isAddition a ≡ false → a ≡ addRow OK → A
+no-check e z = impossible (ap isAddition z) e
+
 -- one step after another
 shows-then : {W : World} {s : State} {b : ℕ} {T : Table} {rows : List Row} → (h : Shows W s b T rows) → Shows W (h .next) b (withRows T rows) rows → Shows W s b T rows
 shows-then h k = record { next = k .next; sound = k .sound; onward = onward-then (h .onward) (k .onward); is = k .is }
@@ -130,10 +143,10 @@ module _ (W : World) (b t : ℕ) (T : Table) (normal : isChanging T ≡ false) (
 
   -- the box says what it holds, or accepts the outcome that it holds
   say : (rows : List Row) → Owned W (s .facts) rows → Looks (T .rows) rows t (before .prepare) (before .outcome) → (r : Result) (f : Bool) → before .prepare ≡ asPrepare r f → (h : Shows W s b T rows) × (said r f ∈ h .next .entry b (T .view) t .answers)
-  say rows own looks r f e = (act (answerResult r f) e (λ z. let y : _≡_ {A = ℕ} 0 1 = cc in absurd (omega arith)) rows own looks, logged (answerResult r f) (λ (y : Entry). said r f ∈ y .answers) (List·Memᴰ·head refl))
+  say rows own looks r f e = (act (answerResult r f) e (no-check refl) rows own looks, logged (answerResult r f) (λ (y : Entry). said r f ∈ y .answers) (List·Memᴰ·head refl))
 
   accept : (rows : List Row) → Owned W (s .facts) rows → Looks (T .rows) rows t (before .prepare) (before .outcome) → (o : Verdict) → Holds o (before .outcome) → (h : Shows W s b T rows) × (o ∈ h .next .entry b (T .view) t .acceptances)
-  accept rows own looks o e = (act (acceptOutcome o) e (λ z. let y : _≡_ {A = ℕ} 0 1 = cc in absurd (omega arith)) rows own looks, logged (acceptOutcome o) (λ (y : Entry). o ∈ y .acceptances) (List·Memᴰ·head refl))
+  accept rows own looks o e = (act (acceptOutcome o) e (no-check refl) rows own looks, logged (acceptOutcome o) (λ (y : Entry). o ∈ y .acceptances) (List·Memᴰ·head refl))
 
   -- rows that show p and o for t, where the entry holds them
   shown : (rows : List Row) (p : Prepare) (o : Outcome) → before .prepare ≡ p → before .outcome ≡ o → Looks (T .rows) rows t p o → Looks (T .rows) rows t (before .prepare) (before .outcome)
@@ -222,7 +235,7 @@ module _ (W : World) (b t : ℕ) (x : Body) (T : Table) (normal : isChanging T �
       filled : (v : Verdict) → q .prepare ≡ noPrepare → Holds v (q .outcome) → answered (q .prepare) (q .outcome) ≡ tentative (resultFor v) → TakenAs W s b (proposePrepare t x) (withRows T rows)
       filled v h j a =
           replied-1 rows (resultFor v) false (now ∙ a)
-          (then-say W b t T normal s rows (act W b t T normal s k i (fillRow v) (holdsP ∙ h, rw holdsO j) (λ z. let y : _≡_ {A = ℕ} 0 1 = cc in absurd (omega arith)) rows own (ap-looks a)) (resultFor v) false (now ∙ a))
+          (then-say W b t T normal s rows (act W b t T normal s k i (fillRow v) (holdsP ∙ h, rw holdsO j) (no-check refl) rows own (ap-looks a)) (resultFor v) false (now ∙ a))
         where
           ap-looks : answered (q .prepare) (q .outcome) ≡ tentative (resultFor v) → Looks (T .rows) rows t (tentative (resultFor v)) (before W b t T normal s k i .outcome)
           ap-looks a = rw (← a, holdsO) shows
@@ -274,7 +287,7 @@ module _ (W : World) (b t : ℕ) (T : Table) (normal : isChanging T ≡ false) (
   pub taken-final : (r : Result) → gaveResult t (T .view) r ∈ s .facts → RowHeld T t (λ q. ((p : Result) × (q .prepare ≡ tentative p)) ⊎ (q .prepare ≡ final r)) → TakenAs W s b (finalisePrepare t (T .view) r) (withRows T (prepareFinalised (T .rows) t r))
   unfolding prepareFinalised replyFrom stateByte replyValue
   taken-final r sent (q, e, h) =
-      let (z, m) = then-say W b t T normal s rows (act W b t T normal s k i (makeFinal r) (rw (i .view) at sent, held-as h) (λ z. let y : _≡_ {A = ℕ} 0 1 = cc in absurd (omega arith)) rows own (rw (entry-outcome W b t T normal s k i q e) shows)) r true now in
+      let (z, m) = then-say W b t T normal s rows (act W b t T normal s k i (makeFinal r) (rw (i .view) at sent, held-as h) (no-check refl) rows own (rw (entry-outcome W b t T normal s k i q e) shows)) r true now in
       record { next = z .next; sound = z .sound; onward = z .onward; is = z .is; echo = (λ p g c n. echoed (prepareOf (held rows t)) r p true g now m c n, m) }
     where
       rows : List Row
@@ -308,7 +321,7 @@ module _ (W : World) (b t : ℕ) (T : Table) (normal : isChanging T ≡ false) (
       noted-3 : (rows : List Row) (p : Prepare) → Owned W (s .facts) rows → s .entry b (s .view b) t .prepare ≡ p → s .entry b (s .view b) t .outcome ≡ noOutcome → Looks (T .rows) rows t p (noted o) → TakenAs W s b (proposeOutcome t o x) (withRows T rows)
       noted-3 rows p own ep eo shows =
           accepted-3 rows
-          (then-accept W b t T normal s rows (act W b t T normal s k i (noteOutcome o) (eo, prop) (λ z. let y : _≡_ {A = ℕ} 0 1 = cc in absurd (omega arith)) rows own (rw ep shows)) o (inl (shows .1 t ∙ rw (eqb-self t) refl)))
+          (then-accept W b t T normal s rows (act W b t T normal s k i (noteOutcome o) (eo, prop) (no-check refl) rows own (rw ep shows)) o (inl (shows .1 t ∙ rw (eqb-self t) refl)))
 
       known-3 : (q : Row) → held (T .rows) t ≡ some q → (q .outcome ≡ noOutcome) ⊎ HasVerdict o q → TakenAs W s b (proposeOutcome t o x) (withRows T (changed t outcomeChange (T .rows)))
       known-3 q e h = by h
@@ -358,7 +371,7 @@ module _ (W : World) (b t : ℕ) (T : Table) (normal : isChanging T ≡ false) (
 
       by : HasVerdict o q → TakenAs W s b (finaliseOutcome t (T .view) o) (withRows T rows)
       by (inl z) =
-          let h = act W b t T normal s k i (finishOutcome o) (entry-outcome W b t T normal s k i q e ∙ z, rw (i .view) at sent) (λ z. let y : _≡_ {A = ℕ} 0 1 = cc in absurd (omega arith)) rows own (rw (entry-prepare W b t T normal s k i q e) shows) in
+          let h = act W b t T normal s k i (finishOutcome o) (entry-outcome W b t T normal s k i q e ∙ z, rw (i .view) at sent) (no-check refl) rows own (rw (entry-prepare W b t T normal s k i q e) shows) in
           record { next = h .next; sound = h .sound; onward = h .onward; is = h .is; echo = tt }
       by (inr z) =
           record {

@@ -8,11 +8,12 @@ use Prim.Native.Nat.{ℕ, zero, suc, _<_}
 use native.Mathlib.Omega.{arith}
 use lib.Dec.{eqb, ltb}
 use borrow.Author.Tests.{eqb-true, eqb-false, ltb-true}
+use Rattle.rules.specs.Tests.{allOf}
 use Rattle.rules.specs.Tables.{Table}
 use Rattle.rules.specs.Messages.{Message, Message.proposePrepare, Message.finalisePrepare, Message.proposeOutcome, Message.finaliseOutcome, Message.changeView, Message.startView, Message.readRegister, tableAfter}
 use Rattle.rules.specs.Answers.{replyFrom, refusal, refused, taken, answerNumber, answer}
 use Rattle.rules.proofs.Logic.{none-some, cases}
-use Rattle.rules.proofs.Lists.{_∈_}
+use Rattle.rules.proofs.Lists.{_∈_, all-from}
 use Rattle.history.specs.Survival.{Sent, Group, at, answering, arriving}
 use Rattle.history.proofs.Acts.{State, Sound}
 use Rattle.history.proofs.Taken.{taken-1, taken-2, taken-3, taken-4, taken-5, taken-6}
@@ -23,11 +24,14 @@ use Rattle.history.proofs.Views.{start-facts, taken-change, taken-start
 use Rattle.history.proofs.Follows.{Named, Backed, Follows, answer-follows}
 
 -- what stands at a place of a list is in it
-pub at-in : {A : Type 0} (xs : List A) (i : ℕ) (x : A) → at xs i ≡ some x → x ∈ xs
+at-in : {A : Type 0} (xs : List A) (i : ℕ) (x : A) → at xs i ≡ some x → x ∈ xs
 unfolding at
 at-in [] i x e = none-some e
 at-in (y ∷ ys) zero x e = let z : x ≡ y = cc in List·Memᴰ·head z
 at-in (y ∷ ys) (suc i) x e = List·Memᴰ·tail (at-in ys i x e)
+
+pub chosen-in : {A : Type 0} (xs : List A) (places : List ℕ) (x : A) → x ∈ allOf (at xs) places → x ∈ xs
+chosen-in xs places x m = let (i, j, e) = all-from (at xs) places x m in at-in xs i x e
 
 -- a state of the abstract group that a group of the history follows
 abbrev pub Followed : World → Group → Type 0

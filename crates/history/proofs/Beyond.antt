@@ -30,7 +30,7 @@ use Rattle.history.proofs.Kept.{same-finals, same-outcomes}
 use Rattle.history.proofs.World.{World, setup, cellsIn}
 use Rattle.history.proofs.Gathered.{HadIs, handed-over}
 use Rattle.history.proofs.Follows.{Follows}
-use Rattle.history.proofs.Arrivals.{at-in}
+use Rattle.history.proofs.Arrivals.{chosen-in}
 use Rattle.history.proofs.Regular.{fresh-regular, all-regular}
 use Rattle.history.proofs.Survival.{worldOf, followed, fromFresh}
 
@@ -114,7 +114,7 @@ merge-goes-through W G s k F M v places = number-left M v Ts (λ right t. (one-b
     Ts = allOf (at (G .had)) places
 
     had : (T : Table) → T ∈ Ts → T ∈ G .had
-    had T m = let (i, j, e) = all-from (at (G .had)) places T m in at-in (G .had) i T e
+    had = chosen-in (G .had) places
 
 -- under the premises of `survival` and no other
 pub goes-through : (n : ℕ) → isGroup n ≡ true → (M : Model) (room : Room) (es : List Event) → Lawful M room check (freshGroup n) es → GoesThrough M (after M room check (freshGroup n) es)

@@ -11,7 +11,7 @@ use Rattle.rules.specs.Tables.{Verdict, Row, Table}
 use Rattle.rules.specs.Messages.{Message.proposeOutcome, held, outcomeOf}
 use Rattle.rules.specs.Check.{check}
 use Rattle.rules.specs.Merge.{holdsVerdict, used, groupOf, areWrong, merge}
-use Rattle.rules.proofs.Lists.{_∈_, all-from}
+use Rattle.rules.proofs.Lists.{_∈_}
 use Rattle.rules.proofs.Used.{merge-is, merge-right}
 use Rattle.history.specs.Survival.{Sent, Group, at, merging, mergingAs, Carries}
 use Rattle.history.proofs.Entries.{Fact.proposed, Fact.bodySent}
@@ -24,7 +24,7 @@ use Rattle.history.proofs.Boxes.{Owned}
 use Rattle.history.proofs.Gathered.{HadIs, merge-began, merge-owned}
 use Rattle.history.proofs.Invariant.{Began}
 use Rattle.history.proofs.Follows.{Follows, known-merged}
-use Rattle.history.proofs.Arrivals.{at-in, Followed}
+use Rattle.history.proofs.Arrivals.{chosen-in, Followed}
 
 module _ (W : World) (G : Group) (s : State) (k : Sound (setup W) s) (F : Follows W G s) where
   -- any fair merge of tables that boxes have had
@@ -62,7 +62,7 @@ module _ (W : World) (G : Group) (s : State) (k : Sound (setup W) s) (F : Follow
       Ts = allOf (at (G .had)) places
 
       had : (U : Table) → U ∈ Ts → U ∈ G .had
-      had U m = let (i, j, e) = all-from (at (G .had)) places U m in at-in (G .had) i U e
+      had = chosen-in (G .had) places
 
       go : (o : Option Table) → merge (W .model) check v Ts ≡ o → Followed W (mergingAs (W .model) (W .room) (W .proposals) G v o)
       go none e = (s, k, F)

@@ -16,7 +16,7 @@ use Rattle.rules.specs.Answers.{answer}
 use Rattle.rules.specs.Check.{check}
 use Rattle.rules.specs.Merge.{merge}
 use Rattle.rules.proofs.Logic.{cases, both-true, not-false-of, same?, eqb-self}
-use Rattle.rules.proofs.Lists.{_∈_, all-from}
+use Rattle.rules.proofs.Lists.{_∈_}
 use Rattle.rules.proofs.Check.{CheckByRule, check-by-rule}
 use Rattle.rules.proofs.Tables.{Regular, table-facts}
 use Rattle.rules.proofs.Answers.{fresh-by-rule, answer-kept}
@@ -24,7 +24,7 @@ use Rattle.rules.proofs.Used.{merge-is, first-table}
 use Rattle.rules.proofs.Merge.{merge-by-rule}
 use Rattle.history.specs.Survival.{Sent, Merged, Group, boxesBelow, freshGroup, Event, Event.sends, Event.arrives, Event.declares, Event.merges, at, put, sending, answering, arriving, mergingAs, step, after, WasSent, TheMerged, MaySend, May, Lawful}
 use Rattle.history.proofs.Follows.{last-or, and-last}
-use Rattle.history.proofs.Arrivals.{at-in}
+use Rattle.history.proofs.Arrivals.{chosen-in}
 use Rattle.history.proofs.Following.{below-from}
 
 abbrev pub RegularOf : ℕ → Table → Type 0
@@ -93,7 +93,7 @@ module _ (M : Model) (room : Room) (proposals : Check) (checks : CheckByRule pro
       Ts = allOf (at (G .had)) places
 
       had : (T : Table) → T ∈ Ts → T ∈ G .had
-      had T m = let (i, j, e) = all-from (at (G .had)) places T m in at-in (G .had) i T e
+      had = chosen-in (G .had) places
 
       go : (o : Option Table) → merge M check v Ts ≡ o → AllRegular M n (mergingAs M room proposals G v o)
       go none e = R

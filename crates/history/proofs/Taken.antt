@@ -38,6 +38,10 @@ module _ (M : Model) (room : Room) (T : Table) where
   normal-if : (m : Message) → answerNumber M room T m ≡ 0 → (changing, isChanging T) ∈ circumstances M room T m → isChanging T ≡ false
   normal-if m h i = met-none M room T m h changing (isChanging T) (search places depth 11) i
 
+  view-if : (m : Message) (v : ℕ) → answerNumber M room T m ≡ 0 → (otherView, forOtherView T v) ∈ circumstances M room T m → v ≡ T .view
+  unfolding forOtherView
+  view-if m v h i = eqb-true v (T .view) (not-false _ (met-none M room T m h otherView (not (eqb v (T .view))) (search places depth 11) i))
+
   pub taken-1 : (s : ℕ) (x : Body) → answerNumber M room T (proposePrepare s x) ≡ 0 → isChanging T ≡ false
   unfolding circumstances furtherCircumstances
   taken-1 s x h = normal-if (proposePrepare s x) h (search places)
