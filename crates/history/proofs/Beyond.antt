@@ -23,14 +23,14 @@ use Rattle.rules.proofs.Used.{used-newest}
 use Rattle.rules.proofs.Check.{check-by-rule, check-clear}
 use Rattle.history.specs.Survival.{Group, Event, freshGroup, at, after, Lawful}
 use Rattle.history.specs.Beyond.{DoneOrNoMerge, GoesThrough}
-use Rattle.history.proofs.Cells.{Holds}
-use Rattle.history.proofs.Acts.{State, Sound}
-use Rattle.history.proofs.Entries.{Fact.started}
-use Rattle.history.proofs.Kept.{same-finals, same-outcomes}
-use Rattle.history.proofs.World.{World, setup, cellsIn}
-use Rattle.history.proofs.Gathered.{HadIs, handed-over}
-use Rattle.history.proofs.Follows.{Follows}
-use Rattle.history.proofs.Arrivals.{chosen-in}
+use Rattle.history.proofs.Group.Cells.{Holds}
+use Rattle.history.proofs.Group.Acts.{State, Sound}
+use Rattle.history.proofs.Group.Entries.{Fact.started}
+use Rattle.history.proofs.Group.Kept.{same-finals, same-outcomes}
+use Rattle.history.proofs.Follow.World.{World, setup, cellsIn}
+use Rattle.history.proofs.Follow.Gathered.{HadIs, handed-over}
+use Rattle.history.proofs.Follow.Follows.{Follows}
+use Rattle.history.proofs.Follow.Arrivals.{chosen-in}
 use Rattle.history.proofs.Regular.{fresh-regular, all-regular}
 use Rattle.history.proofs.Survival.{worldOf, followed, fromFresh}
 

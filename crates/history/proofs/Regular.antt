@@ -23,9 +23,9 @@ use Rattle.rules.proofs.Answers.{fresh-by-rule, answer-kept}
 use Rattle.rules.proofs.Used.{merge-is, first-table}
 use Rattle.rules.proofs.Merge.{merge-by-rule}
 use Rattle.history.specs.Survival.{Sent, Merged, Group, boxesBelow, freshGroup, Event, Event.sends, Event.arrives, Event.declares, Event.merges, at, put, sending, answering, arriving, mergingAs, step, after, WasSent, TheMerged, MaySend, May, Lawful}
-use Rattle.history.proofs.Follows.{last-or, and-last}
-use Rattle.history.proofs.Arrivals.{chosen-in}
-use Rattle.history.proofs.Following.{below-from}
+use Rattle.history.proofs.Follow.Follows.{last-or, and-last}
+use Rattle.history.proofs.Follow.Arrivals.{chosen-in}
+use Rattle.history.proofs.Follow.Following.{below-from}
 
 abbrev pub RegularOf : ℕ → Table → Type 0
 RegularOf n T = Regular T × (T .n ≡ n)

@@ -14,14 +14,14 @@ use Rattle.rules.proofs.Logic.{either-first, eqb-self}
 use Rattle.rules.proofs.Lists.{_∈_}
 use Rattle.rules.proofs.Check.{overwrites-if, check-clear}
 use Rattle.history.specs.Survival.{Sent, Merged, Group, freshGroup, Event, after, WasSent, Lawful, Survival}
-use Rattle.history.proofs.Acts.{State, Sound}
-use Rattle.history.proofs.Kept.{KeptIn, any-merge, committed-apart}
-use Rattle.history.proofs.World.{Clear, World, setup, cellsIn}
-use Rattle.history.proofs.Follows.{Named, Follows}
-use Rattle.history.proofs.Arrivals.{Followed}
-use Rattle.history.proofs.Coordinators.{accepted-crowd}
-use Rattle.history.proofs.Following.{fresh-followed, history-followed}
-use Rattle.history.proofs.Names.{carriedBody, bodyNamed, rowsNamed, OneEach, one-each, none-sent, named-shut, named-empty, body-named, rows-named}
+use Rattle.history.proofs.Group.Acts.{State, Sound}
+use Rattle.history.proofs.Group.Kept.{KeptIn, any-merge, committed-apart}
+use Rattle.history.proofs.Follow.World.{Clear, World, setup, cellsIn}
+use Rattle.history.proofs.Follow.Follows.{Named, Follows}
+use Rattle.history.proofs.Follow.Arrivals.{Followed}
+use Rattle.history.proofs.Follow.Coordinators.{accepted-crowd}
+use Rattle.history.proofs.Follow.Following.{fresh-followed, history-followed}
+use Rattle.history.proofs.Follow.Names.{carriedBody, bodyNamed, rowsNamed, OneEach, one-each, none-sent, named-shut, named-empty, body-named, rows-named}
 
 -- ---- what survives in a group that is followed
 

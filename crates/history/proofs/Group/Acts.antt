@@ -7,11 +7,11 @@ use Prim.Native.Nat.{ℕ, _≤_, _<_}
 use native.Mathlib.Omega.{arith}
 use Rattle.rules.specs.Tables.{Result, Result.OK, Verdict.abort, Outcome.done}
 use Rattle.rules.proofs.Lists.{_∈_}
-use Rattle.history.proofs.Below.{at-least-map}
-use Rattle.history.proofs.Cells.{isAccepted, dead-if-refused}
-use Rattle.history.proofs.Entries.{Cells, Fact, Fact.promised, Fact.started, Said.said, Entry, Good, Act, Act.addRow, apply, Can, keep}
-use Rattle.history.proofs.Invariant.{Setup, acceptedCell, Touched, Entries, DeadEntry, Rests, Crowds, Promise, Invariant}
-use Rattle.history.proofs.Growth.{Grows, grows-refl, grows, aborted-here, checked-from, withEntry, Place, place}
+use Rattle.history.proofs.Group.Below.{at-least-map}
+use Rattle.history.proofs.Group.Cells.{isAccepted, dead-if-refused}
+use Rattle.history.proofs.Group.Entries.{Cells, Fact, Fact.promised, Fact.started, Said.said, Entry, Good, Act, Act.addRow, apply, Can, keep}
+use Rattle.history.proofs.Group.Invariant.{Setup, acceptedCell, Touched, Entries, DeadEntry, Rests, Crowds, Promise, Invariant}
+use Rattle.history.proofs.Group.Growth.{Grows, grows-refl, grows, aborted-here, checked-from, withEntry, Place, place}
 
 pub record State : Type 0 where
   pub view : ℕ → ℕ  -- a box's last normal view

@@ -18,14 +18,14 @@ use Rattle.rules.proofs.Same.{same-result}
 use Rattle.rules.proofs.Votes.{count-all}
 use Rattle.rules.proofs.Count.{good-replies, fast-behind, ok-behind}
 use Rattle.history.specs.Survival.{Sent, Declared, Group, sending, declaring, WasSent, WasDeclared, Gave, QuorumOf, AsksPrepare, prepareHeard, Replied, Replies, Confirmed, Accepted, OneResult, OnAnAnswer, OnFastOrConfirmed, CommitAfterOK, NeverBoth, BeforeOutcome, MaySend}
-use Rattle.history.proofs.Below.{AtLeast, list-at-least}
-use Rattle.history.proofs.Entries.{Fact, Fact.gaveResult, Fact.declaredFinal, Fact.proposed, Fact.finalised, Fact.bodySent, Said.said, asPrepare}
-use Rattle.history.proofs.Invariant.{Crowds, Quorum}
-use Rattle.history.proofs.Acts.{State, Sound}
-use Rattle.history.proofs.Steps.{May, CountedOK, withFact, send-keeps, body-keeps, propose-keeps, finish-keeps, declare-keeps}
-use Rattle.history.proofs.World.{World, setup}
-use Rattle.history.proofs.Follows.{Named, Grounded, Backed, Back, AnswerIs, Follows, known-sent, known-declared}
-use Rattle.history.proofs.Arrivals.{Followed}
+use Rattle.history.proofs.Group.Below.{AtLeast, list-at-least}
+use Rattle.history.proofs.Group.Entries.{Fact, Fact.gaveResult, Fact.declaredFinal, Fact.proposed, Fact.finalised, Fact.bodySent, Said.said, asPrepare}
+use Rattle.history.proofs.Group.Invariant.{Crowds, Quorum}
+use Rattle.history.proofs.Group.Acts.{State, Sound}
+use Rattle.history.proofs.Group.Steps.{May, CountedOK, withFact, send-keeps, body-keeps, propose-keeps, finish-keeps, declare-keeps}
+use Rattle.history.proofs.Follow.World.{World, setup}
+use Rattle.history.proofs.Follow.Follows.{Named, Grounded, Backed, Back, AnswerIs, Follows, known-sent, known-declared}
+use Rattle.history.proofs.Follow.Arrivals.{Followed}
 
 -- a fact of a list with one more is the new one or an old one
 new-fact : {φ ψ : Fact} {facts : List Fact} {A : Type 0} → ((φ ≡ ψ) → A) → ψ ∈ (φ ∷ facts) → (ψ ∈ facts) ⊎ A

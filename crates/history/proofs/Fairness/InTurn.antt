@@ -18,7 +18,7 @@ use Rattle.rules.proofs.Rows.{changed-from, in-changed}
 use Rattle.rules.proofs.Stamps.{RisingFrom, rising-least, rising-those, stamps-rising}
 use Rattle.rules.proofs.Check.{clash-sym, clash-irreflexive, check-clear, check-against}
 use Rattle.rules.proofs.Standings.{accepted-settled, check-settled}
-use Rattle.history.proofs.OneStamp.{waiting-empty, checked-ok, ok?}
+use Rattle.history.proofs.Fairness.OneStamp.{waiting-empty, checked-ok, ok?}
 
 -- whatever the standing: the agreed ones, and then the open ones
 abbrev pub anyOf : Standing → Bool

@@ -15,14 +15,14 @@ use Rattle.rules.specs.Merge.{holdsVerdict}
 use Rattle.rules.proofs.Logic.{same?, eqb-self}
 use Rattle.rules.proofs.Lists.{_∈_}
 use Rattle.history.specs.Survival.{Sent, Answered, Declared, Merged, Group, put, sending, answering, declaring, merging, Carries, WasSent, WasDeclared}
-use Rattle.history.proofs.Entries.{Fact, Fact.gaveResult, Fact.declaredFinal, Fact.proposed, Fact.finalised, Fact.promised, Fact.bodySent, Fact.started, Said, Entry}
-use Rattle.history.proofs.Invariant.{Began}
-use Rattle.history.proofs.Acts.{State, Sound}
-use Rattle.history.proofs.Facts.{began-wider}
-use Rattle.history.proofs.World.{World, setup, cellsIn}
-use Rattle.history.proofs.Boxes.{Owned, owned-wider, BoxIs, Onward, OfBoxes}
-use Rattle.history.proofs.Answering.{Echo}
-use Rattle.history.proofs.Gathered.{HadIs}
+use Rattle.history.proofs.Group.Entries.{Fact, Fact.gaveResult, Fact.declaredFinal, Fact.proposed, Fact.finalised, Fact.promised, Fact.bodySent, Fact.started, Said, Entry}
+use Rattle.history.proofs.Group.Invariant.{Began}
+use Rattle.history.proofs.Group.Acts.{State, Sound}
+use Rattle.history.proofs.Group.Facts.{began-wider}
+use Rattle.history.proofs.Follow.World.{World, setup, cellsIn}
+use Rattle.history.proofs.Follow.Boxes.{Owned, owned-wider, BoxIs, Onward, OfBoxes}
+use Rattle.history.proofs.Follow.Answering.{Echo}
+use Rattle.history.proofs.Follow.Gathered.{HadIs}
 
 -- ---- what stands behind a message, a fact, a merge
 

@@ -15,13 +15,13 @@ use Rattle.rules.specs.Answers.{replyFrom, refusal, refused, taken, answerNumbe
 use Rattle.rules.proofs.Logic.{none-some, cases}
 use Rattle.rules.proofs.Lists.{_∈_, all-from}
 use Rattle.history.specs.Survival.{Sent, Group, at, answering, arriving}
-use Rattle.history.proofs.Acts.{State, Sound}
-use Rattle.history.proofs.Taken.{taken-1, taken-2, taken-3, taken-4, taken-5, taken-6}
-use Rattle.history.proofs.World.{World, setup}
-use Rattle.history.proofs.Boxes.{onward-stay}
-use Rattle.history.proofs.Answering.{TakenAs, taken-prepare, taken-final, taken-outcome, taken-finish}
-use Rattle.history.proofs.Views.{start-facts, taken-change, taken-start}
-use Rattle.history.proofs.Follows.{Named, Backed, Follows, answer-follows}
+use Rattle.history.proofs.Group.Acts.{State, Sound}
+use Rattle.history.proofs.Follow.Taken.{taken-1, taken-2, taken-3, taken-4, taken-5, taken-6}
+use Rattle.history.proofs.Follow.World.{World, setup}
+use Rattle.history.proofs.Follow.Boxes.{onward-stay}
+use Rattle.history.proofs.Follow.Answering.{TakenAs, taken-prepare, taken-final, taken-outcome, taken-finish}
+use Rattle.history.proofs.Follow.Views.{start-facts, taken-change, taken-start}
+use Rattle.history.proofs.Follow.Follows.{Named, Backed, Follows, answer-follows}
 
 -- what stands at a place of a list is in it
 at-in : {A : Type 0} (xs : List A) (i : ℕ) (x : A) → at xs i ≡ some x → x ∈ xs

@@ -18,13 +18,13 @@ use Rattle.rules.proofs.Logic.{impossible, either-left, either-right, either-fa
 use Rattle.rules.proofs.Lists.{_∈_, any-none, none-any, those-of, provided-some, first-is}
 use Rattle.rules.proofs.Rows.{held-from}
 use Rattle.rules.proofs.Same.{result-same}
-use Rattle.history.proofs.Below.{list-at-least, at-least-list}
-use Rattle.history.proofs.Cells.{isOK, isAccepted, Holds, accepted-is, verdict-holds, holds-verdict}
-use Rattle.history.proofs.Entries.{Cells}
-use Rattle.history.proofs.Invariant.{acceptedCell, NoFinalAt, AgreedAt, FixedAt, FairCells}
-use Rattle.history.proofs.Fair.{NoFinal, Agreed, Fixed, ClashesWith, Fair}
-use Rattle.history.proofs.OneStamp.{is-tentative}
-use Rattle.history.proofs.World.{World, setup, cellsIn}
+use Rattle.history.proofs.Group.Below.{list-at-least, at-least-list}
+use Rattle.history.proofs.Group.Cells.{isOK, isAccepted, Holds, accepted-is, verdict-holds, holds-verdict}
+use Rattle.history.proofs.Group.Entries.{Cells}
+use Rattle.history.proofs.Group.Invariant.{acceptedCell, NoFinalAt, AgreedAt, FixedAt, FairCells}
+use Rattle.history.proofs.Fairness.Fair.{NoFinal, Agreed, Fixed, ClashesWith, Fair}
+use Rattle.history.proofs.Fairness.OneStamp.{is-tentative}
+use Rattle.history.proofs.Follow.World.{World, setup, cellsIn}
 
 -- ---- elements with different numbers
 

@@ -14,10 +14,10 @@ use Rattle.rules.specs.Tables.{Result, Result.OK, Prepare.noPrepare, Prepare.te
 use Rattle.rules.proofs.Logic.{impossible, cases, same?}
 use Rattle.rules.proofs.Lists.{_∈_}
 use Rattle.rules.proofs.Groups.{quorums-meet, agreement-once, fast-meets, fast-quorum}
-use Rattle.history.proofs.Below.{lt-or-eq, strong, search-below, at-least-map, at-least-below, shared, some-one, common}
-use Rattle.history.proofs.Cells.{isOK, isAccepted, Holds, one-final, none-final, tentative-final, ok-or-aborted, accepted-not-aborted, none-held, only-OK, prepare-cases, Stands}
-use Rattle.history.proofs.Entries.{Cells, Fact, Fact.gaveResult, Fact.declaredFinal, Fact.proposed, Fact.finalised, Fact.promised, Fact.started, Said.said, Proposed, OKReason}
-use Rattle.history.proofs.Invariant.{Setup, Crowd, Quorum, acceptedCell, NoFinalAt, AgreedAt, FixedAt, Began, Touched, Entries, DeadEntry, Rests, FastAnswers, Crowds, Invariant}
+use Rattle.history.proofs.Group.Below.{lt-or-eq, strong, search-below, at-least-map, at-least-below, shared, some-one, common}
+use Rattle.history.proofs.Group.Cells.{isOK, isAccepted, Holds, one-final, none-final, tentative-final, ok-or-aborted, accepted-not-aborted, none-held, only-OK, prepare-cases, Stands}
+use Rattle.history.proofs.Group.Entries.{Cells, Fact, Fact.gaveResult, Fact.declaredFinal, Fact.proposed, Fact.finalised, Fact.promised, Fact.started, Said.said, Proposed, OKReason}
+use Rattle.history.proofs.Group.Invariant.{Setup, Crowd, Quorum, acceptedCell, NoFinalAt, AgreedAt, FixedAt, Began, Touched, Entries, DeadEntry, Rests, FastAnswers, Crowds, Invariant}
 
 module _ (X : Setup) (G : List Fact) (entries : Entries) where
   -- what a view's table keeps

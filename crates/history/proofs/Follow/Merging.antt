@@ -14,17 +14,17 @@ use Rattle.rules.specs.Merge.{holdsVerdict, used, groupOf, areWrong, merge}
 use Rattle.rules.proofs.Lists.{_∈_}
 use Rattle.rules.proofs.Used.{merge-is, merge-right}
 use Rattle.history.specs.Survival.{Sent, Group, at, merging, mergingAs, Carries}
-use Rattle.history.proofs.Entries.{Fact.proposed, Fact.bodySent}
-use Rattle.history.proofs.Acts.{State, Sound}
-use Rattle.history.proofs.Kept.{any-merge}
-use Rattle.history.proofs.Fair.{Fair}
-use Rattle.history.proofs.FairMerge.{merge-fair}
-use Rattle.history.proofs.World.{World, setup, cellsIn}
-use Rattle.history.proofs.Boxes.{Owned}
-use Rattle.history.proofs.Gathered.{HadIs, merge-began, merge-owned}
-use Rattle.history.proofs.Invariant.{Began}
-use Rattle.history.proofs.Follows.{Follows, known-merged}
-use Rattle.history.proofs.Arrivals.{chosen-in, Followed}
+use Rattle.history.proofs.Group.Entries.{Fact.proposed, Fact.bodySent}
+use Rattle.history.proofs.Group.Acts.{State, Sound}
+use Rattle.history.proofs.Group.Kept.{any-merge}
+use Rattle.history.proofs.Fairness.Fair.{Fair}
+use Rattle.history.proofs.Fairness.FairMerge.{merge-fair}
+use Rattle.history.proofs.Follow.World.{World, setup, cellsIn}
+use Rattle.history.proofs.Follow.Boxes.{Owned}
+use Rattle.history.proofs.Follow.Gathered.{HadIs, merge-began, merge-owned}
+use Rattle.history.proofs.Group.Invariant.{Began}
+use Rattle.history.proofs.Follow.Follows.{Follows, known-merged}
+use Rattle.history.proofs.Follow.Arrivals.{chosen-in, Followed}
 
 module _ (W : World) (G : Group) (s : State) (k : Sound (setup W) s) (F : Follows W G s) where
   -- any fair merge of tables that boxes have had

@@ -7,9 +7,9 @@ use Prim.Native.Nat.{ℕ, _+_, _≤_, _<_}
 use Rattle.rules.specs.Groups.{quorum, fastCount, agreementCount}
 use Rattle.rules.specs.Tables.{Result, Result.OK, Prepare.noPrepare, Prepare.tentative, Prepare.final, Verdict, Verdict.commit, Verdict.abort, Outcome.noOutcome, Outcome.done}
 use Rattle.rules.proofs.Lists.{_∈_}
-use Rattle.history.proofs.Below.{AtLeast}
-use Rattle.history.proofs.Cells.{isOK, isAccepted, Holds, Dead}
-use Rattle.history.proofs.Entries.{Cell, Cells, Fact, Fact.gaveResult, Fact.declaredFinal, Fact.proposed, Fact.finalised, Fact.promised, Fact.started, Said, Said.said, Entry, Good, Settled}
+use Rattle.history.proofs.Group.Below.{AtLeast}
+use Rattle.history.proofs.Group.Cells.{isOK, isAccepted, Holds, Dead}
+use Rattle.history.proofs.Group.Entries.{Cell, Cells, Fact, Fact.gaveResult, Fact.declaredFinal, Fact.proposed, Fact.finalised, Fact.promised, Fact.started, Said, Said.said, Entry, Good, Settled}
 
 -- what is fixed for a group: its size, the clash of two stamps' bodies, and the one table that each view begins with, settled, that of view 0 empty
 pub record Setup : Type 1 where

@@ -9,7 +9,7 @@ use Rattle.rules.specs.Tables.{Result, Result.OK, Prepare, Prepare.noPrepare, P
 use Rattle.rules.specs.Messages.{resultFor}
 use Rattle.rules.proofs.Logic.{impossible}
 use Rattle.rules.proofs.Lists.{_∈_}
-use Rattle.history.proofs.Cells.{isOK, isOKPrepare, Holds, Placed, only-OK, tentative-final, none-final, one-final, one-tentative, one-done, none-held, one-held, prepare-cases, outcome-cases, noted-done, Stands, Finalisable, none-stands, finalisable-same}
+use Rattle.history.proofs.Group.Cells.{isOK, isOKPrepare, Holds, Placed, only-OK, tentative-final, none-final, one-final, one-tentative, one-done, none-held, one-held, prepare-cases, outcome-cases, noted-done, Stands, Finalisable, none-stands, finalisable-same}
 
 pub record Cell : Type 0 where
   pub prepare : Prepare

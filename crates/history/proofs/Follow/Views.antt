@@ -15,14 +15,14 @@ use Rattle.rules.specs.Circumstances.{settled, startsView, isChanging}
 use Rattle.rules.proofs.Logic.{both-left, both-right, both-true, either-second}
 use Rattle.rules.proofs.Lists.{_∈_}
 use Rattle.rules.proofs.Tables.{table-facts}
-use Rattle.history.proofs.Entries.{Cells, Fact, Fact.promised, Fact.started}
-use Rattle.history.proofs.Invariant.{Began}
-use Rattle.history.proofs.Acts.{State, Sound}
-use Rattle.history.proofs.Steps.{setAt-here, setAt-off, setAt-at, cellsOf, withFact, start-keeps, promise-keeps, adopt-keeps}
-use Rattle.history.proofs.Steps as Steps
-use Rattle.history.proofs.World.{World, setup, cellsIn}
-use Rattle.history.proofs.Boxes.{Owned, owned-wider, BoxIs, normal-promise, OfBoxes}
-use Rattle.history.proofs.Answering.{TakenAs}
+use Rattle.history.proofs.Group.Entries.{Cells, Fact, Fact.promised, Fact.started}
+use Rattle.history.proofs.Group.Invariant.{Began}
+use Rattle.history.proofs.Group.Acts.{State, Sound}
+use Rattle.history.proofs.Group.Steps.{setAt-here, setAt-off, setAt-at, cellsOf, withFact, start-keeps, promise-keeps, adopt-keeps}
+use Rattle.history.proofs.Group.Steps as Steps
+use Rattle.history.proofs.Follow.World.{World, setup, cellsIn}
+use Rattle.history.proofs.Follow.Boxes.{Owned, owned-wider, BoxIs, normal-promise, OfBoxes}
+use Rattle.history.proofs.Follow.Answering.{TakenAs}
 
 -- one more fact that is no coordinator's
 fact-from : (φ ψ : Fact) (facts : List Fact) → OfBoxes φ → ψ ∈ (φ ∷ facts) → (ψ ∈ facts) ⊎ OfBoxes ψ

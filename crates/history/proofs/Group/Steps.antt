@@ -10,14 +10,14 @@ use Rattle.rules.specs.Tables.{Result, Result.OK, Prepare.final, Verdict, Verdi
 use Rattle.rules.proofs.Logic.{impossible, cases, same?, eqb-self}
 use Rattle.rules.proofs.Lists.{_∈_}
 use Rattle.rules.proofs.Groups.{fast-quorum}
-use Rattle.history.proofs.Below.{search-below, at-least-map, at-least-fewer, at-least-below}
-use Rattle.history.proofs.Cells.{Holds}
-use Rattle.history.proofs.Entries.{Cells, Fact, Fact.gaveResult, Fact.declaredFinal, Fact.proposed, Fact.finalised, Fact.promised, Fact.bodySent, Fact.started, Said, Said.said, OKReason}
-use Rattle.history.proofs.Invariant.{Setup, Quorum, Began, Entries, Rests, Crowds, Promise}
-use Rattle.history.proofs.Kept.{keeps, held-proposed}
-use Rattle.history.proofs.Growth.{still}
-use Rattle.history.proofs.Acts.{State, Bound, Sound}
-use Rattle.history.proofs.Facts.{Duty, invariant-more}
+use Rattle.history.proofs.Group.Below.{search-below, at-least-map, at-least-fewer, at-least-below}
+use Rattle.history.proofs.Group.Cells.{Holds}
+use Rattle.history.proofs.Group.Entries.{Cells, Fact, Fact.gaveResult, Fact.declaredFinal, Fact.proposed, Fact.finalised, Fact.promised, Fact.bodySent, Fact.started, Said, Said.said, OKReason}
+use Rattle.history.proofs.Group.Invariant.{Setup, Quorum, Began, Entries, Rests, Crowds, Promise}
+use Rattle.history.proofs.Group.Kept.{keeps, held-proposed}
+use Rattle.history.proofs.Group.Growth.{still}
+use Rattle.history.proofs.Group.Acts.{State, Bound, Sound}
+use Rattle.history.proofs.Group.Facts.{Duty, invariant-more}
 
 -- ---- the states after a step
 

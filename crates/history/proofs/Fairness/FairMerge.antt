@@ -22,9 +22,9 @@ use Rattle.rules.proofs.Standings.{NoneOrDone, outcome-cases}
 use Rattle.rules.proofs.Votes.{merge-agreed-once}
 use Rattle.rules.proofs.Settled.{merged-settled}
 use Rattle.rules.proofs.Merge.{merged-stamps, rising-held, stampsOf}
-use Rattle.history.proofs.Fair.{NoFinal, Agreed, Fixed, ClashesWith, Fair}
-use Rattle.history.proofs.OneStamp.{outcome-from, outcome-done, stands-final, agreed-by, stands-agreed, agreed-is, waiting-empty, agreed-waits, unchecked-accepted}
-use Rattle.history.proofs.InTurn.{before, Unchecked, Waits, Stands, Reasoned, waits-unsettled, anyOf, all-checked}
+use Rattle.history.proofs.Fairness.Fair.{NoFinal, Agreed, Fixed, ClashesWith, Fair}
+use Rattle.history.proofs.Fairness.OneStamp.{outcome-from, outcome-done, stands-final, agreed-by, stands-agreed, agreed-is, waiting-empty, agreed-waits, unchecked-accepted}
+use Rattle.history.proofs.Fairness.InTurn.{before, Unchecked, Waits, Stands, Reasoned, waits-unsettled, anyOf, all-checked}
 
 -- ---- the rows of a stamp, and the tables that hold them
 

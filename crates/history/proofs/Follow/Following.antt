@@ -16,13 +16,13 @@ use Rattle.rules.specs.Check.{check}
 use Rattle.rules.specs.Merge.{merge}
 use Rattle.rules.proofs.Lists.{_∈_}
 use Rattle.history.specs.Survival.{Sent, Group, boxesBelow, freshGroup, Event, Event.sends, Event.arrives, Event.declares, Event.merges, at, answering, arriving, mergingAs, step, after, May, Lawful}
-use Rattle.history.proofs.Steps.{freshState, fresh-sound}
-use Rattle.history.proofs.World.{World, setup}
-use Rattle.history.proofs.Gathered.{HadIs}
-use Rattle.history.proofs.Follows.{Named, last-or}
-use Rattle.history.proofs.Arrivals.{Followed, arrival-followed}
-use Rattle.history.proofs.Coordinators.{declare-followed, send-followed}
-use Rattle.history.proofs.Merging.{merge-followed}
+use Rattle.history.proofs.Group.Steps.{freshState, fresh-sound}
+use Rattle.history.proofs.Follow.World.{World, setup}
+use Rattle.history.proofs.Follow.Gathered.{HadIs}
+use Rattle.history.proofs.Follow.Follows.{Named, last-or}
+use Rattle.history.proofs.Follow.Arrivals.{Followed, arrival-followed}
+use Rattle.history.proofs.Follow.Coordinators.{declare-followed, send-followed}
+use Rattle.history.proofs.Follow.Merging.{merge-followed}
 
 -- ---- the start
 

@@ -18,13 +18,13 @@ use Rattle.rules.proofs.Lists.{_∈_, any-none, any-some, some-any, greatest-ab
 use Rattle.rules.proofs.Rows.{held-from}
 use Rattle.rules.proofs.Used.{used-newest, used-all}
 use Rattle.rules.proofs.Votes.{count-all, tables-few}
-use Rattle.history.proofs.Below.{list-at-least}
-use Rattle.history.proofs.Entries.{Cells, Fact, Fact.promised, Fact.started}
-use Rattle.history.proofs.Invariant.{Began, Quorum}
-use Rattle.history.proofs.Fair.{Fair}
-use Rattle.history.proofs.World.{World, setup, cellsIn}
-use Rattle.history.proofs.Boxes.{Owned}
-use Rattle.history.proofs.Gathering.{twice-those, tableOf, table-is, BoxesOf, fair-boxes}
+use Rattle.history.proofs.Group.Below.{list-at-least}
+use Rattle.history.proofs.Group.Entries.{Cells, Fact, Fact.promised, Fact.started}
+use Rattle.history.proofs.Group.Invariant.{Began, Quorum}
+use Rattle.history.proofs.Fairness.Fair.{Fair}
+use Rattle.history.proofs.Follow.World.{World, setup, cellsIn}
+use Rattle.history.proofs.Follow.Boxes.{Owned}
+use Rattle.history.proofs.Follow.Gathering.{twice-those, tableOf, table-is, BoxesOf, fair-boxes}
 
 -- a table that a box of the group has had
 pub record HadIs (W : World) (facts : List Fact) (T : Table) : Type 0 where

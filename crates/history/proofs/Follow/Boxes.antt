@@ -16,11 +16,11 @@ use Rattle.rules.specs.Check.{clash}
 use Rattle.rules.proofs.Logic.{impossible, cases, both-left, both-right, either-cases, same?, eqb-self}
 use Rattle.rules.proofs.Lists.{_∈_}
 use Rattle.rules.proofs.Rows.{held-from, changed-from, added-from}
-use Rattle.history.proofs.Cells.{isAccepted, accepted-is}
-use Rattle.history.proofs.Entries.{Fact, Fact.gaveResult, Fact.declaredFinal, Fact.proposed, Fact.finalised, Fact.promised, Fact.bodySent, Fact.started, Said, Entry, Act, Act.addRow, Act.fillRow, Act.makeFinal, Act.noteOutcome, Act.finishOutcome, Act.answerResult, Act.acceptOutcome, apply}
-use Rattle.history.proofs.Growth.{Place, place}
-use Rattle.history.proofs.Acts.{State, Passed, acting}
-use Rattle.history.proofs.World.{World, setup, cellsIn, Looks}
+use Rattle.history.proofs.Group.Cells.{isAccepted, accepted-is}
+use Rattle.history.proofs.Group.Entries.{Fact, Fact.gaveResult, Fact.declaredFinal, Fact.proposed, Fact.finalised, Fact.promised, Fact.bodySent, Fact.started, Said, Entry, Act, Act.addRow, Act.fillRow, Act.makeFinal, Act.noteOutcome, Act.finishOutcome, Act.answerResult, Act.acceptOutcome, apply}
+use Rattle.history.proofs.Group.Growth.{Place, place}
+use Rattle.history.proofs.Group.Acts.{State, Passed, acting}
+use Rattle.history.proofs.Follow.World.{World, setup, cellsIn, Looks}
 
 -- ---- rows whose bodies are those of their stamps, and were sent
 

@@ -9,9 +9,9 @@ use Rattle.rules.specs.Tests.{both}
 use Rattle.rules.specs.Tables.{Result, Result.OK, Prepare.noPrepare, Prepare.tentative, Prepare.final, Verdict, Verdict.commit, Verdict.abort, Outcome.noOutcome, Outcome.noted, Outcome.done}
 use Rattle.rules.proofs.Logic.{impossible, same?, eqb-self}
 use Rattle.rules.proofs.Lists.{_∈_}
-use Rattle.history.proofs.Cells.{isAccepted, only-OK, none-final, none-held, ok-or-aborted, prepare-cases, outcome-cases, noted-done, finalisable-same}
-use Rattle.history.proofs.Entries.{Cell, Fact, Said, Entry, Proposed, Good, Settled, Act, Act.addRow, Act.fillRow, Act.makeFinal, Act.noteOutcome, Act.finishOutcome, Act.answerResult, Act.acceptOutcome, apply, Can, none-checked}
-use Rattle.history.proofs.Invariant.{Entries, acceptedCell, DeadEntry}
+use Rattle.history.proofs.Group.Cells.{isAccepted, only-OK, none-final, none-held, ok-or-aborted, prepare-cases, outcome-cases, noted-done, finalisable-same}
+use Rattle.history.proofs.Group.Entries.{Cell, Fact, Said, Entry, Proposed, Good, Settled, Act, Act.addRow, Act.fillRow, Act.makeFinal, Act.noteOutcome, Act.finishOutcome, Act.answerResult, Act.acceptOutcome, apply, Can, none-checked}
+use Rattle.history.proofs.Group.Invariant.{Entries, acceptedCell, DeadEntry}
 
 -- ---- more facts
 module _ (φ : Fact) {G : List Fact} where

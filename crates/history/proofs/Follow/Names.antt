@@ -18,8 +18,8 @@ use Rattle.rules.specs.Merge.{noBody, merge}
 use Rattle.rules.proofs.Logic.{none-some, both-left, both-right, eqb-self}
 use Rattle.rules.proofs.Lists.{_∈_, first-is, first-from, provided-some}
 use Rattle.history.specs.Survival.{Sent, Group, Event, Event.sends, Event.arrives, Event.declares, Event.merges, at, sending, step, after, Carries, OneBody, TheMerged, MaySend, May, Lawful}
-use Rattle.history.proofs.Follows.{last-or}
-use Rattle.history.proofs.Following.{arriving-sent, merging-sent}
+use Rattle.history.proofs.Follow.Follows.{last-or}
+use Rattle.history.proofs.Follow.Following.{arriving-sent, merging-sent}
 
 -- ---- what a history names by a stamp or a view: the first that was sent
 

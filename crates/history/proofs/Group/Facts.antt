@@ -5,11 +5,11 @@ use mathlib.Core.List.{List, _∷_, List·Memᴰ·tail, List·Memᴰ·cases-cons
 use Prim.Native.Nat.{ℕ, _≤_}
 use Rattle.rules.specs.Tables.{Result, Result.OK, Verdict, Verdict.commit, Verdict.abort}
 use Rattle.rules.proofs.Lists.{_∈_}
-use Rattle.history.proofs.Below.{at-least-map}
-use Rattle.history.proofs.Cells.{commit-abort}
-use Rattle.history.proofs.Entries.{Cells, Fact, Fact.gaveResult, Fact.declaredFinal, Fact.proposed, Fact.finalised, Fact.promised, Fact.bodySent, Fact.started}
-use Rattle.history.proofs.Invariant.{Setup, Quorum, Began, Touched, Entries, Rests, Crowds, Promise, Invariant}
-use Rattle.history.proofs.Growth.{still, good-more}
+use Rattle.history.proofs.Group.Below.{at-least-map}
+use Rattle.history.proofs.Group.Cells.{commit-abort}
+use Rattle.history.proofs.Group.Entries.{Cells, Fact, Fact.gaveResult, Fact.declaredFinal, Fact.proposed, Fact.finalised, Fact.promised, Fact.bodySent, Fact.started}
+use Rattle.history.proofs.Group.Invariant.{Setup, Quorum, Began, Touched, Entries, Rests, Crowds, Promise, Invariant}
+use Rattle.history.proofs.Group.Growth.{still, good-more}
 
 -- what a new fact has to meet, kind by kind
 abbrev pub Duty : Setup → List Fact → Entries → Fact → Type 0

@@ -19,8 +19,8 @@ use Rattle.rules.proofs.Lists.{_∈_, every-one}
 use Rattle.rules.proofs.Groups.{group-size}
 use Rattle.rules.proofs.Check.{clash-sym, clash-irreflexive}
 use Rattle.rules.proofs.Rows.{held-from, held-changed, held-unchanged, held-added, changedHeld}
-use Rattle.history.proofs.Entries.{Cells, Settled}
-use Rattle.history.proofs.Invariant.{Setup}
+use Rattle.history.proofs.Group.Entries.{Cells, Settled}
+use Rattle.history.proofs.Group.Invariant.{Setup}
 
 -- all that is asked of the check for message 1: an OK clashes with no accepted row
 abbrev pub Clear : Check → Type 0
