@@ -20,3 +20,8 @@ pub mod Gathered
 pub mod Follows
 pub mod Arrivals
 pub mod Coordinators
+pub mod SameTables
+pub mod RuleTests
+pub mod Computing
+pub mod FiveBoxes
+pub mod Bent

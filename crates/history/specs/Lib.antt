@@ -1,1 +1,4 @@
 pub mod Survival
+pub mod Histories
+pub mod FiveBoxes
+pub mod Bent
