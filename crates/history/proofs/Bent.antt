@@ -20,7 +20,7 @@ use Rattle.history.specs.Histories.{row, image, tablesAt, heldIn, heldIn
 use Rattle.history.specs.Bent.{reader, writer, Bent, until, since, atEnd, LawfulBut, Breaks, twoResults, commitToOldView, twoAcceptances, bentCheck, abortFrees, bentMerge, bothOK, promised, agreedUnchecked}
 use Rattle.history.proofs.Arrivals.{at-in}
 use Rattle.history.proofs.SameTables.{samePrepare, prepare-same}
-use Rattle.history.proofs.RuleTests.{one-body, never-both, before-outcome, on-fast-or-confirmed, one-table, accepted-is, lawful, lawful-is}
+use Rattle.history.proofs.RuleTests.{one-body, never-both, before-outcome, on-fast-or-confirmed, one-table, accepted-it, lawful, lawful-is}
 use Rattle.history.proofs.Computing.{computing}
 
 -- ---- a declared result that a later merge does not hold
@@ -88,7 +88,7 @@ two-acceptances-break = turned-breaks (atEnd twoAcceptances) refl
 -- message 4 is held to nothing else; one acceptance is lacking
 pub two-acceptances-lawful-but : LawfulBut twoAcceptances (Accepted (until twoAcceptances) 20 0 abort 0 × Accepted (until twoAcceptances) 20 0 abort 1)
 unfolding computing
-two-acceptances-lawful-but = lawful-but twoAcceptances refl refl (accepted-is (until twoAcceptances) 20 0 abort 0 refl, accepted-is (until twoAcceptances) 20 0 abort 1 refl)
+two-acceptances-lawful-but = lawful-but twoAcceptances refl refl (accepted-it (until twoAcceptances) 20 0 abort 0 refl, accepted-it (until twoAcceptances) 20 0 abort 1 refl)
 
 -- ---- the check bent
 
