@@ -1,6 +1,10 @@
 -- The history of five boxes is lawful; what was declared, accepted and agreed in it, what the merges are of, and what they hold.
 use mathlib.Core.Path.{_≡_, refl}
+use mathlib.Core.Bool.{true}
 use mathlib.Core.List.{[], _∷_, map}
+use lib.Dec.{eqb}
+use lib.ListN.{length}
+use Rattle.rules.specs.Tests.{every}
 use Rattle.rules.specs.Tables.{Result.OK, Result.ABORT, Result.ABSTAIN, Prepare.noPrepare, Prepare.tentative, Prepare.final, Verdict.commit, Verdict.abort, Outcome.noOutcome, Outcome.noted, Outcome.done, valley}
 use Rattle.rules.specs.Circumstances.{belowLimit}
 use Rattle.rules.specs.Check.{check}
@@ -13,6 +17,11 @@ use Rattle.history.proofs.Computing.{computing}
 pub five-boxes-lawful : Lawful valley belowLimit check (freshGroup 5) fiveBoxes
 unfolding computing
 five-boxes-lawful = lawful-is valley belowLimit check (freshGroup 5) fiveBoxes refl
+
+-- a message arrives 30 times, and no box refuses it
+pub none-refused : (length (afterFiveBoxes .answers) ≡ 30) × (every (λ a. eqb (a .reply .number) 0) (afterFiveBoxes .answers) ≡ true)
+unfolding computing
+none-refused = (refl, refl)
 
 pub declared-in-view-0 : afterFiveBoxes .declared ≡ record { stamp = 30; view = 0; result = OK } ∷ record { stamp = 10; view = 0; result = OK } ∷ []
 unfolding computing
