@@ -1,2 +1,5 @@
 pub mod Survival
 pub mod Beyond
+pub mod Histories
+pub mod FiveBoxes
+pub mod Bent
