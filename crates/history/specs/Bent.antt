@@ -116,6 +116,29 @@ twoAcceptances =
       rest = writerThenMerge 8 13;
     }
 
+-- ---- rule 6 bent in its view: "Finishing an abort in a box whose view is older than the one that noted it"
+
+abbrev pub readerKept : Table
+readerKept = image 5 1 (row 10 writer (final ABSTAIN) noOutcome ∷ row 20 reader (final OK) noOutcome ∷ [])
+
+unfoldable pub finishedInOldView : Bent
+finishedInOldView =
+    record {
+      n = 5;
+      -- stamp 20 is slow OK and final in box 0, stamp 10 is held by boxes 3 and 4. In view 1, from boxes 0, 3 and 4, stamp 10 is not OK; there three boxes accept the abort of stamp 20, which boxes 1 and 2 note in view 0
+      before = told 0 (0 ∷ 1 ∷ 2 ∷ []) (proposePrepare 20 reader)
+          ++ told 3 (0 ∷ []) (finalisePrepare 20 0 OK)
+          ++ told 4 (3 ∷ 4 ∷ []) (proposePrepare 10 writer)
+          ++ told 6 (0 ∷ 3 ∷ 4 ∷ []) (changeView 1)
+          ++ (merges 1 (11 ∷ 12 ∷ 13 ∷ []) ∷ [])
+          ++ told 9 (0 ∷ 3 ∷ 4 ∷ []) (startView 1 readerKept)
+          ++ told 12 (0 ∷ 1 ∷ 2 ∷ 3 ∷ 4 ∷ []) (proposeOutcome 20 abort reader);
+      -- message 4 names view 0, so that boxes 1 and 2 take it
+      bent = told 17 (1 ∷ 2 ∷ []) (finaliseOutcome 20 0 abort);
+      -- stamp 20 is gone there: with the old replies of boxes 3 and 4 stamp 10 has a fast count in view 0
+      rest = told 19 (1 ∷ 2 ∷ []) (proposePrepare 10 writer) ++ (declares 10 0 OK ∷ []);
+    }
+
 -- ---- the check bent: "Dropping a prepared row when abort is only noted: the abort may be lost and both clash."
 
 -- "Prepared: prepare byte 1 or 5 and outcome 0, 1 or 2.", but without the 2

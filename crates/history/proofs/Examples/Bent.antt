@@ -14,11 +14,11 @@ use Rattle.rules.specs.Check.{check, clash}
 use Rattle.rules.specs.Merge.{merge}
 use Rattle.rules.proofs.Logic.{impossible, both-left, both-right}
 use Rattle.rules.proofs.Lists.{places, any-some}
-use Rattle.history.specs.Survival.{Declared, Merged, Group, freshGroup, WasSent, WasDeclared, OneBody, OnFastOrConfirmed, NeverBoth, BeforeOutcome, Accepted, Lawful}
+use Rattle.history.specs.Survival.{Declared, Merged, Group, freshGroup, WasSent, WasDeclared, OneBody, OnFastOrConfirmed, NeverBoth, BeforeOutcome, QuorumOf, Accepted, Lawful}
 use Rattle.history.specs.Histories.{row, image, heldIn, heldInMerges}
-use Rattle.history.specs.Bent.{writer, reader, Bent, until, since, atEnd, LawfulBut, Breaks, twoResults, commitToOldView, twoAcceptances, bentCheck, abortFrees, afterAbortFrees, bentMerge, bothOK, agreedUnchecked, gathered}
+use Rattle.history.specs.Bent.{writer, reader, Bent, until, since, atEnd, LawfulBut, Breaks, twoResults, commitToOldView, twoAcceptances, finishedInOldView, bentCheck, abortFrees, afterAbortFrees, bentMerge, bothOK, agreedUnchecked, gathered}
 use Rattle.history.proofs.Examples.SameTables.{samePrepare, prepare-same}
-use Rattle.history.proofs.Examples.RuleTests.{one-body, never-both, before-outcome, on-fast-or-confirmed, one-table, accepted-it, lawful, lawful-is}
+use Rattle.history.proofs.Examples.RuleTests.{one-body, never-both, before-outcome, on-fast-or-confirmed, one-table, accepted-it, on-acceptances, lawful, lawful-is}
 use Rattle.history.proofs.Examples.Computing.{computing}
 
 -- a merge of a later view does not hold a declared result
@@ -84,6 +84,22 @@ two-acceptances-break = turned-breaks (atEnd twoAcceptances) refl
 pub two-acceptances-lawful-but : LawfulBut twoAcceptances (Accepted (until twoAcceptances) 20 0 abort 0 × Accepted (until twoAcceptances) 20 0 abort 1)
 unfolding computing
 two-acceptances-lawful-but = lawful-but twoAcceptances refl refl (accepted-it (until twoAcceptances) 20 0 abort 0 refl, accepted-it (until twoAcceptances) 20 0 abort 1 refl)
+
+-- ---- rule 6 bent in its view
+
+-- the declaration came after the merge
+pub finished-in-old-view : (atEnd finishedInOldView .declared ≡ record { stamp = 10; view = 0; result = OK } ∷ []) × (heldInMerges (atEnd finishedInOldView) 10 ≡ (1, final ABSTAIN, noOutcome) ∷ [])
+unfolding computing
+finished-in-old-view = (refl, refl)
+
+pub finished-in-old-view-breaks : Breaks (atEnd finishedInOldView)
+unfolding computing turned someTurned
+finished-in-old-view-breaks = turned-breaks (atEnd finishedInOldView) refl
+
+-- f+1 boxes did accept the abort, in view 1
+pub finished-in-old-view-lawful-but : LawfulBut finishedInOldView (QuorumOf (until finishedInOldView) (Accepted (until finishedInOldView) 20 1 abort))
+unfolding computing
+finished-in-old-view-lawful-but = lawful-but finishedInOldView refl refl (on-acceptances (until finishedInOldView) 20 1 abort refl)
 
 -- ---- the check bent
 
