@@ -3,10 +3,11 @@
 use house::{cited, crates, files, stands, text, top};
 use std::process::Command;
 
-const PAPERS: [&str; 4] = [
+const PAPERS: [&str; 5] = [
     "README.md",
     "docs/CLAIMS.md",
     "docs/DECISIONS.md",
+    "docs/PROOF.md",
     "docs/ROADMAP.md",
 ];
 
