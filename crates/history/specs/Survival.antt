@@ -184,6 +184,13 @@ module _ (G : Group) where
   abbrev pub Accepted : ℕ → ℕ → Verdict → ℕ → Type 0
   Accepted s v o b = (x : Body) × (p : Reply) × Gave b (proposeOutcome s o x) p × (p .view ≡ v)
 
+  -- a commit proposed to box b
+  abbrev pub CommitAfterOK : ℕ → ℕ → Verdict → Type 0
+  CommitAfterOK b s o = o ≡ commit → (u : ℕ) × WasDeclared s u OK × ((m : Message) × (p : Reply) × Gave b m p × (u ≤ p .view))
+
+  abbrev pub NeverBoth : ℕ → Verdict → Type 0
+  NeverBoth s o = (u : Verdict) (x : Body) → WasSent (proposeOutcome s u x) → u ≡ o
+
   -- ---- the seven rules, each over all that was sent, answered and declared before
 
   -- rule 1: "one stamp, one body"
@@ -203,11 +210,8 @@ module _ (G : Group) where
   OnFastOrConfirmed s v r = ((hs : List Heard) × Replies s v hs × (counted (G .n) hs ≡ fast r)) ⊎ QuorumOf (Confirmed s v r)
 
   -- rule 5: "commit only after OK was declared final, and proposed only to a box that has already given an answer numbered 0 in the view of that declaration or a later one; never both outcomes"
-  abbrev pub CommitAfterOK : ℕ → ℕ → Verdict → Type 0
-  CommitAfterOK b s o = o ≡ commit → (u : ℕ) × WasDeclared s u OK × ((m : Message) × (p : Reply) × Gave b m p × (u ≤ p .view))
-
-  abbrev pub NeverBoth : ℕ → Verdict → Type 0
-  NeverBoth s o = (u : Verdict) (x : Body) → WasSent (proposeOutcome s u x) → u ≡ o
+  abbrev pub OutcomeByRule : ℕ → ℕ → Verdict → Type 0
+  OutcomeByRule b s o = CommitAfterOK b s o × NeverBoth s o
 
   -- rule 6: "message 4 names a view in which f+1 different boxes have accepted message 3 (number 0) with that outcome"
   abbrev pub OnAcceptances : ℕ → ℕ → Verdict → Type 0
@@ -226,7 +230,7 @@ module _ (G : Group) where
   abbrev pub MaySend : ℕ → Message → Type 0
   MaySend b (proposePrepare s x) = OneBody s x
   MaySend b (finalisePrepare s v r) = OneResult s v r × OnAnAnswer s v r × BeforeOutcome s
-  MaySend b (proposeOutcome s o x) = OneBody s x × CommitAfterOK b s o × NeverBoth s o
+  MaySend b (proposeOutcome s o x) = OneBody s x × OutcomeByRule b s o
   MaySend b (finaliseOutcome s v o) = OnAcceptances s v o
   MaySend b (changeView v) = Unit {0}
   MaySend b (startView v I) = TheMerged v I

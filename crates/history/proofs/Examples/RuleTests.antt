@@ -363,7 +363,7 @@ module _ (G : Group) where
       (one-result s v r (both-left _ _ h), on-an-answer s v r (both-left _ _ k), before-outcome s (both-right (onAnAnswer s v r) _ k))
   may-send b (proposeOutcome s o x) h =
       let k = both-right (oneBody s x) _ h in
-      (one-body s x (both-left _ _ h), commit-after-ok b s o (both-left _ _ k), never-both s o (both-right (commitAfterOK b s o) _ k))
+      (one-body s x (both-left _ _ h), (commit-after-ok b s o (both-left _ _ k), never-both s o (both-right (commitAfterOK b s o) _ k)))
   may-send b (finaliseOutcome s v o) h = on-acceptances s v o h
   may-send b (changeView v) h = tt
   may-send b (startView v I) h = the-merged v I h

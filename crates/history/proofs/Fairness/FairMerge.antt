@@ -6,11 +6,10 @@ use mathlib.Core.Option.{Option, none, some}
 use mathlib.Core.List.{List, [], _∷_, List·Memᴰ·head, List·Memᴰ·not-nil, Memᴰ·map, Memᴰ·of-map}
 use Prim.Native.Nat.{ℕ, _<_}
 use native.Mathlib.Omega.{arith}
-use Rattle.rules.specs.Tests.{both, any, every}
+use Rattle.rules.specs.Tests.{both, any}
 use Rattle.rules.specs.Groups.{fOf, agreementCount}
 use Rattle.rules.specs.Tables.{Result, Result.OK, Result.ABORT, Result.ABSTAIN, Result.RETRY, Prepare.noPrepare, Prepare.final, Verdict, Verdict.commit, Outcome, Outcome.noOutcome, Outcome.done, somethingHeld, Row, Table, Model}
 use Rattle.rules.specs.Messages.{held, prepareOf, outcomeOf}
-use Rattle.rules.specs.Circumstances.{settled}
 use Rattle.rules.specs.Check.{check, accepted}
 use Rattle.rules.specs.Merge.{used, stamps, rowsOf, holdsVerdict, mergedOutcome, Standing.hasAgreed, standing, agreedPrepare, bodyOf, uncheckedRow, isSettled, amongAgreed, mergedRows, groupOf, mergedTable, contradictory, merge}
 use Rattle.rules.proofs.Logic.{impossible, none-some}
@@ -20,7 +19,6 @@ use Rattle.rules.proofs.Stamps.{stamps-rising, stamps-from, in-stamps, rows-fro
 use Rattle.rules.proofs.Used.{merge-is, merge-right, merge-clear}
 use Rattle.rules.proofs.Standings.{NoneOrDone, outcome-cases}
 use Rattle.rules.proofs.Votes.{merge-agreed-once}
-use Rattle.rules.proofs.Settled.{merged-settled}
 use Rattle.rules.proofs.Merge.{merged-stamps, rising-held, stampsOf}
 use Rattle.history.proofs.Fairness.Fair.{NoFinal, Agreed, Fixed, ClashesWith, Fair}
 use Rattle.history.proofs.Fairness.OneStamp.{outcome-from, outcome-done, stands-final, agreed-by, stands-agreed, agreed-is, waiting-empty, agreed-waits, unchecked-accepted}
@@ -211,10 +209,3 @@ unfolding mergedTable
 merge-fair M v Ts U h =
     let (d, e) = merge-is M check v Ts U h in
     rw e (fair (agreementCount (fOf (groupOf Ts))) (used Ts) (omega arith) (merge-clear M v Ts d) (merge-agreed-once v Ts (merge-right M v Ts d)))
-
--- nothing is noted, and nothing tentative
-pub merge-settled : (M : Model) (v : ℕ) (Ts : List Table) (U : Table) → merge M check v Ts ≡ some U → every settled (U .rows) ≡ true
-unfolding mergedTable
-merge-settled M v Ts U h =
-    let (d, e) = merge-is M check v Ts U h in
-    rw e (merged-settled check (agreementCount (fOf (groupOf Ts))) (used Ts))

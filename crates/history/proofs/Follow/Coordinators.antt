@@ -180,7 +180,7 @@ module _ (W : World) (G : Group) (s : State) (k : Sound (setup W) s) (F : Follow
       with-one b (proposePrepare t y) named (bodySent t) (body-keeps (setup W) s k t) (List·Memᴰ·head refl) (proposePrepare t y, was-sent b (proposePrepare t y) named, inl (ap (proposePrepare t) named))
   send-followed b (finalisePrepare t v r) (one, answer, free) named =
       with-one b (finalisePrepare t v r) named (gaveResult t v r) (send-keeps (setup W) s k t v r (may-give t v r one free) (counted-ok t v r answer)) (List·Memᴰ·head refl) (inl (was-sent b (finalisePrepare t v r) named))
-  send-followed b (proposeOutcome t o y) (one, after, never) named = outcome-followed b t o y named after never
+  send-followed b (proposeOutcome t o y) (one, (after, never)) named = outcome-followed b t o y named after never
   send-followed b (finaliseOutcome t v o) may named =
       with-one b (finaliseOutcome t v o) named (finalised t v o) (finish-keeps (setup W) s k t v o (accepted-crowd t v o may)) (List·Memᴰ·head refl) tt
   send-followed b (changeView v) may named = with-none b (changeView v) named tt

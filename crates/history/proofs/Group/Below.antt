@@ -1,7 +1,7 @@
 -- Boxes below n, counted by a test: two tests that pass often enough pass at a common box; a list of different boxes counts the same.
 use mathlib.Core.Path.{_≡_, refl, ap, subst, _∙_}
 use mathlib.Core.Bool.{Bool, true, false}
-use mathlib.Core.Logic.{_⊎_, inl, inr, _≢_}
+use mathlib.Core.Logic.{_⊎_, inl, inr}
 use mathlib.Core.List.{List, [], _∷_, List·Memᴰ·head, List·Memᴰ·tail}
 use Prim.Native.Nat.{ℕ, zero, suc, _+_, _≤_, _<_}
 use native.Mathlib.Omega.{arith}
@@ -30,9 +30,6 @@ module _ (P : ℕ → Type 0) (step : (n : ℕ) → ((m : ℕ) → m < n → P m
 
   pub strong : (n : ℕ) → P n
   strong n = below (suc n) n (omega arith)
-
-pub eqb-diff : (m n : ℕ) → eqb m n ≡ false → m ≢ n
-eqb-diff m n e p = eqb-false m n e p
 
 -- a search through the boxes below n: one that has P, or all have Q
 pub search-below : (n : ℕ) (P Q : ℕ → Type 0) → ((b : ℕ) → P b ⊎ Q b) → ((b : ℕ) × (b < n) × P b) ⊎ ((b : ℕ) → b < n → Q b)
