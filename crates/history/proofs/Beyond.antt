@@ -1,4 +1,4 @@
--- A view change that reaches f+1 boxes goes through, short of a full table: no merge is refused with 5 or 6.
+-- No merge is refused with 5 or 6, and every start-view message that was sent is a good one.
 use mathlib.Core.Path.{_≡_, refl, sym, ap, _∙_}
 use mathlib.Core.Bool.{true, false, not}
 use mathlib.Core.Logic.{_⊎_, inl, inr}

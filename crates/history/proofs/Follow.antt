@@ -1,5 +1,4 @@
 -- The history of the boxes, over the rules' own answer, merge and count, followed by the abstract group event by event.
-pub mod Taken
 pub mod World
 pub mod Boxes
 pub mod Answering

@@ -29,7 +29,7 @@ module _ (W : World) (G : Group) (s : State) (k : Sound (setup W) s) (F : Follow
   kept-in : (m : Merged) → m ∈ G .merged → KeptIn (setup W) (s .facts) (s .entry) (m .view) (cellsIn (m .table .rows))
   kept-in m i = any-merge (setup W) (s .facts) (s .entry) (k .invariant) (m .view) (cellsIn (m .table .rows)) (F .merged m i .grounded .0)
 
-  -- a write of t between a version that s read and s
+  -- no write of t lies between a version that a read and a
   no-clash : (a t : ℕ) (x y : Body) → WasSent G (proposeOutcome a commit x) → WasSent G (proposeOutcome t commit y) → (read write : Access) → read ∈ x .reads → write ∈ y .writes → read .register ≡ write .register → read .number < t → t < a → ⊥
   unfolding clash
   no-clash a t x y (b, i) (c, j) read write m n e l h =

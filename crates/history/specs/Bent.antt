@@ -12,6 +12,7 @@ use Rattle.rules.specs.Circumstances.{belowLimit}
 use Rattle.rules.specs.Check.{committed, ruleA, ruleB, retryStamp, check}
 use Rattle.rules.specs.Merge.{used, groupOf, amongAgreed, amongOpen, toCheck, uncheckedRows, checkedInTurn}
 use Rattle.history.specs.Survival.{Group, freshGroup, Event, Event.sends, Event.arrives, Event.declares, Event.merges, after, Lawful, Survival}
+use Rattle.history.specs.FiveBoxes.{afterFiveBoxes}
 use Rattle.history.specs.Histories.{reads, writes, row, image, told, tablesAt}
 
 -- stamp 10
@@ -199,3 +200,18 @@ agreedUnchecked =
 -- the tables that boxes 0, 1 and 2 had after their promises
 abbrev pub gathered : List Table
 gathered = tablesAt (until agreedUnchecked) (11 ∷ 12 ∷ 13 ∷ [])
+
+-- ---- a merge that is empty
+
+-- the group of the lawful history, as if its merge for view 1 held nothing
+abbrev pub emptied : Group
+emptied =
+    record {
+      n = afterFiveBoxes .n;
+      table = afterFiveBoxes .table;
+      had = afterFiveBoxes .had;
+      sent = afterFiveBoxes .sent;
+      answers = afterFiveBoxes .answers;
+      declared = afterFiveBoxes .declared;
+      merged = record { view = 1; table = image 5 1 []; sentByThen = afterFiveBoxes .sent } ∷ [];
+    }

@@ -1,4 +1,4 @@
--- Beyond demand 3: a view change that reaches f+1 boxes goes through, short of a full table.
+-- Beyond demand 3: no merge is refused with 5 or 6, and every start-view message that was sent is a good one.
 use mathlib.Core.Path.{_≡_}
 use mathlib.Core.Bool.{true}
 use mathlib.Core.Logic.{_⊎_}

@@ -1,5 +1,6 @@
 -- A lawful history of a group of five boxes, f = 2, from fresh: two declarations, an abort, a commit, and merges for views 1 and 2 over different boxes.
 use mathlib.Core.List.{List, [], _∷_, _++_}
+use Prim.Native.Nat.{ℕ}
 use Rattle.rules.specs.Stamps.{Body}
 use Rattle.rules.specs.Tables.{Result.OK, Result.ABORT, Result.ABSTAIN, Prepare.final, Verdict.commit, Verdict.abort, Outcome.noOutcome, Outcome.done, Table, valley}
 use Rattle.rules.specs.Messages.{Message.proposePrepare, Message.finalisePrepare, Message.proposeOutcome, Message.finaliseOutcome, Message.changeView, Message.startView}
@@ -66,6 +67,10 @@ fiveBoxes =
 
 abbrev pub afterFiveBoxes : Group
 afterFiveBoxes = after valley belowLimit check (freshGroup 5) fiveBoxes
+
+-- all that was proposed, by stamp and body
+abbrev pub transactions : List (ℕ × Body)
+transactions = (10, declaredSlow) ∷ (20, agreedOnly) ∷ (30, declaredFast) ∷ (40, aborted) ∷ []
 
 -- what the two merges are of
 abbrev pub gatheredForView1 : List Table

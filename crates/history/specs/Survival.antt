@@ -106,7 +106,7 @@ declaring G d = record { n = G .n; table = G .table; had = G .had; sent = G .sen
 abbrev pub merging : Group → Merged → Group
 merging G m = record { n = G .n; table = G .table; had = G .had; sent = G .sent; answers = G .answers; declared = G .declared; merged = G .merged ++ (m ∷ []) }
 
--- for boxes of any row limit, by any rule of room, with any check for message 1; the merge has the rules' own
+-- for boxes of any row limit and by any rule of room. Message 1 is answered by a check that is given, `survival` gives it the rules' own; the merge has that one always
 module _ (M : Model) (room : Room) (proposals : Check) where
   -- a box of the group answers by the rules; there is no other box
   abbrev pub arriving : Group → Option Sent → Group
@@ -162,7 +162,7 @@ module _ (G : Group) where
   abbrev pub QuorumOf : (ℕ → Type 0) → Type 0
   QuorumOf P = DifferentBoxes (quorum (fOf (G .n))) P
 
-  -- what the count is told of box b is a reply of view v that b has given for the prepare of stamp s, by its prepare byte and retry stamp
+  -- what the count is told of a box is a reply of view v that the box has given for the prepare of stamp s, by its prepare byte and retry stamp
   pub record Replied (s v : ℕ) (h : Heard) : Type 0 where
     pub message : Message
     pub reply : Reply
@@ -197,7 +197,7 @@ module _ (G : Group) where
   abbrev pub OneBody : ℕ → Body → Type 0
   OneBody s x = (m : Message) (y : Body) → WasSent m → Carries s y m → y ≡ x
 
-  -- rule 2: "one coordinator per stamp, and one result per stamp and view, sent or declared". One coordinator: whatever is asked here of a stamp is asked of all that was sent and heard for it
+  -- rule 2: "one coordinator per stamp, and one result per stamp and view, sent or declared". One coordinator: what was sent and answered for a stamp is taken together, whoever sent it
   abbrev pub OneResult : ℕ → ℕ → Result → Type 0
   OneResult s v r = ((q : Result) → WasSent (finalisePrepare s v q) → q ≡ r) × ((q : Result) → WasDeclared s v q → q ≡ r)
 
@@ -221,7 +221,8 @@ module _ (G : Group) where
   abbrev pub BeforeOutcome : ℕ → Type 0
   BeforeOutcome s = (o : Verdict) (x : Body) → WasSent (proposeOutcome s o x) → ⊥
 
-  -- and one merged table is sent for a view: a merge of tables that boxes have had, and no other
+  -- ---- and, which is no rule of the seven: message 6 carries a merge for its view, of tables that boxes have had, and for a view one table is sent
+
   abbrev pub TheMerged : ℕ → Table → Type 0
   TheMerged v I = ((m : Merged) × (m ∈ G .merged) × (m .view ≡ v) × (m .table ≡ I)) × ((J : Table) → WasSent (startView v J) → J ≡ I)
 

@@ -8,6 +8,7 @@ pub mod Check
 pub mod Rows
 pub mod Tables
 pub mod Answers
+pub mod Taken
 pub mod Stamps
 pub mod Used
 pub mod Standings

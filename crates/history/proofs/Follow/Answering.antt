@@ -18,7 +18,7 @@ use Rattle.rules.proofs.Lists.{_∈_}
 use Rattle.history.proofs.Group.Cells.{Holds}
 use Rattle.history.proofs.Group.Entries.{Fact.gaveResult, Fact.finalised, Fact.bodySent, Said, Said.said, Entry, Act, Act.addRow, Act.fillRow, Act.makeFinal, Act.noteOutcome, Act.finishOutcome, Act.answerResult, Act.acceptOutcome, apply, Can, asPrepare, Proposed}
 use Rattle.history.proofs.Group.Acts.{State, Sound, Passed, acting, act-keeps}
-use Rattle.history.proofs.Follow.Taken.{RowHeld, HasVerdict}
+use Rattle.rules.proofs.Taken.{RowHeld, HasVerdict}
 use Rattle.history.proofs.Follow.World.{World, setup, Looks, looks-changed, looks-added, looks-same, kept-value}
 use Rattle.history.proofs.Follow.Boxes.{Owned, owned-changed, owned-added, BoxIs, normal-promise, not-changing, Onward, onward-stay, onward-then, act-onward, acted, act-box, check-passed}
 

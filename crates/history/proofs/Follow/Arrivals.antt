@@ -16,7 +16,7 @@ use Rattle.rules.proofs.Logic.{none-some, cases}
 use Rattle.rules.proofs.Lists.{_∈_, all-from}
 use Rattle.history.specs.Survival.{Sent, Group, at, answering, arriving}
 use Rattle.history.proofs.Group.Acts.{State, Sound}
-use Rattle.history.proofs.Follow.Taken.{taken-1, taken-2, taken-3, taken-4, taken-5, taken-6}
+use Rattle.rules.proofs.Taken.{taken-1, taken-2, taken-3, taken-4, taken-5, taken-6}
 use Rattle.history.proofs.Follow.World.{World, setup}
 use Rattle.history.proofs.Follow.Boxes.{onward-stay}
 use Rattle.history.proofs.Follow.Answering.{TakenAs, taken-prepare, taken-final, taken-outcome, taken-finish}
@@ -33,7 +33,7 @@ at-in (y ∷ ys) (suc i) x e = List·Memᴰ·tail (at-in ys i x e)
 pub chosen-in : {A : Type 0} (xs : List A) (places : List ℕ) (x : A) → x ∈ allOf (at xs) places → x ∈ xs
 chosen-in xs places x m = let (i, j, e) = all-from (at xs) places x m in at-in xs i x e
 
--- a state of the abstract group that a group of the history follows
+-- a state of the abstract group that follows a group of the history
 abbrev pub Followed : World → Group → Type 0
 Followed W G = (s : State) × Sound (setup W) s × Follows W G s
 

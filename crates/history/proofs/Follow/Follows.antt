@@ -49,7 +49,7 @@ Backed W s b (changeView v) = Unit {0}
 Backed W s b (startView v I) = Grounded W s v I
 Backed W s b (readRegister t k) = Unit {0}
 
--- a coordinator's fact comes from what was sent or declared
+-- a result, an outcome or a body that counts as given comes from what was sent or declared; the other facts need nothing behind them
 abbrev pub Back : World → Group → Fact → Type 0
 Back W G (gaveResult t v r) = WasSent G (finalisePrepare t v r) ⊎ WasDeclared G t v r
 Back W G (declaredFinal t v r) = Unit {0}
@@ -238,7 +238,7 @@ module _ (W : World) (G : Group) (s : State) (more : List Fact) (up : (φ : Fact
       let i = F .boxes b in
       record { box = i .box; group = i .group; view = i .view; promise = i .promise; mode = i .mode; prepare = i .prepare; outcome = i .outcome; owned = owned-wider W up (G .table b .rows) (i .owned); handed = λ e. up _ (i .handed e) }
 
-  -- what is true of G stays so with these facts, for any group H that has no other boxes, answers or merges
+  -- what is true of G stays so with these facts, and with one message or declaration more
   pub known-sent : (x : Sent) → Backed W (knowing s more) (x .box) (x .message) → Named W (x .message) → ((φ : Fact) → φ ∈ more → (φ ∈ s .facts) ⊎ Back W (sending G x) φ) → Follows W (sending G x) (knowing s more)
   known-sent x back named new =
       record {

@@ -27,7 +27,7 @@ pub data Fact : Type 0 where
   finalised : (t w : ℕ) (v : Verdict) → Fact  -- message 4 was sent
   promised : (b v x : ℕ) (cells : Cells) → Fact  -- box b promised view v, with last normal view x and this table
   bodySent : (t : ℕ) → Fact  -- message 1 or 3 was sent for t
-  started : (v : ℕ) → Fact  -- the table of view v was sent
+  started : (v : ℕ) → Fact  -- a box took the table of view v
 
 -- a result that a box answered, and whether it was final
 pub data Said : Type 0 where
@@ -44,7 +44,7 @@ pub record Entry : Type 0 where
 abbrev pub Proposed : List Fact → ℕ → ℕ → Verdict → Type 0
 Proposed G t w o = (proposed t o ∈ G) × (o ≡ commit → (u : ℕ) × (u ≤ w) × (declaredFinal t u OK ∈ G))
 
--- what a box does at one stamp; a message is one or two of these
+-- what a box does at one stamp; of messages 1 to 4 one that is taken is at most two of these
 pub data Act : Type 0 where
   addRow : Result → Act  -- message 1, a new row with the check's result
   fillRow : Verdict → Act  -- message 1, where only an outcome is held
@@ -90,7 +90,7 @@ pub record Good (G : List Fact) (w t : ℕ) (c : Cell) (e : Entry) : Type 0 wher
   -- a tentative result is new in this view
   pub tentativeNew : (r : Result) → e .prepare ≡ tentative r → c .prepare ≡ noPrepare
   pub tentativeFrom : e .prepare ≡ tentative OK → OKReason (e .checked) (e .outcome)
-  -- what was answered still stands, whatever came after the answer
+  -- what was answered final or accepted still stands; what was answered tentative stands or is final since
   pub answerFinal : (r : Result) → said r true ∈ e .answers → e .prepare ≡ final r
   pub answerTentative : (r : Result) → said r false ∈ e .answers → (c .prepare ≡ noPrepare) × Stands r (e .prepare)
   pub answerOK : said OK false ∈ e .answers → OKReason (e .checked) (e .outcome)

@@ -205,7 +205,7 @@ module _ (X : Setup) (G : List Fact) (entries : Entries) where
       aborted-kept kw t (inl e) = held-kept (m .top .0) t abort top-used (inr (i .good (m .top .0) (m .w) t .doneStays abort e))
       aborted-kept kw t (inr q) = outcomes-kept kw t (m .w) abort (m .before) q
 
-      -- an outcome, or a final OK, in a used table
+      -- a commit in the merge, or a final OK in a used table
       sure-of-fixed : Kept (m .w) → (t : ℕ) → FixedAt X U (m .tables) M t → Sure (m .w) t
       sure-of-fixed kw t (inl (b, h, e)) = sure-of-final b (m .w) t (rw (← table-prepare b t h) e)
       sure-of-fixed kw t (inr e) =

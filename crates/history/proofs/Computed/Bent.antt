@@ -16,10 +16,10 @@ use Rattle.rules.proofs.Logic.{impossible, both-left, both-right}
 use Rattle.rules.proofs.Lists.{places, any-some}
 use Rattle.history.specs.Survival.{Declared, Merged, Group, freshGroup, WasSent, WasDeclared, OneBody, OnFastOrConfirmed, NeverBoth, BeforeOutcome, QuorumOf, Accepted, Lawful}
 use Rattle.history.specs.Histories.{row, image, heldIn, heldInMerges}
-use Rattle.history.specs.Bent.{writer, reader, Bent, until, since, atEnd, LawfulBut, Breaks, twoResults, commitToOldView, twoAcceptances, finishedInOldView, bentCheck, abortFrees, afterAbortFrees, bentMerge, bothOK, agreedUnchecked, gathered}
-use Rattle.history.proofs.Examples.SameTables.{samePrepare, prepare-same}
-use Rattle.history.proofs.Examples.RuleTests.{one-body, never-both, before-outcome, on-fast-or-confirmed, one-table, accepted-it, on-acceptances, lawful, lawful-is}
-use Rattle.history.proofs.Examples.Computing.{computing}
+use Rattle.history.specs.Bent.{writer, reader, Bent, until, since, atEnd, LawfulBut, Breaks, twoResults, commitToOldView, twoAcceptances, finishedInOldView, bentCheck, abortFrees, afterAbortFrees, bentMerge, bothOK, agreedUnchecked, gathered, emptied}
+use Rattle.history.proofs.Computed.SameTables.{samePrepare, prepare-same}
+use Rattle.history.proofs.Computed.RuleTests.{one-body, never-both, before-outcome, on-fast-or-confirmed, one-table, accepted-it, on-acceptances, lawful, lawful-is}
+use Rattle.history.proofs.Computed.Computing.{computing}
 
 -- a merge of a later view does not hold a declared result
 turned : Merged → Declared → Bool
@@ -145,3 +145,10 @@ agreed-unchecked-breaks survival = survival .noClash 20 10 reader writer (0, sea
 pub agreed-unchecked-lawful-but : LawfulBut agreedUnchecked ((I : Table) → WasSent (since agreedUnchecked) (startView 1 I) → I ≡ bothOK)
 unfolding computing
 agreed-unchecked-lawful-but = lawful-but agreedUnchecked refl refl (one-table (since agreedUnchecked) 1 bothOK refl)
+
+-- ---- a merge that is empty
+
+-- what was declared is not in it
+pub empty-merge-breaks : Breaks emptied
+unfolding computing turned someTurned
+empty-merge-breaks = turned-breaks emptied refl

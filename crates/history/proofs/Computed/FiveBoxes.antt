@@ -11,10 +11,10 @@ use Rattle.rules.specs.Circumstances.{belowLimit}
 use Rattle.rules.specs.Check.{check}
 use Rattle.history.specs.Survival.{freshGroup, QuorumOf, Accepted, Lawful, Survival}
 use Rattle.history.specs.Histories.{heldIn, heldInMerges}
-use Rattle.history.specs.FiveBoxes.{fiveBoxes, afterFiveBoxes, gatheredForView1, gatheredForView2}
+use Rattle.history.specs.FiveBoxes.{fiveBoxes, afterFiveBoxes, transactions, gatheredForView1, gatheredForView2}
 use Rattle.history.proofs.Survival.{survival}
-use Rattle.history.proofs.Examples.RuleTests.{on-acceptances, lawful-is}
-use Rattle.history.proofs.Examples.Computing.{computing}
+use Rattle.history.proofs.Computed.RuleTests.{on-acceptances, lawful-is}
+use Rattle.history.proofs.Computed.Computing.{computing}
 
 pub five-boxes-lawful : Lawful valley belowLimit check (freshGroup 5) fiveBoxes
 unfolding computing
@@ -57,7 +57,7 @@ pub gathered-for-view-2 :
 unfolding computing
 gathered-for-view-2 = (refl, refl)
 
--- in both merges what was declared is final, 30 after a check and 10 without one; 20 failed its check; 40 is aborted
+-- in both merges what was declared is final: in the first 30 passed its check and 10 needed none; 20 failed its check there; 40 is aborted
 pub merges-hold :
     (heldInMerges afterFiveBoxes 10 ≡ (1, final OK, noOutcome) ∷ (2, final OK, done commit) ∷ [])
     × (heldInMerges afterFiveBoxes 20 ≡ (1, final ABSTAIN, noOutcome) ∷ (2, final ABSTAIN, noOutcome) ∷ [])
@@ -65,3 +65,8 @@ pub merges-hold :
     × (heldInMerges afterFiveBoxes 40 ≡ (1, final ABORT, done abort) ∷ (2, final ABORT, done abort) ∷ [])
 unfolding computing
 merges-hold = (refl, refl, refl, refl)
+
+-- and they hold no other row: each has the four transactions, with their bodies
+pub merges-hold-no-more : map (λ m. map (λ r. (r .stamp, r .body)) (m .table .rows)) (afterFiveBoxes .merged) ≡ transactions ∷ transactions ∷ []
+unfolding computing
+merges-hold-no-more = refl
