@@ -1,6 +1,6 @@
 -- What a message that was taken says of the table that took it, message by message.
 use mathlib.Core.Path.{_≡_, refl, sym, ap, _∙_}
-use mathlib.Core.Bool.{true, false, not}
+use mathlib.Core.Bool.{Bool, true, false, not}
 use mathlib.Core.Logic.{_⊎_, inl, inr}
 use mathlib.Core.Option.{Option, none, some}
 use Prim.Native.Nat.{ℕ, _≤_, _<_}
@@ -38,9 +38,11 @@ module _ (M : Model) (room : Room) (T : Table) where
   normal-if : (m : Message) → answerNumber M room T m ≡ 0 → (changing, isChanging T) ∈ circumstances M room T m → isChanging T ≡ false
   normal-if m h i = met-none M room T m h changing (isChanging T) (search places depth 11) i
 
-  view-if : (m : Message) (v : ℕ) → answerNumber M room T m ≡ 0 → (otherView, forOtherView T v) ∈ circumstances M room T m → v ≡ T .view
+  -- a message that finalises is for the box's view, and what it finalises is held and no other
+  finalises : (m : Message) (v : ℕ) (lacking opposed : Bool) → answerNumber M room T m ≡ 0 → (changing, isChanging T) ∈ circumstances M room T m → (otherView, forOtherView T v) ∈ circumstances M room T m → (unknown, lacking) ∈ circumstances M room T m → (contradiction, opposed) ∈ circumstances M room T m → (isChanging T ≡ false) × (v ≡ T .view) × (lacking ≡ false) × (opposed ≡ false)
   unfolding forOtherView
-  view-if m v h i = eqb-true v (T .view) (not-false _ (met-none M room T m h otherView (not (eqb v (T .view))) (search places depth 11) i))
+  finalises m v lacking opposed h a b c d =
+      (normal-if m h a, eqb-true v (T .view) (not-false _ (met-none M room T m h otherView (not (eqb v (T .view))) (search places depth 11) b)), met-none M room T m h unknown lacking (search places depth 11) c, met-none M room T m h contradiction opposed (search places depth 11) d)
 
   pub taken-1 : (s : ℕ) (x : Body) → answerNumber M room T (proposePrepare s x) ≡ 0 → isChanging T ≡ false
   unfolding circumstances furtherCircumstances
@@ -48,15 +50,10 @@ module _ (M : Model) (room : Room) (T : Table) where
 
   pub taken-2 : (s v : ℕ) (r : Result) → answerNumber M room T (finalisePrepare s v r) ≡ 0 → (isChanging T ≡ false) × (v ≡ T .view) × RowHeld T s (λ q. ((p : Result) × (q .prepare ≡ tentative p)) ⊎ (q .prepare ≡ final r))
   unfolding circumstances furtherCircumstances forOtherView prepareNotHeld heldUnequalFinal
-  taken-2 s v r h = (
-    normal-if m h (search places),
-    eqb-true v (T .view) (not-false _ (met-none M room T m h otherView (not (eqb v (T .view))) (search places depth 11) (search places))),
-    go (held (T .rows) s) refl (met-none M room T m h unknown _ (search places depth 11) (search places)) (met-none M room T m h contradiction _ (search places depth 11) (search places)),
-  )
+  taken-2 s v r h =
+      let (n, e, k, l) = finalises (finalisePrepare s v r) v (prepareNotHeld T s) (heldUnequalFinal T s r) h (search places) (search places) (search places) (search places) in
+      (n, e, go (held (T .rows) s) refl k l)
     where
-      m : Message
-      m = finalisePrepare s v r
-
       at : (q : Row) → held (T .rows) s ≡ some q → (p : Prepare) → q .prepare ≡ p → eqb (prepareCode p) 0 ≡ false → unequalFinal r p ≡ false → RowHeld T s (λ q. ((p : Result) × (q .prepare ≡ tentative p)) ⊎ (q .prepare ≡ final r))
       at q e noPrepare i k l = impossible refl k
       at q e (tentative p) i k l = (q, e, inl (p, i))
@@ -79,15 +76,10 @@ module _ (M : Model) (room : Room) (T : Table) where
 
   pub taken-4 : (s v : ℕ) (o : Verdict) → answerNumber M room T (finaliseOutcome s v o) ≡ 0 → (isChanging T ≡ false) × (v ≡ T .view) × RowHeld T s (HasVerdict o)
   unfolding circumstances furtherCircumstances forOtherView outcomeNotHeld heldOppositeOutcome
-  taken-4 s v o h = (
-    normal-if m h (search places),
-    eqb-true v (T .view) (not-false _ (met-none M room T m h otherView (not (eqb v (T .view))) (search places depth 11) (search places))),
-    go (held (T .rows) s) refl (met-none M room T m h unknown _ (search places depth 11) (search places)) (met-none M room T m h contradiction _ (search places depth 11) (search places)),
-  )
+  taken-4 s v o h =
+      let (n, e, k, l) = finalises (finaliseOutcome s v o) v (outcomeNotHeld T s) (heldOppositeOutcome T s o) h (search places) (search places) (search places) (search places) in
+      (n, e, go (held (T .rows) s) refl k l)
     where
-      m : Message
-      m = finaliseOutcome s v o
-
       at : (q : Row) → held (T .rows) s ≡ some q → eqb (outcomeCode (q .outcome)) 0 ≡ false → (q .outcome ≡ noOutcome) ⊎ HasVerdict o q → RowHeld T s (HasVerdict o)
       at q e k (inl i) = impossible (rw i refl) k
       at q e k (inr i) = (q, e, i)

@@ -1,5 +1,5 @@
 -- Tests of the seven rules on what has come to pass in a group: a history that passes them is lawful. Each test has the name of its premise in Survival, with a small letter; it may fail where the premise holds.
-use mathlib.Core.Path.{_≡_, refl, sym, ap, subst}
+use mathlib.Core.Path.{_≡_, refl, sym, ap, ap₂, subst, _∙_}
 use mathlib.Core.Bool.{Bool, true, false, not, cond}
 use mathlib.Core.Logic.{_⊎_, inl, inr}
 use mathlib.Core.List.{List, [], _∷_, Memᴰ·cast}
@@ -55,46 +55,56 @@ onMessage6 others test = byParts (λ s x. others) (λ s v r. others) (λ s o x. 
 abbrev asksPrepare : ℕ → Message → Bool
 asksPrepare s = byParts (λ t x. eqb t s) (λ t u r. eqb t s) (λ t o x. false) (λ u I. false) false
 
+-- a message that passes the tests by its kind is of one of these kinds, and its parts pass that test
+abbrev PassesBy : (ℕ → Body → Bool) → (ℕ → ℕ → Result → Bool) → (ℕ → Verdict → Body → Bool) → (ℕ → Table → Bool) → Message → Type 0
+PassesBy f g h k m =
+    ((s : ℕ) × (x : Body) × (m ≡ proposePrepare s x) × (f s x ≡ true))
+    ⊎ (((s : ℕ) × (v : ℕ) × (r : Result) × (m ≡ finalisePrepare s v r) × (g s v r ≡ true))
+    ⊎ (((s : ℕ) × (o : Verdict) × (x : Body) × (m ≡ proposeOutcome s o x) × (h s o x ≡ true)) ⊎ ((v : ℕ) × (I : Table) × (m ≡ startView v I) × (k v I ≡ true))))
+
+passes-by : (f : ℕ → Body → Bool) (g : ℕ → ℕ → Result → Bool) (h : ℕ → Verdict → Body → Bool) (k : ℕ → Table → Bool) (m : Message) → byParts f g h k false m ≡ true → PassesBy f g h k m
+passes-by f g h k (proposePrepare s x) e = inl (s, x, refl, e)
+passes-by f g h k (finalisePrepare s v r) e = inr (inl (s, v, r, refl, e))
+passes-by f g h k (proposeOutcome s o x) e = inr (inr (inl (s, o, x, refl, e)))
+passes-by f g h k (finaliseOutcome s v o) e = impossible e refl
+passes-by f g h k (changeView v) e = impossible e refl
+passes-by f g h k (startView v I) e = inr (inr (inr (v, I, refl, e)))
+passes-by f g h k (readRegister s r) e = impossible e refl
+
 asks-prepare : (s : ℕ) (m : Message) → asksPrepare s m ≡ true → AsksPrepare s m
-asks-prepare s (proposePrepare t x) h = let stamp = eqb-true t s h in inl (x, cc)
-asks-prepare s (finalisePrepare t u r) h = let stamp = eqb-true t s h in inr (u, r, cc)
-asks-prepare s (proposeOutcome t o x) h = impossible h refl
-asks-prepare s (finaliseOutcome t v o) h = impossible h refl
-asks-prepare s (changeView v) h = impossible h refl
-asks-prepare s (startView v I) h = impossible h refl
-asks-prepare s (readRegister t k) h = impossible h refl
+asks-prepare s m h = go (passes-by (λ t x. eqb t s) (λ t u r. eqb t s) (λ t o x. false) (λ u I. false) m h)
+  where
+    go : PassesBy (λ t x. eqb t s) (λ t u r. eqb t s) (λ t o x. false) (λ u I. false) m → AsksPrepare s m
+    go (inl (t, x, e, k)) = inl (x, e ∙ ap (λ (u : ℕ). proposePrepare u x) (eqb-true t s k))
+    go (inr (inl (t, u, r, e, k))) = inr (u, r, e ∙ ap (λ (w : ℕ). finalisePrepare w u r) (eqb-true t s k))
+    go (inr (inr (inl (t, o, x, e, k)))) = impossible k refl
+    go (inr (inr (inr (v, I, e, k)))) = impossible k refl
 
 -- message 2 for this stamp with this result
 abbrev finalises : ℕ → Result → Message → Bool
 finalises s r = onMessage2 false (λ t u q. both (eqb t s) (sameResult q r))
 
 finalises-it : (s : ℕ) (r : Result) (m : Message) → finalises s r m ≡ true → (u : ℕ) × (m ≡ finalisePrepare s u r)
-finalises-it s r (finalisePrepare t u q) h =
-    let stamp = eqb-true t s (both-left _ _ h) in
-    let result = same-result q r (both-right (eqb t s) _ h) in
-    (u, cc)
-finalises-it s r (proposePrepare t x) h = impossible h refl
-finalises-it s r (proposeOutcome t o x) h = impossible h refl
-finalises-it s r (finaliseOutcome t v o) h = impossible h refl
-finalises-it s r (changeView v) h = impossible h refl
-finalises-it s r (startView v I) h = impossible h refl
-finalises-it s r (readRegister t k) h = impossible h refl
+finalises-it s r m h = go (passes-by (λ t x. false) (λ t u q. both (eqb t s) (sameResult q r)) (λ t o x. false) (λ v I. false) m h)
+  where
+    go : PassesBy (λ t x. false) (λ t u q. both (eqb t s) (sameResult q r)) (λ t o x. false) (λ v I. false) m → (u : ℕ) × (m ≡ finalisePrepare s u r)
+    go (inl (t, x, e, k)) = impossible k refl
+    go (inr (inl (t, u, q, e, k))) = (u, e ∙ ap₂ (λ (a : ℕ) (c : Result). finalisePrepare a u c) (eqb-true t s (both-left _ _ k)) (same-result q r (both-right (eqb t s) _ k)))
+    go (inr (inr (inl (t, o, x, e, k)))) = impossible k refl
+    go (inr (inr (inr (v, I, e, k)))) = impossible k refl
 
 -- message 3 for this stamp with this outcome
 abbrev proposes : ℕ → Verdict → Message → Bool
 proposes s o = onMessage3 false (λ t u x. both (eqb t s) (eqb (verdictCode u) (verdictCode o)))
 
 proposes-it : (s : ℕ) (o : Verdict) (m : Message) → proposes s o m ≡ true → (x : Body) × (m ≡ proposeOutcome s o x)
-proposes-it s o (proposeOutcome t u x) h =
-    let stamp = eqb-true t s (both-left _ _ h) in
-    let verdict = same-verdict u o (both-right (eqb t s) _ h) in
-    (x, cc)
-proposes-it s o (proposePrepare t x) h = impossible h refl
-proposes-it s o (finalisePrepare t u r) h = impossible h refl
-proposes-it s o (finaliseOutcome t v u) h = impossible h refl
-proposes-it s o (changeView v) h = impossible h refl
-proposes-it s o (startView v I) h = impossible h refl
-proposes-it s o (readRegister t k) h = impossible h refl
+proposes-it s o m h = go (passes-by (λ t x. false) (λ t u r. false) (λ t u x. both (eqb t s) (eqb (verdictCode u) (verdictCode o))) (λ v I. false) m h)
+  where
+    go : PassesBy (λ t x. false) (λ t u r. false) (λ t u x. both (eqb t s) (eqb (verdictCode u) (verdictCode o))) (λ v I. false) m → (x : Body) × (m ≡ proposeOutcome s o x)
+    go (inl (t, x, e, k)) = impossible k refl
+    go (inr (inl (t, u, r, e, k))) = impossible k refl
+    go (inr (inr (inl (t, u, x, e, k)))) = (x, e ∙ ap₂ (λ (a : ℕ) (c : Verdict). proposeOutcome a c x) (eqb-true t s (both-left _ _ k)) (same-verdict u o (both-right (eqb t s) _ k)))
+    go (inr (inr (inr (v, I, e, k)))) = impossible k refl
 
 -- ---- answers, and what the count says of them
 

@@ -144,17 +144,17 @@ module _ (W : World) (G : Group) (s : State) (k : Sound (setup W) s) (F : Follow
 
     -- with one more fact, or with none
     with-one : (φ : Fact) → Sound (setup W) (withFact s φ) → Backed W (withFact s φ) b m → Back W H φ → Followed W H
-    with-one φ sound back mine = (withFact s φ, sound, known-sent W G s (φ ∷ s .facts) (λ ψ i. List·Memᴰ·tail i) F x back named (λ ψ i. new-fact (λ e. subst (Back W H) e mine) i))
+    with-one φ sound back mine = (withFact s φ, sound, known-sent W G s (φ ∷ s .facts) (λ ψ i. List·Memᴰ·tail i) F x (back, named) (λ ψ i. new-fact (λ e. subst (Back W H) e mine) i))
 
     with-none : Backed W s b m → Followed W H
-    with-none back = (s, k, known-sent W G s (s .facts) (λ ψ i. i) F x back named (λ ψ i. inl i))
+    with-none back = (s, k, known-sent W G s (s .facts) (λ ψ i. i) F x (back, named) (λ ψ i. inl i))
 
   -- an outcome: its body and the proposal are two facts
   outcome-followed : (b t : ℕ) (o : Verdict) (y : Body) → Named W (proposeOutcome t o y) → CommitAfterOK G b t o → NeverBoth G t o → Followed W (sending G (record { box = b; message = proposeOutcome t o y }))
   outcome-followed b t o y named after never = (
     withFact (withFact s (bodySent t)) (proposed t o),
     propose-keeps (setup W) (withFact s (bodySent t)) (body-keeps (setup W) s k t) t o (λ u i. same u (List·Memᴰ·cases-cons i)) (λ e. let (u, d, z) = after e in (u, List·Memᴰ·tail (F .declared _ d))),
-    known-sent W G s (proposed t o ∷ bodySent t ∷ s .facts) (λ φ i. List·Memᴰ·tail (List·Memᴰ·tail i)) F (x b m named) (List·Memᴰ·head refl, why, List·Memᴰ·tail (List·Memᴰ·head refl)) named new,
+    known-sent W G s (proposed t o ∷ bodySent t ∷ s .facts) (λ φ i. List·Memᴰ·tail (List·Memᴰ·tail i)) F (x b m named) ((List·Memᴰ·head refl, why, List·Memᴰ·tail (List·Memᴰ·head refl)), named) new,
   )
     where
       m : Message

@@ -233,58 +233,54 @@ module _ (W : World) (G : Group) (s : State) (more : List Fact) (up : (φ : Fact
   knowing-wider : Wider s (knowing s more)
   knowing-wider = record { facts = up; views = λ c. omega arith; answers = λ c w t a m. m; acceptances = λ c w t o m. m }
 
+  abbrev pub BackedAndNamed : Sent → Type 0
+  BackedAndNamed x = Backed W (knowing s more) (x .box) (x .message) × Named W (x .message)
+
+  abbrev pub InFacts : Declared → Type 0
+  InFacts d = declaredFinal (d .stamp) (d .view) (d .result) ∈ more
+
+  was-sent : (x : Sent) → x ∈ G .sent → BackedAndNamed x
+  was-sent x m = let (p, q) = F .sent x m in (backed-wider W s (knowing s more) knowing-wider (x .box) (x .message) p, q)
+
+  was-declared : (d : Declared) → d ∈ G .declared → InFacts d
+  was-declared d m = up _ (F .declared d m)
+
+  was-merged : (m : Merged) → m ∈ G .merged → MergedIs W (knowing s more) m
+  was-merged m i = merged-wider W s (knowing s more) knowing-wider m (F .merged m i)
+
   box-knowing : (b : ℕ) → BoxIs W (knowing s more) b (G .table b)
   box-knowing b =
       let i = F .boxes b in
       record { box = i .box; group = i .group; view = i .view; promise = i .promise; mode = i .mode; prepare = i .prepare; outcome = i .outcome; owned = owned-wider W up (G .table b .rows) (i .owned); handed = λ e. up _ (i .handed e) }
 
-  -- what is true of G stays so with these facts, and with one message or declaration more
-  pub known-sent : (x : Sent) → Backed W (knowing s more) (x .box) (x .message) → Named W (x .message) → ((φ : Fact) → φ ∈ more → (φ ∈ s .facts) ⊎ Back W (sending G x) φ) → Follows W (sending G x) (knowing s more)
-  known-sent x back named new =
-      record {
-        size = F .size;
-        boxes = box-knowing;
-        above = F .above;
-        sent = and-last (λ (y : Sent). Backed W (knowing s more) (y .box) (y .message) × Named W (y .message)) (G .sent) x (λ y m. let (p, q) = F .sent y m in (backed-wider W s (knowing s more) knowing-wider (y .box) (y .message) p, q)) (back, named);
-        answers = λ a m. answer-wider W s (knowing s more) knowing-wider a (F .answers a m);
-        declared = λ d m. up _ (F .declared d m);
-        had = λ T m. had-wider W s (knowing s more) knowing-wider T (F .had T m);
-        merged = λ m h. merged-wider W s (knowing s more) knowing-wider m (F .merged m h);
-        facts = λ φ m. from φ (new φ m);
-      }
-    where
-      from : (φ : Fact) → (φ ∈ s .facts) ⊎ Back W (sending G x) φ → Back W (sending G x) φ
-      from φ (inl m) = back-wider W G (sending G x) (λ y h. Memᴰ·append-left (x ∷ []) h) (λ d h. h) φ (F .facts φ m)
-      from φ (inr h) = h
+  -- what is true of G stays so with these facts and with longer lists of what was sent, declared and merged
+  module _ (sent : List Sent) (declared : List Declared) (merged : List Merged) where
+    abbrev longer : Group
+    longer = record { n = G .n; table = G .table; had = G .had; sent = sent; answers = G .answers; declared = declared; merged = merged }
 
-  pub known-declared : (d : Declared) → declaredFinal (d .stamp) (d .view) (d .result) ∈ more → ((φ : Fact) → φ ∈ more → (φ ∈ s .facts) ⊎ Back W (declaring G d) φ) → Follows W (declaring G d) (knowing s more)
-  known-declared d it new =
-      record {
-        size = F .size;
-        boxes = box-knowing;
-        above = F .above;
-        sent = λ y m. let (p, q) = F .sent y m in (backed-wider W s (knowing s more) knowing-wider (y .box) (y .message) p, q);
-        answers = λ a m. answer-wider W s (knowing s more) knowing-wider a (F .answers a m);
-        declared = and-last (λ (y : Declared). declaredFinal (y .stamp) (y .view) (y .result) ∈ more) (G .declared) d (λ y m. up _ (F .declared y m)) it;
-        had = λ T m. had-wider W s (knowing s more) knowing-wider T (F .had T m);
-        merged = λ m h. merged-wider W s (knowing s more) knowing-wider m (F .merged m h);
-        facts = λ φ m. from φ (new φ m);
-      }
-    where
-      from : (φ : Fact) → (φ ∈ s .facts) ⊎ Back W (declaring G d) φ → Back W (declaring G d) φ
-      from φ (inl m) = back-wider W G (declaring G d) (λ y h. h) (λ y h. Memᴰ·append-left (d ∷ []) h) φ (F .facts φ m)
-      from φ (inr h) = h
+    known : ((x : Sent) → x ∈ G .sent → x ∈ sent) → ((d : Declared) → d ∈ G .declared → d ∈ declared) → ((x : Sent) → x ∈ sent → BackedAndNamed x) → ((d : Declared) → d ∈ declared → InFacts d) → ((m : Merged) → m ∈ merged → MergedIs W (knowing s more) m) → ((φ : Fact) → φ ∈ more → (φ ∈ s .facts) ⊎ Back W longer φ) → Follows W longer (knowing s more)
+    known moreSent moreDeclared eachSent eachDeclared eachMerged new =
+        record {
+          size = F .size;
+          boxes = box-knowing;
+          above = F .above;
+          sent = eachSent;
+          answers = λ a m. answer-wider W s (knowing s more) knowing-wider a (F .answers a m);
+          declared = eachDeclared;
+          had = λ T m. had-wider W s (knowing s more) knowing-wider T (F .had T m);
+          merged = eachMerged;
+          facts = λ φ m. from φ (new φ m);
+        }
+      where
+        from : (φ : Fact) → (φ ∈ s .facts) ⊎ Back W longer φ → Back W longer φ
+        from φ (inl m) = back-wider W G longer moreSent moreDeclared φ (F .facts φ m)
+        from φ (inr h) = h
+
+  pub known-sent : (x : Sent) → BackedAndNamed x → ((φ : Fact) → φ ∈ more → (φ ∈ s .facts) ⊎ Back W (sending G x) φ) → Follows W (sending G x) (knowing s more)
+  known-sent x back = known (G .sent ++ (x ∷ [])) (G .declared) (G .merged) (λ y m. Memᴰ·append-left (x ∷ []) m) (λ d m. m) (and-last BackedAndNamed (G .sent) x was-sent back) was-declared was-merged
+
+  pub known-declared : (d : Declared) → InFacts d → ((φ : Fact) → φ ∈ more → (φ ∈ s .facts) ⊎ Back W (declaring G d) φ) → Follows W (declaring G d) (knowing s more)
+  known-declared d it = known (G .sent) (G .declared ++ (d ∷ [])) (G .merged) (λ y m. m) (λ e m. Memᴰ·append-left (d ∷ []) m) was-sent (and-last InFacts (G .declared) d was-declared it) was-merged
 
 pub known-merged : (W : World) (G : Group) (s : State) → Follows W G s → (m : Merged) → MergedIs W s m → Follows W (merging G m) s
-known-merged W G s F m h =
-    record {
-      size = F .size;
-      boxes = F .boxes;
-      above = F .above;
-      sent = F .sent;
-      answers = F .answers;
-      declared = F .declared;
-      had = F .had;
-      merged = and-last (MergedIs W s) (G .merged) m (F .merged) h;
-      facts = λ φ k. back-wider W G (merging G m) (λ y j. j) (λ d j. j) φ (F .facts φ k);
-    }
+known-merged W G s F m h = known W G s (s .facts) (λ φ i. i) F (G .sent) (G .declared) (G .merged ++ (m ∷ [])) (λ y i. i) (λ e i. i) (F .sent) (F .declared) (and-last (MergedIs W s) (G .merged) m (F .merged) h) (λ φ i. inl i)
