@@ -203,55 +203,54 @@ module _ (W : World) (b t : ℕ) (x : Body) (T : Table) (normal : isChanging T �
   unfolding replyFrom stateByte replyValue
   replied-1 rows r f e (h, m) = record { next = h .next; sound = h .sound; onward = h .onward; is = h .is; echo = λ q g c n. echoed (prepareOf (held rows t)) r q f g e m c n }
 
-  known : (q : Row) → held (T .rows) t ≡ some q → (p : Prepare) (o : Outcome) → q .prepare ≡ p → q .outcome ≡ o → TakenAs W s b (proposePrepare t x) (withRows T (changed t rowChange (T .rows)))
-  unfolding replyFrom stateByte replyValue
-  known q e p o ep eo = by p o ep eo
-    where
-      rows : List Row
-      rows = changed t rowChange (T .rows)
+  -- the stamp is known
+  module _ (q : Row) (e : held (T .rows) t ≡ some q) where
+    abbrev rows : List Row
+    rows = changed t rowChange (T .rows)
 
-      own : Owned W (s .facts) rows
-      own = owned-changed W t rowChange (λ r. refl) (λ r. refl) (T .rows) (i .owned)
+    own : Owned W (s .facts) rows
+    own = owned-changed W t rowChange (λ r. refl) (λ r. refl) (T .rows) (i .owned)
 
-      holdsP : before W b t T normal s k i .prepare ≡ q .prepare
-      holdsP = entry-prepare W b t T normal s k i q e
+    holdsP : before W b t T normal s k i .prepare ≡ q .prepare
+    holdsP = entry-prepare W b t T normal s k i q e
 
-      holdsO : before W b t T normal s k i .outcome ≡ q .outcome
-      holdsO = entry-outcome W b t T normal s k i q e
+    holdsO : before W b t T normal s k i .outcome ≡ q .outcome
+    holdsO = entry-outcome W b t T normal s k i q e
 
-      shows : Looks (T .rows) rows t (answered (q .prepare) (q .outcome)) (q .outcome)
-      shows = looks-changed (T .rows) t rowChange (λ r. refl) q e
+    shows : Looks (T .rows) rows t (answered (q .prepare) (q .outcome)) (q .outcome)
+    shows = looks-changed (T .rows) t rowChange (λ r. refl) q e
 
-      now : prepareOf (held rows t) ≡ answered (q .prepare) (q .outcome)
-      now = shows .0 t ∙ rw (eqb-self t) refl
+    now : prepareOf (held rows t) ≡ answered (q .prepare) (q .outcome)
+    now = shows .0 t ∙ rw (eqb-self t) refl
 
-      -- a prepare is held: it is answered
-      same : (r : Result) (f : Bool) → q .prepare ≡ asPrepare r f → answered (q .prepare) (q .outcome) ≡ asPrepare r f → TakenAs W s b (proposePrepare t x) (withRows T rows)
-      same r f h a =
-          replied-1 rows r f (now ∙ a)
-          (say W b t T normal s k i rows own (shown W b t T normal s k i rows (answered (q .prepare) (q .outcome)) (q .outcome) (holdsP ∙ h ∙ sym a) holdsO shows) r f (holdsP ∙ h))
+    -- a prepare is held: it is answered
+    same : (r : Result) (f : Bool) → q .prepare ≡ asPrepare r f → answered (q .prepare) (q .outcome) ≡ asPrepare r f → TakenAs W s b (proposePrepare t x) (withRows T rows)
+    same r f h a =
+        replied-1 rows r f (now ∙ a)
+        (say W b t T normal s k i rows own (shown W b t T normal s k i rows (answered (q .prepare) (q .outcome)) (q .outcome) (holdsP ∙ h ∙ sym a) holdsO shows) r f (holdsP ∙ h))
 
-      -- only an outcome is held: the prepare that follows from it is stored and answered
-      filled : (v : Verdict) → q .prepare ≡ noPrepare → Holds v (q .outcome) → answered (q .prepare) (q .outcome) ≡ tentative (resultFor v) → TakenAs W s b (proposePrepare t x) (withRows T rows)
-      filled v h j a =
-          replied-1 rows (resultFor v) false (now ∙ a)
-          (then-say W b t T normal s rows (act W b t T normal s k i (fillRow v) (holdsP ∙ h, rw holdsO j) (no-check refl) rows own (ap-looks a)) (resultFor v) false (now ∙ a))
-        where
-          ap-looks : answered (q .prepare) (q .outcome) ≡ tentative (resultFor v) → Looks (T .rows) rows t (tentative (resultFor v)) (before W b t T normal s k i .outcome)
-          ap-looks a = rw (← a, holdsO) shows
+    -- only an outcome is held: the prepare that follows from it is stored and answered
+    filled : (v : Verdict) → q .prepare ≡ noPrepare → Holds v (q .outcome) → answered (q .prepare) (q .outcome) ≡ tentative (resultFor v) → TakenAs W s b (proposePrepare t x) (withRows T rows)
+    filled v h j a =
+        replied-1 rows (resultFor v) false (now ∙ a)
+        (then-say W b t T normal s rows (act W b t T normal s k i (fillRow v) (holdsP ∙ h, rw holdsO j) (no-check refl) rows own (ap-looks a)) (resultFor v) false (now ∙ a))
+      where
+        ap-looks : answered (q .prepare) (q .outcome) ≡ tentative (resultFor v) → Looks (T .rows) rows t (tentative (resultFor v)) (before W b t T normal s k i .outcome)
+        ap-looks a = rw (← a, holdsO) shows
 
-      -- nothing is held in the row: nothing changes, and the answer has no prepare
-      blank : q .prepare ≡ noPrepare → q .outcome ≡ noOutcome → answered (q .prepare) (q .outcome) ≡ noPrepare → TakenAs W s b (proposePrepare t x) (withRows T rows)
-      blank h j a =
-          let z = unmoved W b t T normal s k i rows own (shown W b t T normal s k i rows (answered (q .prepare) (q .outcome)) (q .outcome) (holdsP ∙ h ∙ sym a) holdsO shows) in
-          record { next = s; sound = k; onward = onward-stay b s; is = z; echo = λ r f c n. none-said r f (sym (ap prepareCode (now ∙ a)) ∙ c) }
+    -- nothing is held in the row: nothing changes, and the answer has no prepare
+    blank : q .prepare ≡ noPrepare → q .outcome ≡ noOutcome → answered (q .prepare) (q .outcome) ≡ noPrepare → TakenAs W s b (proposePrepare t x) (withRows T rows)
+    unfolding replyFrom stateByte replyValue
+    blank h j a =
+        let z = unmoved W b t T normal s k i rows own (shown W b t T normal s k i rows (answered (q .prepare) (q .outcome)) (q .outcome) (holdsP ∙ h ∙ sym a) holdsO shows) in
+        record { next = s; sound = k; onward = onward-stay b s; is = z; echo = λ r f c n. none-said r f (sym (ap prepareCode (now ∙ a)) ∙ c) }
 
-      by : (p : Prepare) (o : Outcome) → q .prepare ≡ p → q .outcome ≡ o → TakenAs W s b (proposePrepare t x) (withRows T rows)
-      by (tentative r) o ep eo = same r false ep (ap₂ answered ep eo)
-      by (final r) o ep eo = same r true ep (ap₂ answered ep eo)
-      by noPrepare (noted v) ep eo = filled v ep (inl eo) (ap₂ answered ep eo)
-      by noPrepare (done v) ep eo = filled v ep (inr eo) (ap₂ answered ep eo)
-      by noPrepare noOutcome ep eo = blank ep eo (ap₂ answered ep eo)
+    known : (p : Prepare) (o : Outcome) → q .prepare ≡ p → q .outcome ≡ o → TakenAs W s b (proposePrepare t x) (withRows T rows)
+    known (tentative r) o ep eo = same r false ep (ap₂ answered ep eo)
+    known (final r) o ep eo = same r true ep (ap₂ answered ep eo)
+    known noPrepare (noted v) ep eo = filled v ep (inl eo) (ap₂ answered ep eo)
+    known noPrepare (done v) ep eo = filled v ep (inr eo) (ap₂ answered ep eo)
+    known noPrepare noOutcome ep eo = blank ep eo (ap₂ answered ep eo)
 
   -- a new stamp: the check's result is stored and answered
   new-1 : held (T .rows) t ≡ none → bodySent t ∈ s .facts → x ≡ W .bodies t → TakenAs W s b (proposePrepare t x) (withRows T (added (record { stamp = t; body = x; prepare = tentative (W .proposals (T .rows) t x); outcome = noOutcome }) (T .rows)))

@@ -12,7 +12,7 @@ use Rattle.rules.proofs.Lists.{_∈_}
 use Rattle.rules.proofs.Groups.{fast-quorum}
 use Rattle.history.proofs.Group.Below.{search-below, at-least-map, at-least-fewer, at-least-below}
 use Rattle.history.proofs.Group.Cells.{Holds}
-use Rattle.history.proofs.Group.Entries.{Cells, Fact, Fact.gaveResult, Fact.declaredFinal, Fact.proposed, Fact.finalised, Fact.promised, Fact.bodySent, Fact.started, Said, Said.said, OKReason}
+use Rattle.history.proofs.Group.Entries.{Cells, Fact, Fact.gaveResult, Fact.declaredFinal, Fact.proposed, Fact.finalised, Fact.promised, Fact.bodySent, Fact.started, Said, Said.said, OKReason, Good}
 use Rattle.history.proofs.Group.Invariant.{Setup, Quorum, Began, Entries, Rests, Crowds, Promise}
 use Rattle.history.proofs.Group.Kept.{keeps, held-proposed}
 use Rattle.history.proofs.Group.Growth.{still}
@@ -79,27 +79,34 @@ freshState X = record { view = λ b. 0; promised = λ b. 0; entry = freshEntries
 module _ (X : Setup) where
   -- ---- the start
 
+  fresh-good : (w t : ℕ) → Good [] w t (X .begun w t) (freshEntries X 0 w t)
+  fresh-good w t =
+      record {
+        finalStays = λ r h. h;
+        doneStays = λ o h. h;
+        finalFrom = λ r h. inl h;
+        tentativeNew = λ r h. absurd (X .settled w t .noTentative r h);
+        tentativeFrom = λ h. absurd (X .settled w t .noTentative OK h);
+        answerFinal = λ r m. absurd (List·Memᴰ·not-nil m);
+        answerTentative = λ r m. absurd (List·Memᴰ·not-nil m);
+        answerOK = λ m. absurd (List·Memᴰ·not-nil m);
+        acceptanceHeld = λ o m. absurd (List·Memᴰ·not-nil m);
+        doneFrom = λ o h. inl h;
+        heldFrom = λ o h. inl (held o h);
+        checkedNew = λ h. impossible h refl;
+        checkedPlaced = λ h. impossible h refl;
+      }
+    where
+      held : (o : Verdict) → Holds o (X .begun w t .outcome) → X .begun w t .outcome ≡ done o
+      held o (inl h) = absurd (X .settled w t .noNoted o h)
+      held o (inr h) = h
+
   pub fresh-sound : Sound X (freshState X)
   fresh-sound =
       record {
         invariant =
             record {
-              good = λ b w t.
-                  record {
-                    finalStays = λ r h. h;
-                    doneStays = λ o h. h;
-                    finalFrom = λ r h. inl h;
-                    tentativeNew = λ r h. absurd (X .settled w t .noTentative r h);
-                    tentativeFrom = λ h. absurd (X .settled w t .noTentative OK h);
-                    answerFinal = λ r m. absurd (List·Memᴰ·not-nil m);
-                    answerTentative = λ r m. absurd (List·Memᴰ·not-nil m);
-                    answerOK = λ m. absurd (List·Memᴰ·not-nil m);
-                    acceptanceHeld = λ o m. absurd (List·Memᴰ·not-nil m);
-                    doneFrom = λ o h. inl h;
-                    heldFrom = λ o h. inl (held w t o h);
-                    checkedNew = λ h. impossible h refl;
-                    checkedPlaced = λ h. impossible h refl;
-                  };
+              good = λ b w t. fresh-good w t;
               clearOfBegun = λ b w t u cl ac k. impossible k refl;
               checkedApart = λ b w t u cl k k′. impossible k refl;
               resultOK = λ t w m. absurd (List·Memᴰ·not-nil m);
@@ -119,10 +126,6 @@ module _ (X : Setup) where
         reached = λ b w t h. untouched h;
       }
     where
-      held : (w t : ℕ) (o : Verdict) → Holds o (X .begun w t .outcome) → X .begun w t .outcome ≡ done o
-      held w t o (inl h) = absurd (X .settled w t .noNoted o h)
-      held w t o (inr h) = h
-
       untouched : {A : Type 0} → ((a : Said) × (a ∈ [])) ⊎ ((o : Verdict) × (o ∈ [])) → A
       untouched (inl (a, m)) = absurd (List·Memᴰ·not-nil m)
       untouched (inr (o, m)) = absurd (List·Memᴰ·not-nil m)
