@@ -1,4 +1,5 @@
 pub mod Logic
+pub mod Chains
 pub mod Lists
 pub mod Reordered
 pub mod Same

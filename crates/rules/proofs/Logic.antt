@@ -58,6 +58,11 @@ pub either-false : {a b : Bool} → a ≡ false → b ≡ false → either a b �
 unfolding either
 either-false {a} {b} p q = rw (p, q) refl
 
+pub either-none : (a : Bool) → either a false ≡ a
+unfolding either
+either-none true = refl
+either-none false = refl
+
 pub either-first : (a b : Bool) → a ≡ true → either a b ≡ true
 unfolding either
 either-first a b p = rw p refl

@@ -4,13 +4,14 @@ use mathlib.Core.Bool.{true}
 use Prim.Native.Nat.{ℕ, _/_, _%_, _^_, _≤_, _<_}
 use native.Mathlib.Nat.{div-add-mod', div-lt-iff-lt-mul, mod-lt}
 use native.Mathlib.Omega.{arith}
+use lib.Dec.{eqb}
 use lib.ListN.{length}
 use borrow.Author.Tests.{ltb-true, lt-ltb, leb-true, le-leb}
-use Rattle.rules.specs.Tests.{every}
+use Rattle.rules.specs.Tests.{both, every}
 use Rattle.rules.specs.Groups.{isGroup}
 use Rattle.rules.specs.Stamps.{isStamp, stampOf, countsByRule, contentsByRule}
 use Rattle.rules.specs.Tables.{Result, Result.OK, Result.ABORT, Result.ABSTAIN, Result.RETRY, Verdict, Verdict.commit, Verdict.abort, resultCode, verdictCode, somethingHeld, retryByRule, Row, rowByRule, rising, Model, Table, isView, modeByRule, headerByRule, tableByRule}
-use Rattle.rules.proofs.Logic.{both-left, both-right, both-true}
+use Rattle.rules.proofs.Logic.{both-left, both-right, both-true, either-none}
 
 pub stamp-positive : (s : ℕ) → isStamp s ≡ true → 0 < s
 unfolding isStamp
@@ -96,3 +97,9 @@ table-by M {T} f limit =
     both-true
     (both-true (both-true (f .group) (lt-ltb _ _ (f .box))) (both-true (both-true (f .view) (f .promised)) (both-true (f .mode) (le-leb _ _ (f .start)))))
     (both-true (le-leb _ _ limit) (both-true (f .rise) (f .rows)))
+
+-- ---- the mode that a header names, and what it asks of the views
+
+pub normal-views : (view promised : ℕ) → modeByRule 0 view promised ≡ eqb promised view
+unfolding modeByRule both
+normal-views view promised = either-none (eqb promised view)

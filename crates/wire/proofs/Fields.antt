@@ -24,3 +24,14 @@ unfolding Stands numberAt
 field-stands width s at to ws a l e h =
     let v = rw (length-part s at width l) at (bytes-number (part s at width) (all-part s at width a)) in
     stands-joined s at (bytes width (number (part s at width))) ws (rw length-bytes (sym v)) (rw (length-bytes, e) h)
+
+-- the same of a last field, with nothing behind it
+pub last-read : (width x : ℕ) (s : List ℕ) (at : ℕ) → x < 256 ^ width → Stands s at (bytes width x) → numberAt s at width ≡ x
+unfolding Stands numberAt
+last-read width x s at hx h = ap number (rw length-bytes at h) ∙ number-bytes width x hx
+
+pub last-stands : (width : ℕ) (s : List ℕ) (at : ℕ) → AllBytes s → at + width ≤ length s → Stands s at (bytes width (numberAt s at width))
+unfolding Stands numberAt
+last-stands width s at a l =
+    let v = rw (length-part s at width l) at (bytes-number (part s at width) (all-part s at width a)) in
+    rw length-bytes (sym v)

@@ -10,7 +10,7 @@ use lib.ListN.{length, take, drop, getD, length-append}
 use lib.Seq.{take-add, drop-drop}
 use Rattle.wire.specs.Parts.{part, replaced}
 use Rattle.wire.specs.Numbers.{number, bytes, numberAt, AllBytes}
-use Rattle.wire.proofs.Parts.{length-part, part-replaced}
+use Rattle.wire.proofs.Parts.{length-part, part-part, part-replaced}
 
 pub power-positive : (width : ℕ) → 0 < 256 ^ width
 power-positive width = one-le-pow width 256 (omega arith)
@@ -117,6 +117,11 @@ all-of (b ∷ s) h = (h 0, all-of s (λ i. h (suc i)))
 pub numberAt-below : (s : List ℕ) (at width : ℕ) → AllBytes s → at + width ≤ length s → numberAt s at width < 256 ^ width
 unfolding numberAt
 numberAt-below s at width h l = rw (length-part s at width l) at (number-below (part s at width) (all-part s at width h))
+
+-- a number is read from a part as from the whole
+pub numberAt-part : (s : List ℕ) (a len at width : ℕ) → a + len ≤ length s → at + width ≤ len → numberAt (part s a len) at width ≡ numberAt s (a + at) width
+unfolding numberAt
+numberAt-part s a len at width h l = ap number (part-part s a len at width h l)
 
 -- a number is read in two parts as well as in one
 pub numberAt-halves : (s : List ℕ) (at high low : ℕ) → at + high + low ≤ length s → numberAt s at (high + low) ≡ numberAt s at high * 256 ^ low + numberAt s (at + high) low

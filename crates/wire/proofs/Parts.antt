@@ -30,6 +30,12 @@ part-replaced s at ws h =
 part-left : (p q : List ℕ) (b n : ℕ) → b + n ≤ length p → part (p ++ q) b n ≡ part p b n
 part-left p q b n h = rw (drop-append-le b p q (omega arith), take-append-le n (drop b p) q (rw length-drop (omega arith)))
 
+-- a part of a part is a part
+pub part-part : (s : List ℕ) (a len at n : ℕ) → a + len ≤ length s → at + n ≤ len → part (part s a len) at n ≡ part s (a + at) n
+part-part s a len at n h l =
+    let k : length (part s a len) ≡ len = length-part s a len h in
+    sym (part-left (part s a len) (drop len (drop a s)) at n (omega arith)) ∙ rw (take-append-drop, drop-drop)
+
 pub below-stays : (s : List ℕ) (at : ℕ) (ws : List ℕ) (b n : ℕ) → b + n ≤ at → at ≤ length s → part (replaced s at ws) b n ≡ part s b n
 unfolding replaced
 below-stays s at ws b n h l =

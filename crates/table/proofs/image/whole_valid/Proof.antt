@@ -1,0 +1,43 @@
+use Rattle.table.proofs.Turns.{header-sizes}
+use Rattle.rules.proofs.Chains.{chain}
+use native.Mathlib.Omega.{arith}
+use mathlib.Core.Path.{sym, _∙_}
+use borrow.Author.Needs.{needs}
+use Rattle.table.proofs.image.whole_valid.Statement.{statement}
+use Rattle.table.proofs.image.whole_valid.Tie as tie
+use Rattle.table.proofs.image.whole_valid.Reads as reads
+use Rattle.table.proofs.image.whole_valid.Lts as lts
+use Rattle.table.proofs.header.valid.Reads as valid-reads
+use Rattle.table.proofs.image.rows_valid.Reads as rows-valid-reads
+
+valid-requires : tie.Need-valid-requires
+valid-requires c κs = search needs
+
+cast-rows-valid : tie.Need-cast-rows-valid
+cast-rows-valid c = search needs
+
+cast-rows-valid-2 : tie.Need-cast-rows-valid-2
+cast-rows-valid-2 c = search needs
+
+rows-valid-requires : tie.Need-rows-valid-requires
+rows-valid-requires c κs =
+    let a = c .before .before .before .before .before .args in
+    let f = header-sizes (a .h) (a .format) (a .begin) (a .limit) _ (sym (c .before .before .before .valid .ensures) ∙ c .before .before .if1 .taken) in
+    (f .0, f .1, omega arith)
+
+returns : tie.Need-returns
+returns c = search chain
+
+returns-2 : tie.Need-returns-2
+returns-2 c = search chain
+
+pub whole-valid-spec : {M : Type 1} → statement M
+whole-valid-spec =
+    tie.close
+    (tie.spec
+    valid-requires
+    cast-rows-valid
+    cast-rows-valid-2
+    rows-valid-requires
+    returns
+    returns-2)

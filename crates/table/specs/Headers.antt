@@ -1,0 +1,105 @@
+-- 01, 'The table image: contents first, bodies after': the header, as numbers and as bytes.
+use mathlib.Core.Bool.{Bool}
+use mathlib.Core.List.{List, _++_}
+use Prim.Native.Nat.{ℕ, _+_, _*_}
+use lib.Dec.{eqb, ltb, leb}
+use Rattle.wire.specs.Numbers.{bytes, numberAt}
+use Rattle.rules.specs.Tests.{both}
+use Rattle.rules.specs.Groups.{isGroup}
+use Rattle.rules.specs.Tables.{modeByRule}
+use Rattle.table.specs.declared.header.Header.{Header}
+
+-- "Header, 24 bytes: format 1; box; n; mode (0 normal, 1 changing); then 4 bytes each: rows, view (last normal), promised view, rows when this view began, total length."
+unfoldable pub headerBytes : Header → List ℕ
+headerBytes h =
+    bytes 1 (h .format)
+    ++ (bytes 1 (h .boxnumber)
+    ++ (bytes 1 (h .n)
+    ++ (bytes 1 (h .mode)
+    ++ (bytes 4 (h .rows)
+    ++ (bytes 4 (h .view)
+    ++ (bytes 4 (h .promised)
+    ++ (bytes 4 (h .start)
+    ++ bytes 4 (h .length))))))))
+
+-- the header that bytes begin with, whatever they are
+unfoldable pub headerAt : List ℕ → Header
+headerAt s = record {
+  format = numberAt s 0 1;
+  boxnumber = numberAt s 1 1;
+  n = numberAt s 2 1;
+  mode = numberAt s 3 1;
+  rows = numberAt s 4 4;
+  view = numberAt s 8 4;
+  promised = numberAt s 12 4;
+  start = numberAt s 16 4;
+  length = numberAt s 20 4;
+}
+
+-- ---- a header with one thing changed
+
+abbrev pub withView : Header → ℕ → Header
+withView h view = record {
+  format = h .format;
+  boxnumber = h .boxnumber;
+  n = h .n;
+  mode = h .mode;
+  rows = h .rows;
+  view = view;
+  promised = h .promised;
+  start = h .start;
+  length = h .length;
+}
+
+abbrev pub withPromised : Header → ℕ → Header
+withPromised h promised = record {
+  format = h .format;
+  boxnumber = h .boxnumber;
+  n = h .n;
+  mode = h .mode;
+  rows = h .rows;
+  view = h .view;
+  promised = promised;
+  start = h .start;
+  length = h .length;
+}
+
+abbrev pub withMode : Header → ℕ → Header
+withMode h mode = record {
+  format = h .format;
+  boxnumber = h .boxnumber;
+  n = h .n;
+  mode = mode;
+  rows = h .rows;
+  view = h .view;
+  promised = h .promised;
+  start = h .start;
+  length = h .length;
+}
+
+-- the total length goes with the rows
+abbrev pub withRows : Header → ℕ → ℕ → Header
+withRows h rows length = record {
+  format = h .format;
+  boxnumber = h .boxnumber;
+  n = h .n;
+  mode = h .mode;
+  rows = rows;
+  view = h .view;
+  promised = h .promised;
+  start = h .start;
+  length = length;
+}
+
+-- ---- what can be told of a header without looking at a row
+
+-- "Start rows never exceed rows."; "At most 512 rows."; the rows lie inside the total length, and that inside the lent bytes
+unfoldable pub sizesByRule : Header → ℕ → ℕ → ℕ → Bool
+sizesByRule h begin limit lent =
+    both (leb (h .start) (h .rows))
+    (both (leb (h .rows) limit) (both (leb (h .length) lent) (leb (begin + 24 * h .rows) (h .length))))
+
+unfoldable pub headerByRuleAt : Header → ℕ → ℕ → ℕ → ℕ → Bool
+headerByRuleAt h format begin limit lent =
+    both (both (eqb (h .format) format) (both (isGroup (h .n)) (ltb (h .boxnumber) (h .n))))
+    (both (modeByRule (h .mode) (h .view) (h .promised)) (sizesByRule h begin limit lent))

@@ -1,0 +1,21 @@
+// The kinds of box.
+ghost use mathlib.Core.Path.{_≡_};
+ghost use Rattle.rules.specs.Tables.{valley};
+ghost use Rattle.table.specs.Models.{modelOf};
+
+// How many rows a kind of box holds at most, and how many bytes its table or output buffer has at least.
+pub struct Model {
+    pub limit: u16,
+    pub least: usize,
+}
+
+impl Model {
+    pub fn valley() -> Model
+        ensures { λ r. ⌜ modelOf r ≡ valley ⌝ }
+    {
+        Model {
+            limit: 512,
+            least: 49176,
+        }
+    }
+}
