@@ -11,17 +11,18 @@ use Rattle.wire.specs.Numbers.{AllBytes}
 use Rattle.wire.proofs.Numbers.{numberAt-below}
 use Rattle.wire.proofs.Stands.{Stands, stands-inside, stands-joined}
 use Rattle.rules.specs.Tests.{both, provided}
-use Rattle.rules.specs.Tables.{Table, Model, isView, tableByRule}
+use Rattle.rules.specs.Tables.{Table, Model, valley, isView, tableByRule}
 use Rattle.rules.proofs.Logic.{both-left, both-right, both-true, same-test}
 use Rattle.rules.proofs.Tables.{Regular, table-facts, table-by}
 use Rattle.table.specs.Headers.{headerBytes, headerAt, sizesByRule, headerByRuleAt}
-use Rattle.table.specs.Images.{bodiesBytes, rowsBytes, formatOne, imageLength, headerOf, image}
-use Rattle.table.specs.Parse.{rowsAt, tableAt, begins, parse}
+use Rattle.table.specs.declared.image.Found.the-variants.{Image, Nothing}
+use Rattle.table.specs.Images.{bodiesBytes, rowsBytes, Form, formatOne, imageLength, headerOf, image}
+use Rattle.table.specs.Parse.{rowsAt, tableAt, begins, parse, imageFound}
 use Rattle.table.specs.Rows.{rowsByRuleAt}
 use Rattle.table.proofs.Headers.{length-header, header-stands}
 use Rattle.table.proofs.RowsRead.{length-rowsAt, length-rows, by-rule-stand, stand-by-rule}
 use Rattle.table.proofs.Begins.{begins-stands, stands-begins}
-use Rattle.table.proofs.Images.{Sound, one-sound, length-image, image-rows, image-read, parse-facts}
+use Rattle.table.proofs.Images.{Sound, one-sound, valley-sound, length-image, valley-at-most, image-rows, image-read, parse-facts, parse-by-rule}
 
 pub parse-short : (M : Model) (s : List ℕ) → length s < 24 → parse formatOne M s ≡ none
 parse-short M s l = go (parse formatOne M s) refl
@@ -111,3 +112,22 @@ parse-tests M s a l f = ap (λ t. provided t T) (same-test _ _ there back)
 
     back : passes M s ≡ true → both (tableByRule M T) (begins s (image formatOne T)) ≡ true
     back h = both-true (table-by M (found-regular M s a l h) (found-few M s h)) (stands-begins s 0 (image formatOne T) (found-stands M s a l h))
+
+-- ---- what an answer says
+
+-- an image was found exactly where a table parses, and it is that table's
+pub found-table : (F : Form) (M : Model) (s : List ℕ) (length : ℕ) → imageFound F (parse F M s) ≡ Image length → (T : Table) × (parse F M s ≡ some T) × (length ≡ imageLength F T)
+found-table F M s length h = go (parse F M s) refl
+  where
+    go : (r : Option Table) → parse F M s ≡ r → (T : Table) × (parse F M s ≡ some T) × (length ≡ imageLength F T)
+    go none e =
+        let f : Nothing ≡ Image length = rw e at h in
+        let z : _≡_ {A = ℕ} 0 1 = cc in
+        absurd (omega arith)
+    go (some T) e = let f : Image (imageLength F T) ≡ Image length = rw e at h in (T, e, cc)
+
+pub found-at-most : (s : List ℕ) (length : ℕ) → imageFound formatOne (parse formatOne valley s) ≡ Image length → length ≤ 49176
+found-at-most s length h =
+    let f = found-table formatOne valley s length h in
+    let T = f .0 in
+    rw (f .2, ← length-image formatOne T (valley-sound .starts)) (valley-at-most T (parse-by-rule formatOne valley s T (f .1)))

@@ -1,0 +1,29 @@
+// The C boundary: what box firmware and the host program link. include/sprondilu.h says the same in C's words.
+//
+// A `&[u8]` passes as a pointer and a length. That the pointers are good is assumed and proved by nobody; all else is the crates' below.
+use table::image::Found;
+use table::model::Model;
+ghost use mathlib.Core.Path.{_≡_};
+ghost use Rattle.rules.specs.Tables.{valley};
+ghost use Rattle.table.specs.Images.{formatOne};
+ghost use Rattle.table.specs.Parse.{parse, imageFound};
+ghost use Rattle.table.specs.Fresh.{freshNumber, freshBuffer};
+ghost use Rattle.sprondilu.specs.Calls.{validAnswer};
+
+#[no_mangle]
+pub extern "C" fn sprondilu_fresh(table: &mut [u8], n: u8, boxnumber: u8) -> u8
+    ensures { λ r. ⌜ r ≡ freshNumber valley (now (table .entry)) n boxnumber ⌝ }
+    ensures { λ _. ⌜ now (table .exit) ≡ freshBuffer valley (now (table .entry)) n boxnumber ⌝ }
+{
+    table::fresh::fresh(table, n, boxnumber)
+}
+
+#[no_mangle]
+pub extern "C" fn sprondilu_valid(bytes: &[u8]) -> u64
+    ensures { λ r. ⌜ r ≡ validAnswer (imageFound formatOne (parse formatOne valley (now (bytes .entry)))) ⌝ }
+{
+    let Found::Image { length } = table::image::find(bytes, Model::valley()) else {
+        return 2;
+    };
+    65536 * length as u64
+}
