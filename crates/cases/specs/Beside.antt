@@ -1,13 +1,14 @@
 -- Beside the marked cases: the codes of a row, two merges, and messages to one box, one after the other.
 use mathlib.Core.Bool.{cond}
-use mathlib.Core.List.{List, [], _∷_, map}
+use mathlib.Core.List.{List, [], _∷_, _++_, map}
 use Prim.Native.Nat.{ℕ}
+use lib.ListN.{replicate}
 use Rattle.rules.specs.Tables.{Result.OK, Result.ABORT, Result.ABSTAIN, Result.RETRY, Prepare, Prepare.noPrepare, Prepare.tentative, Prepare.final, Verdict.commit, Verdict.abort, Outcome, Outcome.noOutcome, Outcome.noted, Outcome.done, Row, Table, Model, normalMode}
 use Rattle.rules.specs.Messages.{Message, Message.proposePrepare, Message.finalisePrepare, Message.proposeOutcome, Message.finaliseOutcome, Message.changeView, Message.startView, Message.readRegister}
 use Rattle.rules.specs.Circumstances.{belowLimit}
 use Rattle.rules.specs.Answers.{answer}
 use Rattle.rules.specs.Check.{check}
-use Rattle.cases.specs.Kinds.{Case, Case.merged}
+use Rattle.cases.specs.Kinds.{Case, Case.merged, Case.imaged}
 use Rattle.cases.specs.Marked.{reads, writes, row, prepared, changing}
 
 -- the nine prepare bytes and the five outcome bytes, in the order of their codes
@@ -42,6 +43,18 @@ retries s t =
     ∷ changing 5 1 2 0 []
     ∷ []
 
+-- "After message 1 with stamp 65,537 and one write, register 5, value 7"
+abbrev pub afterOne : Table
+afterOne = record { box = 0; n = 3; mode = normalMode; view = 0; promised = 0; start = 0; rows = row 65537 writes (tentative OK) noOutcome ∷ [] }
+
+-- "rows 1, length 57; one row with offset 48, counts 0 and 1, prepare 1, outcome 0; body 05 00 00 00 00 00 00 00 07"
+abbrev pub imageAfterOne : List ℕ
+imageAfterOne =
+    1 ∷ 0 ∷ 3 ∷ 0 ∷ 0 ∷ 0 ∷ 0 ∷ 1 ∷ replicate 12 0
+    ++ (0 ∷ 0 ∷ 0 ∷ 57 ∷ 0 ∷ 0 ∷ 0 ∷ 0 ∷ 0 ∷ 1 ∷ 0 ∷ 1 ∷ replicate 8 0)
+    ++ (0 ∷ 0 ∷ 0 ∷ 48 ∷ 0 ∷ 1 ∷ 1 ∷ 0 ∷ [])
+    ++ (5 ∷ 0 ∷ 0 ∷ 0 ∷ 0 ∷ 0 ∷ 0 ∷ 0 ∷ 7 ∷ [])
+
 unfoldable pub beside : List Case
 beside =
     merged 2 older 20 (final OK)
@@ -49,6 +62,7 @@ beside =
     -- equal retry stamps are agreed; unequal ones are not, so the row is checked, and nothing is there that clashes
     ∷ merged 1 (retries 30 30) 20 (final (RETRY 30))
     ∷ merged 1 (retries 30 40) 20 (final OK)
+    ∷ imaged afterOne imageAfterOne
     ∷ []
 
 -- ---- messages to one box

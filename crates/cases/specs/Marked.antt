@@ -1,9 +1,10 @@
 -- 01, 'Judging the promises': "Marked cases, one table and a single statement, on the definitions". The register k is 5.
-use mathlib.Core.List.{List, [], _∷_}
+use mathlib.Core.List.{List, [], _∷_, _++_}
 use Prim.Native.Nat.{ℕ}
+use lib.ListN.{replicate}
 use Rattle.rules.specs.Stamps.{Body}
-use Rattle.rules.specs.Tables.{Result.OK, Result.ABORT, Result.ABSTAIN, Result.RETRY, Prepare, Prepare.tentative, Prepare.final, Verdict.commit, Outcome, Outcome.noOutcome, Outcome.done, Row, Table, changingMode}
-use Rattle.cases.specs.Kinds.{Case, Case.counts, Case.checked, Case.merged}
+use Rattle.rules.specs.Tables.{Result.OK, Result.ABORT, Result.ABSTAIN, Result.RETRY, Prepare, Prepare.tentative, Prepare.final, Verdict.commit, Outcome, Outcome.noOutcome, Outcome.done, Row, Table, changingMode, freshTable}
+use Rattle.cases.specs.Kinds.{Case, Case.counts, Case.checked, Case.merged, Case.imaged}
 
 abbrev pub reads : ℕ → Body
 reads version = record { reads = record { register = 5; number = version } ∷ []; writes = [] }
@@ -42,4 +43,6 @@ marked =
     ∷ checked (prepared 10 writes ∷ []) 20 (reads 0) ABSTAIN
     -- M11: "f 2; t1 tentative OK in two tables, clashing t2 final OK in the third, no outcomes: t1 ABSTAIN"
     ∷ merged 1 (changing 5 1 0 0 (prepared 20 (reads 0) ∷ []) ∷ changing 5 1 1 0 (prepared 20 (reads 0) ∷ []) ∷ changing 5 1 2 0 (row 10 writes (final OK) noOutcome ∷ []) ∷ []) 20 (final ABSTAIN)
+    -- M12: "the fresh image": "01 00 03 00, sixteen 00, 00 00 00 18"
+    ∷ imaged (freshTable 3 0) (1 ∷ 0 ∷ 3 ∷ 0 ∷ replicate 16 0 ++ (0 ∷ 0 ∷ 0 ∷ 24 ∷ []))
     ∷ []

@@ -6,13 +6,13 @@ use Prim.Native.Nat.{ℕ, zero, suc, _+_, _*_, _^_, _≤_, _<_}
 use native.Mathlib.Nat.{add-zero, zero-add, add-assoc}
 use native.Mathlib.Omega.{arith}
 use lib.ListN.{length, length-append}
-use borrow.Author.Tests.{ltb-true}
+use borrow.Author.Tests.{ltb-true, leb-true}
 use Rattle.wire.specs.Parts.{part}
 use Rattle.wire.specs.Numbers.{AllBytes}
 use Rattle.wire.proofs.Numbers.{length-bytes, numberAt-part}
 use Rattle.wire.proofs.Stands.{Stands, stands-nothing, stands-joined, stands-left, stands-right}
 use Rattle.wire.proofs.Fields.{field-read, field-stands}
-use Rattle.rules.specs.Stamps.{Access, Body, isRegister, accessesByRule, contentsByRule}
+use Rattle.rules.specs.Stamps.{Access, Body, isRegister, countsByRule, accessesByRule, contentsByRule}
 use Rattle.rules.proofs.Logic.{both-left, both-right}
 use Rattle.table.specs.declared.row.RowFields.{RowFields}
 use Rattle.table.specs.Images.{accessesBytes, bodyBytes, bodyLength, lengthOf}
@@ -107,3 +107,13 @@ body-in-part s a len reads writes h l =
       accesses-in-part s a len (9 * reads) writes h (omega arith),
       add-zero,
     )
+
+-- a body by the rules has 9 to 72 bytes
+pub body-size : (x : Body) → countsByRule (length (x .reads)) (length (x .writes)) ≡ true → (9 ≤ length (bodyBytes x)) × (length (bodyBytes x) ≤ 72)
+unfolding countsByRule
+body-size x h =
+    let e = length-body x in
+    let r : length (x .reads) ≤ 4 = leb-true _ _ (both-left _ _ h) in
+    let w : length (x .writes) ≤ 4 = leb-true _ _ (both-left _ _ (both-right _ _ h)) in
+    let l : 0 < length (x .reads) + length (x .writes) = ltb-true _ _ (both-right _ _ (both-right _ _ h)) in
+    (omega arith, omega arith)

@@ -3,7 +3,7 @@ use mathlib.Core.Path.{_≡_, refl, sym, ap, _∙_}
 use mathlib.Core.Bool.{true}
 use mathlib.Core.Logic.{_⊎_, inl, inr}
 use mathlib.Core.List.{List, [], _∷_, _++_}
-use mathlib.Core.Option.{some}
+use mathlib.Core.Option.{Option, none, some}
 use Prim.Native.Nat.{ℕ, _+_, _*_, _^_, _≤_, _<_}
 use native.Mathlib.Omega.{arith}
 use lib.Dec.{eqb, ltb}
@@ -15,7 +15,7 @@ use Rattle.rules.specs.Tests.{both, every, provided}
 use Rattle.rules.specs.Groups.{isGroup}
 use Rattle.rules.specs.Stamps.{countsByRule}
 use Rattle.rules.specs.Tables.{Row, Table, Model, valley, isView, modeByRule, rising, rowByRule, tableByRule}
-use Rattle.rules.proofs.Logic.{both-left, both-right, both-true, either-cases}
+use Rattle.rules.proofs.Logic.{none-some, both-left, both-right, both-true, either-cases}
 use Rattle.rules.proofs.Lists.{provided-some}
 use Rattle.rules.proofs.Groups.{group-of}
 use Rattle.rules.proofs.Tables.{row-facts, table-facts}
@@ -200,3 +200,11 @@ header-says F M T k h rest =
     let s : List ℕ = image F T ++ rest in
     let p = image-read F M s T k h (begins-stands s 0 (image F T) (begins-with (image F T) rest)) in
     ap (λ (x : Header). x .length) (p .header) ∙ sym (length-image F T (k .starts))
+
+-- no table is found exactly where bytes begin with no image by the rules
+pub no-table : (F : Form) (M : Model) (s : List ℕ) → Sound F M → (parse F M s ≡ none → (T : Table) → tableByRule M T ≡ true → (rest : List ℕ) → s ≡ image F T ++ rest → ⊥) × (((T : Table) → tableByRule M T ≡ true → (rest : List ℕ) → s ≡ image F T ++ rest → ⊥) → parse F M s ≡ none)
+no-table F M s k = (λ h T t rest e. none-some (sym h ∙ ap (parse F M) e ∙ image-parses F M T k t rest), λ h. go (parse F M s) refl h)
+  where
+    go : (r : Option Table) → parse F M s ≡ r → ((T : Table) → tableByRule M T ≡ true → (rest : List ℕ) → s ≡ image F T ++ rest → ⊥) → parse F M s ≡ none
+    go none e h = e
+    go (some T) e h = absurd (h T (parse-by-rule F M s T e) _ (parse-begins F M s T e))

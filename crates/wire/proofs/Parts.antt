@@ -2,7 +2,7 @@
 use mathlib.Core.Path.{_≡_, sym, ap, _∙_}
 use mathlib.Core.List.{List, [], _∷_, _++_, append-assoc}
 use Prim.Native.Nat.{ℕ, suc, _+_, _-_, _≤_, _<_}
-use native.Mathlib.Nat.{add-zero}
+use native.Mathlib.Nat.{add-zero, zero-add}
 use native.Mathlib.Numerals.{add-one}
 use native.Mathlib.Omega.{arith}
 use lib.ListN.{length, take, drop, set, length-append, length-take, length-drop, take-append-drop}
@@ -15,6 +15,10 @@ length-part s at n h = length-take-le n (drop at s) (rw length-drop (omega arith
 pub replaced-nothing : (s : List ℕ) (at : ℕ) → replaced s at [] ≡ s
 unfolding replaced
 replaced-nothing s at = rw (add-zero, take-append-drop)
+
+pub replaced-start : (s ws : List ℕ) → replaced s 0 ws ≡ ws ++ drop (length ws) s
+unfolding replaced
+replaced-start s ws = rw zero-add
 
 pub length-replaced : (s : List ℕ) (at : ℕ) (ws : List ℕ) → at + length ws ≤ length s → length (replaced s at ws) ≡ length s
 unfolding replaced
