@@ -9,18 +9,17 @@ use Rattle.rules.specs.Groups.{isGroup}
 use Rattle.rules.specs.Tables.{modeByRule}
 use Rattle.table.specs.declared.header.Header.{Header}
 
--- "Header, 24 bytes: format 1; box; n; mode (0 normal, 1 changing); then 4 bytes each: rows, view (last normal), promised view, rows when this view began, total length."
+-- "format 1; box; n; mode (0 normal, 1 changing)"
+unfoldable pub nameBytes : Header → List ℕ
+nameBytes h = bytes 1 (h .format) ++ (bytes 1 (h .boxnumber) ++ (bytes 1 (h .n) ++ bytes 1 (h .mode)))
+
+-- "then 4 bytes each: rows, view (last normal), promised view, rows when this view began, total length"
+unfoldable pub numberBytes : Header → List ℕ
+numberBytes h = bytes 4 (h .rows) ++ (bytes 4 (h .view) ++ (bytes 4 (h .promised) ++ (bytes 4 (h .start) ++ bytes 4 (h .length))))
+
+-- "Header, 24 bytes"
 unfoldable pub headerBytes : Header → List ℕ
-headerBytes h =
-    bytes 1 (h .format)
-    ++ (bytes 1 (h .boxnumber)
-    ++ (bytes 1 (h .n)
-    ++ (bytes 1 (h .mode)
-    ++ (bytes 4 (h .rows)
-    ++ (bytes 4 (h .view)
-    ++ (bytes 4 (h .promised)
-    ++ (bytes 4 (h .start)
-    ++ bytes 4 (h .length))))))))
+headerBytes h = nameBytes h ++ numberBytes h
 
 -- the header that bytes begin with, whatever they are
 unfoldable pub headerAt : List ℕ → Header

@@ -7,7 +7,7 @@ ghost use Rattle.wire.specs.Parts.{replaced};
 ghost use Rattle.rules.specs.Tests.{both};
 ghost use Rattle.rules.specs.Groups.{isGroup};
 ghost use Rattle.rules.specs.Tables.{modeByRule, freshTable};
-ghost use Rattle.table.specs.Headers.{headerBytes, headerAt, withView, withPromised, withMode, withRows, sizesByRule, headerByRuleAt};
+ghost use Rattle.table.specs.Headers.{nameBytes, numberBytes, headerBytes, headerAt, withView, withPromised, withMode, withRows, sizesByRule, headerByRuleAt};
 ghost use Rattle.table.specs.Images.{headerOf, formatOne};
 
 // How many bytes a header has.
@@ -94,19 +94,35 @@ pub fn read(s: &[u8]) -> Header
     }
 }
 
-pub fn write(s: &mut [u8], h: Header)
+// The first four fields have a byte each.
+fn write_names(s: &mut [u8], h: Header)
     requires { ⌜ 24 ≤ length (now s) ⌝ }
-    ensures { λ _. ⌜ now (s .exit) ≡ replaced (now (s .entry)) 0 (headerBytes h) ⌝ }
+    ensures { λ _. ⌜ now (s .exit) ≡ replaced (now (s .entry)) 0 (nameBytes h) ⌝ }
 {
     wire::put_u8(s, 0, h.format);
     wire::put_u8(s, 1, h.boxnumber);
     wire::put_u8(s, 2, h.n);
     wire::put_u8(s, 3, h.mode);
+}
+
+// The other five have four bytes each.
+fn write_numbers(s: &mut [u8], h: Header)
+    requires { ⌜ 24 ≤ length (now s) ⌝ }
+    ensures { λ _. ⌜ now (s .exit) ≡ replaced (now (s .entry)) 4 (numberBytes h) ⌝ }
+{
     wire::put_u32(s, 4, h.rows);
     wire::put_u32(s, 8, h.view);
     wire::put_u32(s, 12, h.promised);
     wire::put_u32(s, 16, h.start);
     wire::put_u32(s, 20, h.length);
+}
+
+pub fn write(s: &mut [u8], h: Header)
+    requires { ⌜ 24 ≤ length (now s) ⌝ }
+    ensures { λ _. ⌜ now (s .exit) ≡ replaced (now (s .entry)) 0 (headerBytes h) ⌝ }
+{
+    write_names(s, h);
+    write_numbers(s, h);
 }
 
 fn group_valid(n: u8) -> bool

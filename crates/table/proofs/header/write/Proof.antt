@@ -5,66 +5,25 @@ use Rattle.table.proofs.header.write.Statement.{statement}
 use Rattle.table.proofs.header.write.Tie as tie
 use Rattle.table.proofs.header.write.Reads as reads
 use Rattle.table.proofs.header.write.Lts as lts
-use Rattle.wire.proofs.put_u32.Reads as put-u32-reads
-use Rattle.wire.proofs.put_u8.Reads as put-u8-reads
+use Rattle.table.proofs.header.write_names.Reads as write-names-reads
+use Rattle.table.proofs.header.write_numbers.Reads as write-numbers-reads
 
-put-u8-requires : tie.Need-put-u8-requires
-put-u8-requires c κs = search needs
+write-names-requires : tie.Need-write-names-requires
+write-names-requires c κs = search needs
 
-put-u8-requires-2 : tie.Need-put-u8-requires-2
-put-u8-requires-2 c κs = search needs
-
-put-u8-requires-3 : tie.Need-put-u8-requires-3
-put-u8-requires-3 c κs = search needs
-
-put-u8-requires-4 : tie.Need-put-u8-requires-4
-put-u8-requires-4 c κs = search needs
-
-put-u32-requires : tie.Need-put-u32-requires
-put-u32-requires c κs = search needs
-
-put-u32-requires-2 : tie.Need-put-u32-requires-2
-put-u32-requires-2 c κs = search needs
-
-put-u32-requires-3 : tie.Need-put-u32-requires-3
-put-u32-requires-3 c κs = search needs
-
-put-u32-requires-4 : tie.Need-put-u32-requires-4
-put-u32-requires-4 c κs = search needs
-
-put-u32-requires-5 : tie.Need-put-u32-requires-5
-put-u32-requires-5 c κs = search needs
+write-numbers-requires : tie.Need-write-numbers-requires
+write-numbers-requires c κs = search needs
 
 same-length : tie.Need-same-length
 same-length c = search needs
 
 returns : tie.Need-returns
 returns c =
-    let a = c .before .before .before .before .before .before .before .before .before .before .before .before .before .before .before .before .before .before .before .before .before .before .before .before .before .before .before .before .before .before .before .before .before .before .before .before .before in
+    let p = c .before .before .before .before .before .before .before .before .before in
     rw (
-      c .before .before .put-u325 .ensures,
-      c .before .before .before .before .before .before .put-u324 .ensures,
-      c .before .before .before .before .before .before .before .before .before .before .put-u323 .ensures,
-      c .before .before .before .before .before .before .before .before .before .before .before .before .before .before .put-u322 .ensures,
-      c .before .before .before .before .before .before .before .before .before .before .before .before .before .before .before .before .before .before .put-u32 .ensures,
-      c .before .before .before .before .before .before .before .before .before .before .before .before .before .before .before .before .before .before .before .before .before .before .put-u84 .ensures,
-      c .before .before .before .before .before .before .before .before .before .before .before .before .before .before .before .before .before .before .before .before .before .before .before .before .before .before .put-u83 .ensures,
-      c .before .before .before .before .before .before .before .before .before .before .before .before .before .before .before .before .before .before .before .before .before .before .before .before .before .before .before .before .before .before .put-u82 .ensures,
-      c .before .before .before .before .before .before .before .before .before .before .before .before .before .before .before .before .before .before .before .before .before .before .before .before .before .before .before .before .before .before .before .before .before .before .put-u8 .ensures,
-    ) (header-steps (now (a .args .s)) (a .args .h) (a .pre))
+      c .before .before .write-numbers .ensures,
+      c .before .before .before .before .before .before .write-names .ensures,
+    ) (header-steps (now (p .args .s)) (p .args .h) (p .pre))
 
 pub write-spec : {M : Type 1} → statement M
-write-spec =
-    tie.close
-    (tie.spec
-    put-u8-requires
-    put-u8-requires-2
-    put-u8-requires-3
-    put-u8-requires-4
-    put-u32-requires
-    put-u32-requires-2
-    put-u32-requires-3
-    put-u32-requires-4
-    put-u32-requires-5
-    same-length
-    returns)
+write-spec = tie.close (tie.spec write-names-requires write-numbers-requires same-length returns)

@@ -1,0 +1,44 @@
+use Rattle.table.proofs.Headers.{names-steps}
+use denote.Ref.{now}
+use borrow.Author.Needs.{needs}
+use Rattle.table.proofs.header.write_names.Statement.{statement}
+use Rattle.table.proofs.header.write_names.Tie as tie
+use Rattle.table.proofs.header.write_names.Reads as reads
+use Rattle.table.proofs.header.write_names.Lts as lts
+use Rattle.wire.proofs.put_u8.Reads as put-u8-reads
+
+put-u8-requires : tie.Need-put-u8-requires
+put-u8-requires c κs = search needs
+
+put-u8-requires-2 : tie.Need-put-u8-requires-2
+put-u8-requires-2 c κs = search needs
+
+put-u8-requires-3 : tie.Need-put-u8-requires-3
+put-u8-requires-3 c κs = search needs
+
+put-u8-requires-4 : tie.Need-put-u8-requires-4
+put-u8-requires-4 c κs = search needs
+
+same-length : tie.Need-same-length
+same-length c = search needs
+
+returns : tie.Need-returns
+returns c =
+    let p = c .before .before .before .before .before .before .before .before .before .before .before .before .before .before .before .before .before in
+    rw (
+      c .before .before .put-u84 .ensures,
+      c .before .before .before .before .before .before .put-u83 .ensures,
+      c .before .before .before .before .before .before .before .before .before .before .put-u82 .ensures,
+      c .before .before .before .before .before .before .before .before .before .before .before .before .before .before .put-u8 .ensures,
+    ) (names-steps (now (p .args .s)) (p .args .h) (p .pre))
+
+pub write-names-spec : {M : Type 1} → statement M
+write-names-spec =
+    tie.close
+    (tie.spec
+    put-u8-requires
+    put-u8-requires-2
+    put-u8-requires-3
+    put-u8-requires-4
+    same-length
+    returns)

@@ -1,0 +1,49 @@
+use Rattle.table.proofs.Headers.{numbers-steps}
+use denote.Ref.{now}
+use borrow.Author.Needs.{needs}
+use Rattle.table.proofs.header.write_numbers.Statement.{statement}
+use Rattle.table.proofs.header.write_numbers.Tie as tie
+use Rattle.table.proofs.header.write_numbers.Reads as reads
+use Rattle.table.proofs.header.write_numbers.Lts as lts
+use Rattle.wire.proofs.put_u32.Reads as put-u32-reads
+
+put-u32-requires : tie.Need-put-u32-requires
+put-u32-requires c κs = search needs
+
+put-u32-requires-2 : tie.Need-put-u32-requires-2
+put-u32-requires-2 c κs = search needs
+
+put-u32-requires-3 : tie.Need-put-u32-requires-3
+put-u32-requires-3 c κs = search needs
+
+put-u32-requires-4 : tie.Need-put-u32-requires-4
+put-u32-requires-4 c κs = search needs
+
+put-u32-requires-5 : tie.Need-put-u32-requires-5
+put-u32-requires-5 c κs = search needs
+
+same-length : tie.Need-same-length
+same-length c = search needs
+
+returns : tie.Need-returns
+returns c =
+    let p = c .before .before .before .before .before .before .before .before .before .before .before .before .before .before .before .before .before .before .before .before .before in
+    rw (
+      c .before .before .put-u325 .ensures,
+      c .before .before .before .before .before .before .put-u324 .ensures,
+      c .before .before .before .before .before .before .before .before .before .before .put-u323 .ensures,
+      c .before .before .before .before .before .before .before .before .before .before .before .before .before .before .put-u322 .ensures,
+      c .before .before .before .before .before .before .before .before .before .before .before .before .before .before .before .before .before .before .put-u32 .ensures,
+    ) (numbers-steps (now (p .args .s)) (p .args .h) (p .pre))
+
+pub write-numbers-spec : {M : Type 1} → statement M
+write-numbers-spec =
+    tie.close
+    (tie.spec
+    put-u32-requires
+    put-u32-requires-2
+    put-u32-requires-3
+    put-u32-requires-4
+    put-u32-requires-5
+    same-length
+    returns)
