@@ -11,8 +11,9 @@ use Rattle.rules.specs.Check.{committed, prepared, overwrites, ruleA, ruleB, ru
 use Rattle.rules.specs.Merge.{used, withStamp, withStamps, stamps, rowsOf, mergedOutcome, finalOf, isAgreed, agreedOf, standing, uncheckedRow, uncheckedRows, toCheck, isSettled, checkedAt, checkedInTurn, mergedRows, mergedTable, areWrong, twoBodies, contradictory, mergeCircumstances, mergeNumber, merge}
 use Rattle.wire.specs.Numbers.{bytes}
 use Rattle.table.specs.Headers.{nameBytes, numberBytes, headerBytes}
-use Rattle.table.specs.Images.{accessesBytes, bodyBytes, bodiesBytes, bodiesLength, rowBytes, rowsBytes, image}
-use Rattle.table.specs.Parse.{begins}
+use Rattle.rows.specs.Bytes.{accessesBytes, bodyBytes, bodiesBytes, bodiesLength, rowBytes, rowsBytes}
+use Rattle.table.specs.Images.{image}
+use Rattle.rows.specs.Read.{begins}
 use Rattle.cases.specs.Kinds.{holds}
 use Rattle.cases.specs.Marked.{marked}
 use Rattle.cases.specs.Beside.{Counts.c, Counts.p, Counts.n, countsAs, all, beside}

@@ -13,7 +13,7 @@ use Rattle.rules.specs.Messages.{held, prepareOf}
 use Rattle.rules.specs.Check.{check}
 use Rattle.rules.specs.Merge.{merge}
 use Rattle.table.specs.Images.{formatOne, image}
-use Rattle.table.specs.Parse.{begins}
+use Rattle.rows.specs.Read.{begins}
 
 pub data Case : Type 0 where
   -- for this f: quorum, fast count, agreement count

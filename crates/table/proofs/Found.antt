@@ -16,12 +16,14 @@ use Rattle.rules.proofs.Logic.{both-left, both-right, both-true, same-test}
 use Rattle.rules.proofs.Tables.{Regular, table-facts, table-by}
 use Rattle.table.specs.Headers.{headerBytes, headerAt, sizesByRule, headerByRuleAt}
 use Rattle.table.specs.declared.image.Found.the-variants.{Image, Nothing}
-use Rattle.table.specs.Images.{bodiesBytes, rowsBytes, Form, formatOne, imageLength, headerOf, image}
-use Rattle.table.specs.Parse.{rowsAt, tableAt, begins, parse, imageFound}
-use Rattle.table.specs.Rows.{rowsByRuleAt}
+use Rattle.rows.specs.Bytes.{bodiesBytes, rowsBytes}
+use Rattle.table.specs.Images.{Form, formatOne, imageLength, headerOf, image}
+use Rattle.rows.specs.Read.{rowsAt, begins}
+use Rattle.table.specs.Parse.{tableAt, parse, imageFound}
+use Rattle.rows.specs.Rows.{rowsByRuleAt}
 use Rattle.table.proofs.Headers.{length-header, header-stands}
-use Rattle.table.proofs.RowsRead.{length-rowsAt, length-rows, by-rule-stand, stand-by-rule}
-use Rattle.table.proofs.Begins.{begins-stands, stands-begins}
+use Rattle.rows.proofs.RowsRead.{length-rowsAt, length-rows, by-rule-stand, stand-by-rule}
+use Rattle.rows.proofs.Begins.{begins-stands, stands-begins}
 use Rattle.table.proofs.Images.{Sound, one-sound, valley-sound, length-image, valley-at-most, image-rows, image-read, parse-facts, parse-by-rule}
 
 pub parse-short : (M : Model) (s : List ℕ) → length s < 24 → parse formatOne M s ≡ none

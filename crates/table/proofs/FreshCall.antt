@@ -17,7 +17,8 @@ use Rattle.rules.specs.Circumstances.{tooSmall, badGroup}
 use Rattle.rules.proofs.Logic.{impossible, cases}
 use Rattle.rules.proofs.Answers.{fresh-by-rule}
 use Rattle.table.specs.Headers.{headerBytes}
-use Rattle.table.specs.Images.{formatOne, headerOf, image, rowsBytes, bodiesBytes}
+use Rattle.table.specs.Images.{formatOne, headerOf, image}
+use Rattle.rows.specs.Bytes.{rowsBytes, bodiesBytes}
 use Rattle.table.specs.Parse.{parse}
 use Rattle.table.specs.Fresh.{freshNumber, freshBuffer}
 use Rattle.table.proofs.Headers.{length-header}

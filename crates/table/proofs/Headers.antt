@@ -1,18 +1,21 @@
 -- The header: what was written as one is read back, what was read stands there, and nine numbers written one after the other are its bytes.
 use mathlib.Core.Path.{_≡_, refl}
+use mathlib.Core.Bool.{true}
 use mathlib.Core.List.{List, _++_, append-assoc}
-use Prim.Native.Nat.{ℕ, _^_, _≤_, _<_}
+use Prim.Native.Nat.{ℕ, _+_, _*_, _^_, _≤_, _<_}
 use native.Mathlib.Nat.{zero-add}
 use native.Mathlib.Omega.{arith}
 use lib.ListN.{length, length-append}
+use borrow.Author.Tests.{leb-true}
 use Rattle.wire.specs.Parts.{replaced}
 use Rattle.wire.specs.Numbers.{bytes, AllBytes}
 use Rattle.wire.proofs.Parts.{replaced-joined}
 use Rattle.wire.proofs.Numbers.{length-bytes}
 use Rattle.wire.proofs.Stands.{Stands, stands-left, stands-right, stands-joined}
 use Rattle.wire.proofs.Fields.{field-read, field-stands, last-read, last-stands}
+use Rattle.rules.proofs.Logic.{both-left, both-right}
 use Rattle.table.specs.declared.header.Header.{Header}
-use Rattle.table.specs.Headers.{nameBytes, numberBytes, headerBytes, headerAt}
+use Rattle.table.specs.Headers.{nameBytes, numberBytes, headerBytes, headerAt, sizesByRule, headerByRuleAt}
 
 length-names : (h : Header) → length (nameBytes h) ≡ 4
 unfolding nameBytes
@@ -101,3 +104,10 @@ numbers-steps s h l =
 pub header-steps : (s : List ℕ) (h : Header) → 24 ≤ length s → replaced (replaced s 0 (nameBytes h)) 4 (numberBytes h) ≡ replaced s 0 (headerBytes h)
 unfolding headerBytes
 header-steps s h l = replaced-joined s 0 4 (nameBytes h) (numberBytes h) (omega arith) (rw (length-names h))
+
+-- what a header that was passed says of the lengths
+pub header-sizes : (h : Header) (format begin limit lent : ℕ) → headerByRuleAt h format begin limit lent ≡ true → (begin + 24 * h .rows ≤ h .length) × (h .length ≤ lent)
+unfolding headerByRuleAt sizesByRule
+header-sizes h format begin limit lent t =
+    let sizes = both-right _ _ (both-right _ _ (both-right _ _ (both-right _ _ t))) in
+    (leb-true _ _ (both-right _ _ sizes), leb-true _ _ (both-left _ _ sizes))

@@ -21,13 +21,15 @@ use Rattle.rules.proofs.Groups.{group-of}
 use Rattle.rules.proofs.Tables.{row-facts, table-facts}
 use Rattle.table.specs.declared.header.Header.{Header}
 use Rattle.table.specs.Headers.{headerBytes, headerAt}
-use Rattle.table.specs.Images.{bodiesBytes, bodiesLength, rowsBytes, Form, formatOne, bodiesAt, imageLength, headerOf, image}
-use Rattle.table.specs.Parse.{rowsAt, tableAt, begins, parse}
-use Rattle.table.specs.Rows.{RowsInside}
+use Rattle.rows.specs.Bytes.{bodiesBytes, bodiesLength, rowsBytes}
+use Rattle.table.specs.Images.{Form, formatOne, bodiesAt, imageLength, headerOf, image}
+use Rattle.rows.specs.Read.{rowsAt, begins}
+use Rattle.table.specs.Parse.{tableAt, parse}
+use Rattle.rows.specs.Rows.{RowsInside}
 use Rattle.table.proofs.Headers.{length-header, HeaderFits, header-read}
-use Rattle.table.proofs.RowsRead.{length-rows, length-bodies, RowsStand, rows-complete, bodies-inside}
-use Rattle.table.proofs.Begins.{begins-stands}
-pub use Rattle.table.proofs.Begins.{begins-is, begins-with}
+use Rattle.rows.proofs.RowsRead.{length-rows, length-bodies, RowsStand, rows-complete, bodies-inside}
+use Rattle.rows.proofs.Begins.{begins-stands}
+pub use Rattle.rows.proofs.Begins.{begins-is, begins-with}
 
 -- the header and what is stored behind it reach to the rows, and every number of an image has room in its field
 pub record Sound (F : Form) (M : Model) : Type 0 where

@@ -1,12 +1,4 @@
 pub mod Headers
-pub mod Codes
-pub mod Bodies
-pub mod FieldsRead
-pub mod Begins
-pub mod Walks
-pub mod RowsRead
 pub mod Images
 pub mod Found
-pub mod Turns
-pub mod Sought
 pub mod FreshCall

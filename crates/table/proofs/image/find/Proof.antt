@@ -1,5 +1,5 @@
 use Rattle.table.proofs.Found.{parse-short, parse-tests, found-length}
-use Rattle.table.specs.Rows.{rowsByRuleAt}
+use Rattle.rows.specs.Rows.{rowsByRuleAt}
 use Rattle.table.specs.Parse.{parse, tableAt, imageFound}
 use Rattle.table.specs.Images.{formatOne}
 use Rattle.table.specs.Headers.{headerAt, headerByRuleAt}

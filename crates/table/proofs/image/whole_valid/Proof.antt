@@ -1,4 +1,4 @@
-use Rattle.table.proofs.Turns.{header-sizes}
+use Rattle.table.proofs.Headers.{header-sizes}
 use Rattle.rules.proofs.Chains.{chain}
 use native.Mathlib.Omega.{arith}
 use mathlib.Core.Path.{sym, _∙_}
@@ -8,7 +8,7 @@ use Rattle.table.proofs.image.whole_valid.Tie as tie
 use Rattle.table.proofs.image.whole_valid.Reads as reads
 use Rattle.table.proofs.image.whole_valid.Lts as lts
 use Rattle.table.proofs.header.valid.Reads as valid-reads
-use Rattle.table.proofs.image.rows_valid.Reads as rows-valid-reads
+use Rattle.rows.proofs.walk.rows_valid.Reads as rows-valid-reads
 
 valid-requires : tie.Need-valid-requires
 valid-requires c κs = search needs

@@ -1,6 +1,6 @@
 use mathlib.Core.Path.{refl}
 use Rattle.rules.specs.Tables.{freshTable}
-use Rattle.table.specs.Images.{bodiesLength}
+use Rattle.rows.specs.Bytes.{bodiesLength}
 use Rattle.table.proofs.header.Header.fresh.Statement.{statement}
 use Rattle.table.proofs.header.Header.fresh.Tie as tie
 use Rattle.table.proofs.header.Header.fresh.Reads as reads

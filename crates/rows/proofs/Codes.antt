@@ -1,0 +1,136 @@
+-- The codes of prepares and outcomes: each code is of one of them, and the rules in codes are the rules.
+use mathlib.Core.Path.{_≡_, refl, sym, ap, ap₂, _∙_}
+use mathlib.Core.Bool.{true, false}
+use mathlib.Core.Logic.{_≢_, _⊎_, inl, inr}
+use Prim.Native.Nat.{ℕ, suc, _≤_, _<_}
+use native.Mathlib.Omega.{arith}
+use lib.Dec.{eqb}
+use borrow.Author.Tests.{eqb-true, eqb-false, leb-true, le-leb}
+use Rattle.rules.specs.Tests.{both, either}
+use Rattle.rules.specs.Tables.{Result, Result.OK, Result.ABORT, Result.ABSTAIN, Result.RETRY, Prepare, Prepare.noPrepare, Prepare.tentative, Prepare.final, Verdict, Verdict.commit, Verdict.abort, Outcome, Outcome.noOutcome, Outcome.noted, Outcome.done, resultCode, prepareCode, prepareRetry, verdictCode, outcomeCode, resultByRule, retryByRule, somethingHeld}
+use Rattle.rules.proofs.Logic.{both-left, both-right, same?}
+use Rattle.rows.specs.Fields.{resultNumbered, prepareNumbered, verdictNumbered, outcomeNumbered, codesByRule, retryByCode}
+
+-- ---- what a code was made of is read from it
+
+pub prepare-read : (p : Prepare) → prepareNumbered (prepareCode p) (prepareRetry p) ≡ p
+unfolding prepareNumbered resultNumbered
+prepare-read noPrepare = refl
+prepare-read (tentative OK) = refl
+prepare-read (tentative ABORT) = refl
+prepare-read (tentative ABSTAIN) = refl
+prepare-read (tentative (RETRY s)) = refl
+prepare-read (final OK) = refl
+prepare-read (final ABORT) = refl
+prepare-read (final ABSTAIN) = refl
+prepare-read (final (RETRY s)) = refl
+
+pub outcome-read : (o : Outcome) → outcomeNumbered (outcomeCode o) ≡ o
+unfolding outcomeNumbered verdictNumbered
+outcome-read noOutcome = refl
+outcome-read (noted commit) = refl
+outcome-read (noted abort) = refl
+outcome-read (done commit) = refl
+outcome-read (done abort) = refl
+
+-- ---- codes are small, and the rule of the retry stamp is the same in them
+
+result-code-limit : (r : Result) → resultCode r ≤ 4
+result-code-limit OK = omega arith
+result-code-limit ABORT = omega arith
+result-code-limit ABSTAIN = omega arith
+result-code-limit (RETRY s) = omega arith
+
+pub prepare-code-limit : (p : Prepare) → prepareCode p ≤ 8
+prepare-code-limit noPrepare = omega arith
+prepare-code-limit (tentative r) = omega (arith, result-code-limit r)
+prepare-code-limit (final r) = omega (arith, result-code-limit r)
+
+verdict-code-limit : (v : Verdict) → verdictCode v ≤ 2
+verdict-code-limit commit = omega arith
+verdict-code-limit abort = omega arith
+
+pub outcome-code-limit : (o : Outcome) → outcomeCode o ≤ 4
+outcome-code-limit noOutcome = omega arith
+outcome-code-limit (noted v) = omega (arith, verdict-code-limit v)
+outcome-code-limit (done v) = omega (arith, verdict-code-limit v)
+
+pub retry-of-code : (p : Prepare) → retryByCode (prepareCode p) (prepareRetry p) ≡ retryByRule p
+unfolding retryByCode retryByRule resultByRule either
+retry-of-code noPrepare = refl
+retry-of-code (tentative OK) = refl
+retry-of-code (tentative ABORT) = refl
+retry-of-code (tentative ABSTAIN) = refl
+retry-of-code (tentative (RETRY s)) = refl
+retry-of-code (final OK) = refl
+retry-of-code (final ABORT) = refl
+retry-of-code (final ABSTAIN) = refl
+retry-of-code (final (RETRY s)) = refl
+
+pub codes-of : (p : Prepare) (o : Outcome) → codesByRule (prepareCode p) (outcomeCode o) ≡ somethingHeld p o
+unfolding codesByRule somethingHeld both
+codes-of p o = rw (le-leb _ _ (prepare-code-limit p), le-leb _ _ (outcome-code-limit o))
+
+-- ---- a code by the rules is of a prepare, and of an outcome
+
+-- what holds of n and of all below it holds below n + 1: so few numbers are gone through one by one
+one-more : {P : ℕ → Type 0} (n : ℕ) → P n → ((c : ℕ) → c < n → P c) → (c : ℕ) → c < suc n → P c
+one-more {P} n here below c l = go (same? c n)
+  where
+    go : (c ≡ n) ⊎ (eqb c n ≡ false) → P c
+    go (inl e) = rw e here
+    go (inr e) = let d : c ≢ n = eqb-false c n e in below c (omega arith)
+
+abbrev PrepareOf : ℕ → ℕ → Type 0
+PrepareOf q c = retryByCode c q ≡ true → (p : Prepare) × (prepareCode p ≡ c) × (prepareRetry p ≡ q)
+
+prepare-of : (c q : ℕ) → c < 9 → PrepareOf q c
+unfolding retryByCode either
+prepare-of c q l =
+    one-more {P = PrepareOf q} 8 (λ h. (final (RETRY q), refl, refl))
+    (one-more {P = PrepareOf q} 7 (λ h. (final ABSTAIN, refl, sym (eqb-true q 0 h)))
+    (one-more {P = PrepareOf q} 6 (λ h. (final ABORT, refl, sym (eqb-true q 0 h)))
+    (one-more {P = PrepareOf q} 5 (λ h. (final OK, refl, sym (eqb-true q 0 h)))
+    (one-more {P = PrepareOf q} 4 (λ h. (tentative (RETRY q), refl, refl))
+    (one-more {P = PrepareOf q} 3 (λ h. (tentative ABSTAIN, refl, sym (eqb-true q 0 h)))
+    (one-more {P = PrepareOf q} 2 (λ h. (tentative ABORT, refl, sym (eqb-true q 0 h)))
+    (one-more {P = PrepareOf q} 1 (λ h. (tentative OK, refl, sym (eqb-true q 0 h)))
+    (one-more {P = PrepareOf q} 0 (λ h. (noPrepare, refl, sym (eqb-true q 0 h))) (λ b z. absurd (omega arith))))))))))
+    c
+    l
+
+abbrev OutcomeOf : ℕ → Type 0
+OutcomeOf c = (o : Outcome) × (outcomeCode o ≡ c)
+
+outcome-of : (c : ℕ) → c < 5 → OutcomeOf c
+outcome-of =
+    one-more {P = OutcomeOf} 4 (done abort, refl)
+    (one-more {P = OutcomeOf} 3 (done commit, refl)
+    (one-more {P = OutcomeOf} 2 (noted abort, refl)
+    (one-more {P = OutcomeOf} 1 (noted commit, refl)
+    (one-more {P = OutcomeOf} 0 (noOutcome, refl) (λ b z. absurd (omega arith))))))
+
+-- so what is read from codes has these codes, and keeps the rules
+pub record Coded (c q o : ℕ) : Type 0 where
+  pub prepare : prepareCode (prepareNumbered c q) ≡ c
+  pub retry : prepareRetry (prepareNumbered c q) ≡ q
+  pub outcome : outcomeCode (outcomeNumbered o) ≡ o
+  pub held : somethingHeld (prepareNumbered c q) (outcomeNumbered o) ≡ true
+  pub byRule : retryByRule (prepareNumbered c q) ≡ true
+
+pub coded : (c q o : ℕ) → codesByRule c o ≡ true → retryByCode c q ≡ true → Coded c q o
+unfolding codesByRule
+coded c q o k h =
+    let lc : c ≤ 8 = leb-true c 8 (both-left _ _ k) in
+    let lo : o ≤ 4 = leb-true o 4 (both-left _ _ (both-right _ _ k)) in
+    let (p, a, b) = prepare-of c q (omega arith) h in
+    let (w, d) = outcome-of o (omega arith) in
+    let e : prepareNumbered c q ≡ p = sym (ap₂ prepareNumbered a b) ∙ prepare-read p in
+    let f : outcomeNumbered o ≡ w = sym (ap outcomeNumbered d) ∙ outcome-read w in
+    record {
+      prepare = ap prepareCode e ∙ a;
+      retry = ap prepareRetry e ∙ b;
+      outcome = ap outcomeCode f ∙ d;
+      held = ap₂ somethingHeld e f ∙ sym (codes-of p w) ∙ ap₂ codesByRule a d ∙ k;
+      byRule = ap retryByRule e ∙ sym (retry-of-code p) ∙ ap₂ retryByCode a b ∙ h;
+    }

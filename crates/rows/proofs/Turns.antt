@@ -1,0 +1,96 @@
+-- One turn of each loop over what stands in bytes.
+use mathlib.Core.Path.{_≡_, refl, sym, ap, _∙_}
+use mathlib.Core.Bool.{Bool, true}
+use mathlib.Core.List.{List}
+use Prim.Native.Nat.{ℕ, suc, _+_, _-_, _*_, _≤_, _<_}
+use native.Mathlib.Nat.{zero-add}
+use native.Mathlib.Numerals.{add-one}
+use native.Mathlib.Omega.{arith}
+use lib.Dec.{eqb, ltb, leb}
+use lib.ListN.{length}
+use borrow.Author.Tests.{ltb-true, leb-true, eqb-true, lt-ltb, le-leb}
+use Rattle.rules.specs.Tests.{both}
+use Rattle.rules.specs.Stamps.{isStamp, isRegister, countsByRule, accessesByRule, contentsByRule}
+use Rattle.rules.proofs.Logic.{both-left, both-right, same-test}
+use Rattle.rows.specs.declared.row.RowFields.{RowFields}
+use Rattle.rows.specs.Fields.{fieldsAt, fieldsByRule}
+use Rattle.rows.specs.Read.{accessAt, accessesAt, bodyAt}
+use Rattle.rows.specs.Rows.{sizeOf, bodyPart, BodyInside, placeByRule, bodyByRuleAt, rowByRuleAt}
+use Rattle.wire.proofs.Parts.{length-part}
+use Rattle.rows.proofs.Walks.{rowsWalk}
+use Rattle.rows.proofs.Bodies.{body-in-part}
+
+below-next : (x most : ℕ) → ltb x (most + 1) ≡ leb x most
+below-next x most =
+    same-test
+    (ltb x (most + 1))
+    (leb x most)
+    (λ h. let l : x < most + 1 = ltb-true x (most + 1) h in le-leb x most (omega arith))
+    (λ h. let l : x ≤ most = leb-true x most h in lt-ltb x (most + 1) (omega arith))
+
+-- ---- accesses, i of them passed
+
+pub accesses-turn : (s : List ℕ) (from n i low most : ℕ) → i < n →
+    let a = accessAt s (9 * (from + i)) in
+    accessesByRule (most + 1) low (accessesAt s (9 * (from + i)) (n - i))
+    ≡ both (both (leb low (a .register)) (both (ltb (a .register) 64) (leb (a .number) most))) (accessesByRule (most + 1) (a .register + 1) (accessesAt s (9 * (from + (i + 1))) (n - (i + 1))))
+unfolding accessesByRule accessesAt isRegister
+accesses-turn s from n i low most h =
+    let e : n - i ≡ suc (n - (i + 1)) = omega arith in
+    let p : 9 * (from + (i + 1)) ≡ 9 * (from + i) + 9 = omega arith in
+    rw (e, p, below-next, add-one (accessAt s (9 * (from + i)) .register))
+
+pub accesses-end : (s : List ℕ) (at n low limit : ℕ) → n ≡ 0 → accessesByRule limit low (accessesAt s at n) ≡ true
+unfolding accessesByRule accessesAt
+accesses-end s at n low limit e = rw e
+
+-- ---- rows, i of them passed
+
+pub rows-turn : (s : List ℕ) (begin n i last due end : ℕ) → i < n →
+    let f = fieldsAt s (begin + 24 * i) in
+    rowsWalk s (begin + 24 * i) (n - i) last due end
+    ≡ both (rowByRuleAt s f last due end) (rowsWalk s (begin + 24 * (i + 1)) (n - (i + 1)) (f .stamp) (due + sizeOf f) end)
+unfolding rowsWalk
+rows-turn s begin n i last due end h =
+    let e : n - i ≡ suc (n - (i + 1)) = omega arith in
+    let p : begin + 24 * (i + 1) ≡ begin + 24 * i + 24 = omega arith in
+    rw (e, p)
+
+pub rows-end : (s : List ℕ) (at n last due end : ℕ) → n ≡ 0 → rowsWalk s at n last due end ≡ eqb due end
+unfolding rowsWalk
+rows-end s at n last due end e = rw e
+
+-- ---- what tests that held say, for the code behind them
+
+-- a body's two halves, by the greatest number that each may have
+pub contents-are : (s : List ℕ) (reads writes stamp : ℕ) → 0 < stamp →
+    contentsByRule stamp (bodyAt s 0 reads writes)
+    ≡ both (accessesByRule (stamp - 1 + 1) 0 (accessesAt s (9 * 0) reads)) (accessesByRule (0xffff_ffff_ffff_ffff + 1) 0 (accessesAt s (9 * reads) writes))
+unfolding contentsByRule bodyAt
+contents-are s reads writes stamp h = let e : stamp - 1 + 1 ≡ stamp = omega arith in rw (e, zero-add)
+
+pub fields-facts : (f : RowFields) → fieldsByRule f ≡ true → (0 < f .stamp) × (f .reads + f .writes ≤ 8)
+unfolding fieldsByRule isStamp countsByRule
+fields-facts f h =
+    let names = both-left _ _ h in
+    let counts = both-right _ _ names in
+    let r : f .reads ≤ 4 = leb-true _ _ (both-left _ _ counts) in
+    let w : f .writes ≤ 4 = leb-true _ _ (both-left _ _ (both-right _ _ counts)) in
+    (ltb-true _ _ (both-left _ _ (both-left _ _ names)), omega arith)
+
+pub row-room : (s : List ℕ) (f : RowFields) (last due end : ℕ) → rowByRuleAt s f last due end ≡ true → due + sizeOf f ≤ end
+unfolding rowByRuleAt placeByRule bodyByRuleAt
+row-room s f last due end h =
+    let e : f .offset ≡ due = eqb-true _ _ (both-left _ _ (both-right _ _ (both-left _ _ h))) in
+    let l : f .offset + sizeOf f ≤ end = leb-true _ _ (both-left _ _ (both-right _ _ h)) in
+    rw (← e) l
+
+-- ---- a body as the part that is handed out
+
+pub length-body-part : (s : List ℕ) (f : RowFields) → BodyInside s f → length (bodyPart s f) ≡ sizeOf f
+unfolding bodyPart
+length-body-part s f h = length-part s (f .offset) (sizeOf f) h
+
+pub body-of-part : (s : List ℕ) (f : RowFields) → BodyInside s f → bodyAt (bodyPart s f) 0 (f .reads) (f .writes) ≡ bodyAt s (f .offset) (f .reads) (f .writes)
+unfolding bodyPart
+body-of-part s f h = body-in-part s (f .offset) (sizeOf f) (f .reads) (f .writes) h (omega arith)

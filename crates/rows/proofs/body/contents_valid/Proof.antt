@@ -1,0 +1,33 @@
+use Rattle.rows.proofs.Turns.{contents-are}
+use Rattle.rules.proofs.Chains.{chain}
+use borrow.Author.Needs.{needs}
+use Rattle.rows.proofs.body.contents_valid.Statement.{statement}
+use Rattle.rows.proofs.body.contents_valid.Tie as tie
+use Rattle.rows.proofs.body.contents_valid.Reads as reads
+use Rattle.rows.proofs.body.contents_valid.Lts as lts
+use Rattle.rows.proofs.body.accesses_valid.Reads as accesses-valid-reads
+
+sub-accesses-valid : tie.Need-sub-accesses-valid
+sub-accesses-valid c = search needs
+
+accesses-valid-requires : tie.Need-accesses-valid-requires
+accesses-valid-requires c κs = search needs
+
+accesses-valid-requires-2 : tie.Need-accesses-valid-requires-2
+accesses-valid-requires-2 c κs = search needs
+
+returns : tie.Need-returns
+returns c = rw (contents-are _ _ _ _ (c .before .before .before .before .pre .2)) (search chain)
+
+returns-2 : tie.Need-returns-2
+returns-2 c = rw (contents-are _ _ _ _ (c .before .before .before .pre .2)) (search chain)
+
+pub contents-valid-spec : {M : Type 1} → statement M
+contents-valid-spec =
+    tie.close
+    (tie.spec
+    sub-accesses-valid
+    accesses-valid-requires
+    accesses-valid-requires-2
+    returns
+    returns-2)

@@ -1,0 +1,22 @@
+use Rattle.rules.proofs.Chains.{tests}
+use borrow.Author.Needs.{needs}
+use Rattle.rows.proofs.row.body_inside.Statement.{statement}
+use Rattle.rows.proofs.row.body_inside.Tie as tie
+use Rattle.rows.proofs.row.body_inside.Reads as reads
+use Rattle.rows.proofs.row.body_inside.Lts as lts
+use Rattle.rows.proofs.row.body_length.Reads as body-length-reads
+
+cast-result : tie.Need-cast-result
+cast-result c = search needs
+
+body-length-requires : tie.Need-body-length-requires
+body-length-requires c κs = search needs
+
+add-result : tie.Need-add-result
+add-result c = search needs
+
+returns : tie.Need-returns
+returns c = search (tests, ← c .body-length .ensures)
+
+pub body-inside-spec : {M : Type 1} → statement M
+body-inside-spec = tie.close (tie.spec cast-result body-length-requires add-result returns)

@@ -1,0 +1,26 @@
+use Rattle.rows.specs.Fields.{fieldsByRule}
+use Rattle.rules.proofs.Chains.{chain}
+use borrow.Author.Needs.{needs}
+use Rattle.rows.proofs.row.fields_valid.Statement.{statement}
+use Rattle.rows.proofs.row.fields_valid.Tie as tie
+use Rattle.rows.proofs.row.fields_valid.Reads as reads
+use Rattle.rows.proofs.row.fields_valid.Lts as lts
+use Rattle.rows.proofs.row.name_valid.Reads as name-valid-reads
+use Rattle.rows.proofs.row.state_valid.Reads as state-valid-reads
+
+name-valid-requires : tie.Need-name-valid-requires
+name-valid-requires c κs = search needs
+
+state-valid-requires : tie.Need-state-valid-requires
+state-valid-requires c κs = search needs
+
+returns : tie.Need-returns
+unfolding fieldsByRule
+returns c = search chain
+
+returns-2 : tie.Need-returns-2
+unfolding fieldsByRule
+returns-2 c = search chain
+
+pub fields-valid-spec : {M : Type 1} → statement M
+fields-valid-spec = tie.close (tie.spec name-valid-requires state-valid-requires returns returns-2)

@@ -1,0 +1,23 @@
+use Rattle.rules.proofs.Chains.{chain}
+use borrow.Author.Needs.{needs}
+use Rattle.rows.proofs.row.name_valid.Statement.{statement}
+use Rattle.rows.proofs.row.name_valid.Tie as tie
+use Rattle.rows.proofs.row.name_valid.Reads as reads
+use Rattle.rows.proofs.row.name_valid.Lts as lts
+use Rattle.rows.proofs.body.counts_valid.Reads as counts-valid-reads
+use Rattle.rows.proofs.row.stamp_valid.Reads as stamp-valid-reads
+
+stamp-valid-requires : tie.Need-stamp-valid-requires
+stamp-valid-requires c κs = search needs
+
+counts-valid-requires : tie.Need-counts-valid-requires
+counts-valid-requires c κs = search needs
+
+returns : tie.Need-returns
+returns c = search chain
+
+returns-2 : tie.Need-returns-2
+returns-2 c = search chain
+
+pub name-valid-spec : {M : Type 1} → statement M
+name-valid-spec = tie.close (tie.spec stamp-valid-requires counts-valid-requires returns returns-2)

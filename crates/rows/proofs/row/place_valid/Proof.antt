@@ -1,0 +1,26 @@
+use Rattle.rules.specs.Tests.{both}
+use Rattle.rows.specs.Rows.{placeByRule}
+use Rattle.rules.proofs.Chains.{chain}
+use borrow.Author.Needs.{needs}
+use Rattle.rows.proofs.row.place_valid.Statement.{statement}
+use Rattle.rows.proofs.row.place_valid.Tie as tie
+use Rattle.rows.proofs.row.place_valid.Reads as reads
+use Rattle.rows.proofs.row.place_valid.Lts as lts
+use Rattle.rows.proofs.row.stamp_rises.Reads as stamp-rises-reads
+
+cast-if1 : tie.Need-cast-if1
+cast-if1 c = search needs
+
+stamp-rises-requires : tie.Need-stamp-rises-requires
+stamp-rises-requires c κs = search needs
+
+returns : tie.Need-returns
+unfolding placeByRule both
+returns c = search chain
+
+returns-2 : tie.Need-returns-2
+unfolding placeByRule both
+returns-2 c = search chain
+
+pub place-valid-spec : {M : Type 1} → statement M
+place-valid-spec = tie.close (tie.spec cast-if1 stamp-rises-requires returns returns-2)

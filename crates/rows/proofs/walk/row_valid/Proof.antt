@@ -1,0 +1,33 @@
+use Rattle.rows.proofs.Turns.{fields-facts}
+use Rattle.rules.proofs.Logic.{both-left}
+use mathlib.Core.Path.{sym, _∙_}
+use Rattle.rows.specs.Rows.{rowByRuleAt}
+use Rattle.rules.proofs.Chains.{chain}
+use borrow.Author.Needs.{needs}
+use Rattle.rows.proofs.walk.row_valid.Statement.{statement}
+use Rattle.rows.proofs.walk.row_valid.Tie as tie
+use Rattle.rows.proofs.walk.row_valid.Reads as reads
+use Rattle.rows.proofs.walk.row_valid.Lts as lts
+use Rattle.rows.proofs.walk.body_valid.Reads as body-valid-reads
+use Rattle.rows.proofs.walk.head_valid.Reads as head-valid-reads
+
+head-valid-requires : tie.Need-head-valid-requires
+head-valid-requires c κs = search needs
+
+body-valid-requires : tie.Need-body-valid-requires
+body-valid-requires c κs =
+    let p = c .before .before .before in
+    let h = both-left _ _ (sym (c .before .head-valid .ensures) ∙ c .if1 .taken) in
+    let f = fields-facts (p .args .row) h in
+    (p .pre, f .1, f .0)
+
+returns : tie.Need-returns
+unfolding rowByRuleAt
+returns c = search chain
+
+returns-2 : tie.Need-returns-2
+unfolding rowByRuleAt
+returns-2 c = search chain
+
+pub row-valid-spec : {M : Type 1} → statement M
+row-valid-spec = tie.close (tie.spec head-valid-requires body-valid-requires returns returns-2)

@@ -1,0 +1,55 @@
+-- 01, 'The table image: contents first, bodies after': the fields of a row as they stand in bytes, and what they mean.
+use mathlib.Core.Bool.{Bool, cond}
+use mathlib.Core.List.{List, []}
+use Prim.Native.Nat.{ℕ, _+_, _-_}
+use lib.Dec.{eqb, ltb, leb}
+use Rattle.wire.specs.Numbers.{numberAt}
+use Rattle.rules.specs.Tests.{both, either}
+use Rattle.rules.specs.Stamps.{isStamp, countsByRule}
+use Rattle.rules.specs.Tables.{Result, Result.OK, Result.ABORT, Result.ABSTAIN, Result.RETRY, Prepare, Prepare.noPrepare, Prepare.tentative, Prepare.final, Verdict, Verdict.commit, Verdict.abort, Outcome, Outcome.noOutcome, Outcome.noted, Outcome.done}
+use Rattle.rows.specs.declared.row.RowFields.{RowFields}
+
+-- "stamp 8, retry stamp 8, body offset 4, read count, write count, prepare byte, outcome byte"
+unfoldable pub fieldsAt : List ℕ → ℕ → RowFields
+fieldsAt s at = record {
+  stamp = numberAt s at 8;
+  retry = numberAt s (at + 8) 8;
+  offset = numberAt s (at + 16) 4;
+  reads = numberAt s (at + 20) 1;
+  writes = numberAt s (at + 21) 1;
+  prepare = numberAt s (at + 22) 1;
+  outcome = numberAt s (at + 23) 1;
+}
+
+-- ---- codes
+
+-- "1 to 4 .. OK, ABORT, ABSTAIN, RETRY"
+unfoldable pub resultNumbered : ℕ → ℕ → Result
+resultNumbered code retry = cond (eqb code 1) OK (cond (eqb code 2) ABORT (cond (eqb code 3) ABSTAIN (RETRY retry)))
+
+-- "Prepare: 0 none; 1 to 4 tentative OK, ABORT, ABSTAIN, RETRY; 5 to 8 the same, final."
+unfoldable pub prepareNumbered : ℕ → ℕ → Prepare
+prepareNumbered code retry = cond (eqb code 0) noPrepare (cond (leb code 4) (tentative (resultNumbered code retry)) (final (resultNumbered (code - 4) retry)))
+
+-- "1 commit or 2 abort"
+unfoldable pub verdictNumbered : ℕ → Verdict
+verdictNumbered code = cond (eqb code 1) commit abort
+
+-- "Outcome: 0 none, 1 commit noted, 2 abort noted, 3 commit done, 4 abort done."
+unfoldable pub outcomeNumbered : ℕ → Outcome
+outcomeNumbered code = cond (eqb code 0) noOutcome (cond (leb code 2) (noted (verdictNumbered code)) (done (verdictNumbered (code - 2))))
+
+-- ---- the tests of a row's fields, in the order in which its bytes are tried
+
+-- "Not both zero."
+unfoldable pub codesByRule : ℕ → ℕ → Bool
+codesByRule prepare outcome = both (leb prepare 8) (both (leb outcome 4) (ltb 0 (prepare + outcome)))
+
+-- "The retry stamp is a stamp for RETRY and 0 otherwise."
+unfoldable pub retryByCode : ℕ → ℕ → Bool
+retryByCode prepare retry = cond (either (eqb prepare 4) (eqb prepare 8)) (isStamp retry) (eqb retry 0)
+
+unfoldable pub fieldsByRule : RowFields → Bool
+fieldsByRule f =
+    both (both (isStamp (f .stamp)) (countsByRule (f .reads) (f .writes)))
+    (both (codesByRule (f .prepare) (f .outcome)) (retryByCode (f .prepare) (f .retry)))

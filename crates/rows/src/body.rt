@@ -1,0 +1,73 @@
+// A body, lent as the part of a table or of a message where it lies: its accesses one by one, and whether they keep the rules.
+ghost use mathlib.Core.Path.{_≡_};
+ghost use Prim.Native.Nat.{_+_, _*_, _≤_, _<_};
+ghost use lib.ListN.{length};
+ghost use Rattle.rules.specs.Stamps.{countsByRule, accessesByRule, contentsByRule};
+ghost use Rattle.rows.specs.Read.{accessAt, accessesAt, bodyAt};
+
+// A register, and a read's version or a write's value.
+pub struct Access {
+    pub register: u8,
+    pub number: u64,
+}
+
+// The access at an index of a body. Whoever goes over accesses takes them from here.
+pub fn access_at(body: &[u8], index: usize) -> Access
+    requires { ⌜ 9 * index + 9 ≤ length (now body) ⌝ }
+    ensures { λ r. ⌜ r ≡ accessAt (now (body .entry)) (9 * index) ⌝ }
+{
+    let at = 9 * index;
+    Access {
+        register: wire::u8_at(body, at),
+        number: wire::u64_at(body, at + 1),
+    }
+}
+
+// The counts of a body: 0 to 4 reads, 0 to 4 writes, at least one access in all.
+pub fn counts_valid(reads: u8, writes: u8) -> bool
+    ensures { λ r. ⌜ r ≡ countsByRule reads writes ⌝ }
+{
+    if 4 < reads {
+        return false;
+    }
+    if 4 < writes {
+        return false;
+    }
+    0 < reads + writes
+}
+
+// Registers rise, and no number is above `most`, in the `n` accesses from an index on.
+fn accesses_valid(body: &[u8], from: usize, n: usize, most: u64) -> bool
+    requires { ⌜ 9 * (from + n) ≤ length (now body) ⌝ }
+    ensures { λ r. ⌜ r ≡ accessesByRule (most + 1) 0 (accessesAt (now (body .entry)) (9 * from) n) ⌝ }
+{
+    let mut low: u8 = 0;
+    let mut i: usize = 0;
+    while i < n {
+        let a = access_at(body, from + i);
+        let register = a.register;
+        if register < low {
+            return false;
+        }
+        if 64 <= register {
+            return false;
+        }
+        if most < a.number {
+            return false;
+        }
+        low = register + 1;
+        i += 1;
+    }
+    true
+}
+
+// The accesses of a whole body whose counts are known: versions below the stamp, any value.
+pub fn contents_valid(body: &[u8], reads: usize, writes: usize, stamp: u64) -> bool
+    requires { ⌜ (9 * (reads + writes) ≤ length (now body)) × (reads + writes ≤ 8) × (0 < stamp) ⌝ }
+    ensures { λ r. ⌜ r ≡ contentsByRule stamp (bodyAt (now (body .entry)) 0 reads writes) ⌝ }
+{
+    if accesses_valid(body, 0, reads, stamp - 1) {
+        return accesses_valid(body, reads, writes, 0xffff_ffff_ffff_ffff);
+    }
+    false
+}

@@ -1,0 +1,47 @@
+// Where a stamp stands among the rows of an image, and the body that it is held with.
+use crate::row;
+ghost use mathlib.Core.Path.{_≡_};
+ghost use mathlib.Core.Bool.{true};
+ghost use Prim.Native.Nat.{_+_, _*_, _≤_};
+ghost use lib.ListN.{length};
+ghost use Rattle.rules.specs.Tables.{rising};
+ghost use Rattle.rules.specs.Messages.{held};
+ghost use Rattle.rows.specs.Read.{rowsAt};
+ghost use Rattle.rows.specs.Rows.{RowsInside};
+ghost use Rattle.rows.specs.Places.{placeOf, heldBody};
+
+// The index of the stamp's row, or the one that its row would have.
+pub enum Place {
+    Held { row: usize },
+    Absent { row: usize },
+}
+
+// Rows stand in the order of their stamps, so the first that is not lower settles it.
+pub fn find(image: &[u8], begin: usize, rows: usize, stamp: u64) -> Place
+    requires { ⌜ (begin + 24 * rows ≤ length (now image)) × (rising 0 (rowsAt (now image) begin rows) ≡ true) ⌝ }
+    ensures { λ r. ⌜ r ≡ placeOf (rowsAt (now (image .entry)) begin rows) stamp ⌝ }
+{
+    let mut i: usize = 0;
+    while i < rows {
+        let here = row::row_at(image, begin, i).stamp;
+        if here == stamp {
+            return Place::Held { row: i };
+        }
+        if stamp < here {
+            return Place::Absent { row: i };
+        }
+        i += 1;
+    }
+    Place::Absent { row: rows }
+}
+
+// The body of the stamp's row, as the part of the lent image where it lies; an empty part if no row has the stamp.
+pub fn held_body(image: &[u8], begin: usize, rows: usize, stamp: u64) -> &[u8]
+    requires { ⌜ RowsInside (now image) begin rows × (rising 0 (rowsAt (now image) begin rows) ≡ true) ⌝ }
+    ensures { λ r. ⌜ now r ≡ heldBody (held (rowsAt (now (image .entry)) begin rows) stamp) ⌝ }
+{
+    let Place::Held { row: index } = find(image, begin, rows, stamp) else {
+        return &image[0..0];
+    };
+    row::body_of(image, row::row_at(image, begin, index))
+}

@@ -1,0 +1,137 @@
+// The rows of an image: each by its index, with its body where it lies, and the tests of its fields, one small function each.
+use crate::body;
+ghost use mathlib.Core.Path.{_≡_};
+ghost use Prim.Native.Nat.{_+_, _*_, _≤_, _<_};
+ghost use lib.Dec.{ltb, leb};
+ghost use lib.ListN.{length};
+ghost use Rattle.rules.specs.Tests.{both};
+ghost use Rattle.rules.specs.Stamps.{isStamp, countsByRule};
+ghost use Rattle.rows.specs.Bytes.{bodyLength};
+ghost use Rattle.rows.specs.Fields.{fieldsAt, codesByRule, retryByCode, fieldsByRule};
+ghost use Rattle.rows.specs.Rows.{BodyInside, bodyPart, placeByRule};
+
+// The fields of a row, in the order in which they stand.
+pub struct RowFields {
+    pub stamp: u64,
+    pub retry: u64,
+    pub offset: u32,
+    pub reads: u8,
+    pub writes: u8,
+    pub prepare: u8,
+    pub outcome: u8,
+}
+
+// The row at an index of an image whose rows begin there. Whoever goes over rows takes them from here.
+pub fn row_at(image: &[u8], begin: usize, index: usize) -> RowFields
+    requires { ⌜ begin + 24 * index + 24 ≤ length (now image) ⌝ }
+    ensures { λ r. ⌜ r ≡ fieldsAt (now (image .entry)) (begin + 24 * index) ⌝ }
+{
+    let at = begin + 24 * index;
+    RowFields {
+        stamp: wire::u64_at(image, at),
+        retry: wire::u64_at(image, at + 8),
+        offset: wire::u32_at(image, at + 16),
+        reads: wire::u8_at(image, at + 20),
+        writes: wire::u8_at(image, at + 21),
+        prepare: wire::u8_at(image, at + 22),
+        outcome: wire::u8_at(image, at + 23),
+    }
+}
+
+// How many bytes a body with these counts has.
+pub fn body_length(reads: u8, writes: u8) -> usize
+    ensures { λ r. ⌜ r ≡ bodyLength reads writes ⌝ }
+{
+    9 * (reads as usize + writes as usize)
+}
+
+// A row's body: the part of the lent image where it lies.
+pub fn body_of(image: &[u8], row: RowFields) -> &[u8]
+    requires { ⌜ BodyInside (now image) row ⌝ }
+    ensures { λ r. ⌜ now r ≡ bodyPart (now (image .entry)) row ⌝ }
+{
+    let from = row.offset as usize;
+    let to = from + body_length(row.reads, row.writes);
+    &image[from..to]
+}
+
+pub fn stamp_valid(stamp: u64) -> bool
+    ensures { λ r. ⌜ r ≡ isStamp stamp ⌝ }
+{
+    0 < stamp && stamp < 0x1_0000_0000_0000
+}
+
+pub fn codes_valid(prepare: u8, outcome: u8) -> bool
+    ensures { λ r. ⌜ r ≡ codesByRule prepare outcome ⌝ }
+{
+    if 8 < prepare {
+        return false;
+    }
+    if 4 < outcome {
+        return false;
+    }
+    0 < prepare + outcome
+}
+
+pub fn retry_valid(prepare: u8, retry: u64) -> bool
+    ensures { λ r. ⌜ r ≡ retryByCode prepare retry ⌝ }
+{
+    if prepare == 4 {
+        return stamp_valid(retry);
+    }
+    if prepare == 8 {
+        return stamp_valid(retry);
+    }
+    retry == 0
+}
+
+// Whether a row's body ends by `end`.
+pub fn body_inside(row: RowFields, end: usize) -> bool
+    ensures { λ r. ⌜ r ≡ leb (row .offset + bodyLength (row .reads) (row .writes)) end ⌝ }
+{
+    row.offset as usize + body_length(row.reads, row.writes) <= end
+}
+
+pub fn stamp_rises(last: u64, stamp: u64) -> bool
+    ensures { λ r. ⌜ r ≡ ltb last stamp ⌝ }
+{
+    last < stamp
+}
+
+fn name_valid(row: RowFields) -> bool
+    ensures { λ r. ⌜ r ≡ both (isStamp (row .stamp)) (countsByRule (row .reads) (row .writes)) ⌝ }
+{
+    if stamp_valid(row.stamp) {
+        return body::counts_valid(row.reads, row.writes);
+    }
+    false
+}
+
+fn state_valid(row: RowFields) -> bool
+    ensures { λ r. ⌜ r ≡ both (codesByRule (row .prepare) (row .outcome)) (retryByCode (row .prepare) (row .retry)) ⌝ }
+{
+    if codes_valid(row.prepare, row.outcome) {
+        return retry_valid(row.prepare, row.retry);
+    }
+    false
+}
+
+// All that a row's own fields tell.
+pub fn fields_valid(row: RowFields) -> bool
+    ensures { λ r. ⌜ r ≡ fieldsByRule row ⌝ }
+{
+    if name_valid(row) {
+        return state_valid(row);
+    }
+    false
+}
+
+// Whether a row stands in its place: its body where the one before ended, its stamp above the one before.
+pub fn place_valid(row: RowFields, last: u64, due: usize) -> bool
+    ensures { λ r. ⌜ r ≡ placeByRule row last due ⌝ }
+{
+    if row.offset as usize == due {
+        return stamp_rises(last, row.stamp);
+    }
+    false
+}
