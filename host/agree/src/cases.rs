@@ -1,9 +1,9 @@
 //! What is asked of both renderings, with the second program's answer.
 
-use crate::dice::Dice;
 use crate::group::Group;
 use crate::{replies, scattered};
 use reference::{Counted, Decision, Message, Model, Number, Reply, Table};
+use samples::Dice;
 
 /// A box that is soon full, so that this happens often.
 pub const SMALL: Model = Model {

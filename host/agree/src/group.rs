@@ -1,9 +1,9 @@
 //! A group of boxes that random messages reach, and changes of its view.
 
 use crate::cases::{Case, SMALL};
-use crate::dice::Dice;
 use crate::parts::{body_of, outcome, result};
 use reference::{merged, respond, Message, Rows, Table};
+use samples::Dice;
 
 pub struct Group {
     dice: Dice,

@@ -6,7 +6,6 @@
 //! and has it checked.
 
 mod cases;
-mod dice;
 mod group;
 mod parts;
 mod print;

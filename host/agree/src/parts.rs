@@ -1,7 +1,7 @@
 //! The parts that cases are made of.
 
-use crate::dice::Dice;
 use reference::{Body, Outcome, PrepareResult};
+use samples::Dice;
 use std::collections::BTreeMap;
 
 /// The body of a stamp in a season: the same in every table, and another in every season.

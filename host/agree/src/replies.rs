@@ -1,9 +1,9 @@
 //! Lists of replies for the coordinator.
 
 use crate::cases::Case;
-use crate::dice::Dice;
 use crate::parts::result;
 use reference::{decide, Counted, PrepareResult};
+use samples::Dice;
 
 /// Replies of some boxes or all, with a repeated or strange box, another view or a bad retry stamp now and then.
 pub fn count(dice: &mut Dice) -> Case {

@@ -1,11 +1,11 @@
 //! Tables that no history need lead to: rows in every state and every company.
 
 use crate::cases::{Case, SMALL};
-use crate::dice::Dice;
 use crate::group::message;
 use crate::parts::{body_of, outcome, result};
 use reference::{merged, respond, HeldOutcome, HeldPrepare, Message, Mode, PrepareResult};
 use reference::{Row, Rows, Table};
+use samples::Dice;
 
 /// A message to a box that holds rows of the stamps 3, 6, 9 and so on.
 pub fn answer(dice: &mut Dice) -> Case {

@@ -14,6 +14,14 @@ const WELL: &str = "mkdir -p target/log\n\
     echo 'proved: all'\n\
     echo '7 passed, 0 failed'\n";
 
+/// Writes the library named by the next word.
+const BUILT: &str = "mkdir -p target/staticlib\n\
+    echo archive > \"target/staticlib/lib$2.a\"\n";
+
+/// Passes if it finds the library where the gate says that it is.
+const LINKED: &str = "grep -q archive \"$SPRONDILU_LIB/libsprondilu.a\" || exit 101\n\
+    echo 'test result: ok. 3 passed; 0 failed'\n";
+
 /// A copy of the gate with stand-ins for what it calls.
 struct Gate {
     folder: PathBuf,
@@ -38,7 +46,7 @@ impl Gate {
             symlink(which(tool), gate.folder.join("bin").join(tool)).unwrap();
         }
         gate.rt("exit 0", WELL);
-        gate.tool("cargo", "echo 'test result: ok. 3 passed; 0 failed'\n");
+        gate.tool("cargo", LINKED);
         gate.tool("cc", "exit 0\n");
         gate.agree("exit 0\n");
         gate
@@ -59,9 +67,16 @@ impl Gate {
     }
 
     fn rt(&self, fmt: &str, ci: &str) {
+        self.rt_with_library(fmt, ci, BUILT);
+    }
+
+    fn rt_with_library(&self, fmt: &str, ci: &str, staticlib: &str) {
+        let commands = [("fmt", fmt), ("ci", ci), ("staticlib", staticlib)];
+        let of_command = |(word, body): &(&str, &str)| format!("{})\n{}\n;;\n", word, body);
+        let cases: String = commands.iter().map(of_command).collect();
         self.tool(
             "rt",
-            &format!("if [ \"$1\" = fmt ]; then {}; fi\n{}", fmt, ci),
+            &format!("case \"$1\" in\n{}*) exit 2 ;;\nesac\n", cases),
         );
     }
 
@@ -74,6 +89,8 @@ impl Gate {
         let done = Command::new(self.folder.join("bin/bash"))
             .arg(self.folder.join(".ci/run"))
             .env("PATH", self.folder.join("bin"))
+            // A library that whoever runs the gate works with is not the one to be tested.
+            .env("SPRONDILU_LIB", env::temp_dir())
             .current_dir(env::temp_dir())
             .output()
             .unwrap();
@@ -169,6 +186,35 @@ fn a_check_that_left_no_log_is_red() {
     let gate = Gate::new("log");
     gate.rt("exit 0", "echo '7 passed, 0 failed'\n");
     gate.is_red_at("assumptions");
+}
+
+#[test]
+fn a_library_that_cannot_be_built_is_red() {
+    let gate = Gate::new("library");
+    for staticlib in ["exit 1", "echo '7 passed, 0 failed'\nexit 3"] {
+        gate.rt_with_library("exit 0", WELL, staticlib);
+        gate.is_red_at("rt staticlib sprondilu");
+    }
+}
+
+#[test]
+fn a_library_that_was_not_written_or_is_another_is_red() {
+    let gate = Gate::new("no-library");
+    for staticlib in [
+        "exit 0",
+        "mkdir -p target/staticlib\necho archive > target/staticlib/libwire.a",
+    ] {
+        gate.rt_with_library("exit 0", WELL, staticlib);
+        gate.is_red_at("cargo test");
+    }
+}
+
+#[test]
+fn no_library_is_built_of_what_assumes_something() {
+    let gate = Gate::new("assumed-library");
+    gate.rt_with_library("exit 0", &WELL.replace("sum=0", "axioms=1"), "echo built\n");
+    gate.is_red_at("assumptions");
+    assert!(!gate.run().2.contains("built"));
 }
 
 #[test]

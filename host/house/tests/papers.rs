@@ -182,3 +182,46 @@ fn the_decisions_are_numbered_once() {
         assert_eq!(*number, format!("D{}", place + 1));
     }
 }
+
+/// The constants of the C header: the words of the comment above each, its name and its value.
+fn constants(header: &str) -> Vec<(String, String, String)> {
+    let mut found = Vec::new();
+    let mut comment = Vec::new();
+    for line in header.lines() {
+        if line.starts_with("/*") {
+            comment.clear();
+        }
+        let words: Vec<&str> = line.split_whitespace().collect();
+        match words[..] {
+            ["#define", name, value] => {
+                found.push((comment.join(" "), name.to_string(), value.to_string()))
+            }
+            _ => comment.extend(words.into_iter().filter(|w| !["/*", "*", "*/"].contains(w))),
+        }
+    }
+    found
+}
+
+#[test]
+fn the_header_has_each_number_in_the_words_of_01() {
+    let constants = constants(&text("include/sprondilu.h"));
+    let mut seen = 0;
+    for row in claims() {
+        let number = match row[0].strip_prefix("NUM-").map(str::parse::<u8>) {
+            Some(Ok(number)) => number,
+            _ => continue,
+        };
+        let (name, _) = row[1]
+            .split_once(':')
+            .expect("a name before the circumstances");
+        let name = format!("SPRONDILU_{}", name.to_uppercase().replace(' ', "_"));
+        let wanted = (row[1].clone(), name, number.to_string());
+        assert!(
+            constants.contains(&wanted),
+            "the C header lacks {:?}",
+            wanted
+        );
+        seen += 1;
+    }
+    assert_eq!(seen, 12);
+}

@@ -27,4 +27,27 @@ impl Dice {
     pub fn in_a_hundred(&mut self, times: u64) -> bool {
         self.below(100) < times
     }
+
+    /// A number below a limit, as the index of something.
+    pub fn index(&mut self, limit: usize) -> usize {
+        self.below(limit as u64) as usize
+    }
+
+    pub fn one_of<T: Copy>(&mut self, choices: &[T]) -> T {
+        choices[self.index(choices.len())]
+    }
+
+    pub fn byte(&mut self) -> u8 {
+        self.below(256) as u8
+    }
+
+    pub fn bytes(&mut self, length: usize) -> Vec<u8> {
+        (0..length).map(|_| self.byte()).collect()
+    }
+
+    /// Any number of 8 bytes; its greatest and its least come up often.
+    pub fn wide(&mut self) -> u64 {
+        let any = self.next();
+        self.one_of(&[0, u64::MAX, any, any])
+    }
 }

@@ -1,0 +1,30 @@
+//! The proved calls, as Rust links them from the static library. Nothing checks these declarations against the library's
+//! source, so there is one for each call of `include/sprondilu.h` and nothing else.
+
+mod library {
+    extern "C" {
+        pub fn sprondilu_fresh(table: *mut u8, table_len: usize, n: u8, box_number: u8) -> u8;
+        pub fn sprondilu_valid(bytes: *const u8, bytes_len: usize) -> u64;
+    }
+}
+
+/// The fresh table of a box, written at the buffer's start; returns the number.
+pub fn fresh(table: &mut [u8], n: u8, box_number: u8) -> u8 {
+    // A slice is valid for its length, and nobody else has this one.
+    unsafe { library::sprondilu_fresh(table.as_mut_ptr(), table.len(), n, box_number) }
+}
+
+/// Whether the bytes begin with an image: the answer as the call codes it.
+pub fn valid_answer(bytes: &[u8]) -> u64 {
+    // A slice is valid for its length, and the call only reads.
+    unsafe { library::sprondilu_valid(bytes.as_ptr(), bytes.len()) }
+}
+
+/// The length of the image that the bytes begin with, or the number that refuses them.
+pub fn valid(bytes: &[u8]) -> Result<usize, u8> {
+    let answer = valid_answer(bytes);
+    match (answer & 0xff) as u8 {
+        0 => Ok((answer >> 16) as usize),
+        number => Err(number),
+    }
+}

@@ -1,0 +1,146 @@
+//! The C header: what a C program and a C++ program see through it, compiled with every warning an error.
+
+use std::collections::BTreeSet;
+use std::io::ErrorKind;
+use std::path::{Path, PathBuf};
+use std::process::{Command, Output};
+use std::{env, fs};
+
+/// What `fresh.c` has to print; the two images are those of the paper, the second with a retry stamp put in.
+const PRINTED: &str = "\
+fresh, a null pointer: number 1, 0 bytes changed
+fresh, a byte too short: number 1, 0 bytes changed
+fresh, a byte too short and n 4: number 1, 0 bytes changed
+fresh, n 4: number 3, 0 bytes changed
+fresh, box 3 of 3: number 3, 0 bytes changed
+valid, no image yet: number 2, answer 2
+valid, a null pointer: number 2, answer 2
+fresh, box 0 of 3: number 0, 24 bytes changed
+01 00 03 00 00 00 00 00 00 00 00 00 00 00 00 00 00 00 00 00 00 00 00 18
+valid, the fresh table: an image of 24 bytes
+valid, its image alone: an image of 24 bytes
+valid, a byte too short: number 2, answer 2
+valid, with the row of the paper: an image of 57 bytes
+valid, with a retry stamp for OK: number 2, answer 2
+01 00 03 00 00 00 00 01 00 00 00 00 00 00 00 00 00 00 00 00 00 00 00 39 \
+00 00 00 00 00 01 00 01 00 00 00 00 00 00 00 01 00 00 00 30 00 01 01 00 \
+05 00 00 00 00 00 00 00 07
+";
+
+const WARNINGS: [&str; 6] = [
+    "-Wall",
+    "-Wextra",
+    "-Wpedantic",
+    "-Wconversion",
+    "-Wshadow",
+    "-Werror",
+];
+
+/// A path below this crate's folder.
+fn here(path: &str) -> PathBuf {
+    Path::new(env!("CARGO_MANIFEST_DIR")).join(path)
+}
+
+/// A path in a folder for what tests make.
+fn made(name: &str) -> PathBuf {
+    Path::new(env!("CARGO_TARGET_TMPDIR")).join(name)
+}
+
+/// Compiles a source against the header and links it with the library; nothing if there is no such compiler.
+fn compile(compiler: &str, standard: &str, source: &Path, program: &Path) -> Option<Output> {
+    let _ = fs::remove_file(program);
+    let run = Command::new(compiler)
+        .arg(standard)
+        .args(WARNINGS)
+        .arg("-I")
+        .arg(here("../../include"))
+        .arg(source)
+        .arg(env!("SPRONDILU_ARCHIVE"))
+        .arg("-o")
+        .arg(program)
+        .output();
+    match run {
+        Err(error) if error.kind() == ErrorKind::NotFound => None,
+        other => Some(other.expect("a compiler that can be run")),
+    }
+}
+
+fn assert_done(what: &str, done: &Output) {
+    let said = String::from_utf8_lossy(&done.stderr);
+    assert!(done.status.success(), "{}: {}: {}", what, done.status, said);
+}
+
+#[test]
+fn a_c_program_gets_what_the_paper_says() {
+    let program = made("fresh");
+    let compiled = compile("cc", "-std=c11", &here("tests/fresh.c"), &program);
+    assert_done("cc", &compiled.expect("a C compiler"));
+    let run = Command::new(&program).output().expect("a program");
+    assert_done("the program", &run);
+    assert_eq!(String::from_utf8_lossy(&run.stdout), PRINTED);
+}
+
+const CPP: &str = "#include \"sprondilu.h\"\n\
+    int main() {\n\
+    return SPRONDILU_NUMBER_OF(sprondilu_valid(nullptr, 0)) == SPRONDILU_BAD_TABLE\n\
+    && sprondilu_fresh(nullptr, 0, 3, 0) == SPRONDILU_SMALL_BUFFER ? 0 : 1;\n\
+    }\n";
+
+#[test]
+fn a_cpp_program_links_the_same_calls() {
+    let (source, program) = (made("calls.cpp"), made("calls"));
+    fs::write(&source, CPP).expect("a source");
+    let mut compilers = ["c++", "g++", "clang++"].iter();
+    let compiled = compilers.find_map(|name| compile(name, "-std=c++11", &source, &program));
+    match compiled {
+        Some(done) => {
+            assert_done("the C++ compiler", &done);
+            let run = Command::new(&program).output().expect("a program");
+            assert_done("the program", &run);
+        }
+        None => eprintln!("There is no C++ compiler here: that the header is C++ was not tried."),
+    }
+}
+
+/// The symbols of the archive that `nm` prints with one of these letters.
+fn symbols(letters: &str) -> BTreeSet<String> {
+    let listed = Command::new("nm").arg(env!("SPRONDILU_ARCHIVE")).output();
+    let listed = listed.expect("nm, which comes with the compiler");
+    assert_done("nm", &listed);
+    String::from_utf8_lossy(&listed.stdout)
+        .lines()
+        .filter_map(|line| line.rsplit_once(' '))
+        .filter(|(before, _)| before.ends_with(|letter| letters.contains(letter)))
+        .map(|(_, name)| name.to_string())
+        .collect()
+}
+
+/// The calls that the header declares, each on a line that begins with the type of its answer.
+fn declared() -> BTreeSet<String> {
+    let header = fs::read_to_string(here("../../include/sprondilu.h")).expect("the header");
+    header
+        .lines()
+        .filter(|line| line.starts_with("uint"))
+        .filter_map(|line| line.split(&[' ', '('][..]).nth(1))
+        .map(str::to_string)
+        .collect()
+}
+
+#[test]
+fn the_library_has_the_calls_of_the_header() {
+    let calls: BTreeSet<String> = symbols("T")
+        .into_iter()
+        .filter(|name| name.starts_with("sprondilu_"))
+        .collect();
+    assert!(calls.contains("sprondilu_fresh"), "{:?}", calls);
+    assert_eq!(calls, declared());
+}
+
+#[test]
+fn the_library_needs_memset_and_memcpy_at_most() {
+    let there = symbols("TtWV");
+    let mut needed = symbols("U");
+    needed.retain(|name| !there.contains(name));
+    needed.retain(|name| !["memset", "memcpy"].contains(&name.as_str()));
+    assert!(needed.is_empty(), "{:?}", needed);
+}

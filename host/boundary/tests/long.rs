@@ -1,0 +1,22 @@
+//! Lengths that need more than 32 bits: a table buffer and lent bytes may be that long.
+
+use samples::{random, Dice, TABLE_BYTES};
+
+/// The machine gives memory to such a buffer only where it is touched.
+fn longer_than_32_bits(more: usize) -> Vec<u8> {
+    vec![0; (1 << 32) + more]
+}
+
+#[test]
+fn a_length_is_taken_whole() {
+    let mut buffer = longer_than_32_bits(10);
+    assert_eq!(boundary::fresh(&mut buffer, 3, 1), 0);
+    let mut second = vec![0; TABLE_BYTES];
+    assert_eq!(reference::fresh(&mut second, 3, 1), 0);
+    assert_eq!(buffer[..TABLE_BYTES], second[..]);
+    assert_eq!(boundary::valid(&buffer), Ok(24));
+    let image = random::table(&mut Dice::seeded(1), 7).image();
+    buffer[..image.len()].copy_from_slice(&image);
+    assert_eq!(boundary::valid(&buffer), Ok(image.len()));
+    assert_eq!(boundary::valid(&buffer[..10]), Err(2));
+}

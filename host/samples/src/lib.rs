@@ -1,0 +1,31 @@
+//! Tables of document 01 for tests and measurements: random ones by its rules, and images that break one of them.
+//!
+//! Images are put together here byte by byte, apart from the second program, so that neither can hide a mistake of the
+//! other. A sample has a kind, in words, by which whoever judges samples counts them.
+//!
+//! - [`dice`]: numbers that look random and are the same in every run
+//! - [`table`]: a table as plain numbers, which keeps no rule by itself, and its image
+//! - [`random`]: random tables by the rules
+//! - [`field`]: where the fields of an image stand, and values about the limits of each
+//! - [`damage`]: images of many kinds, good and bad
+//! - [`tally`]: how many samples of each kind were images
+
+pub mod damage;
+pub mod dice;
+pub mod field;
+pub mod random;
+pub mod table;
+pub mod tally;
+
+pub use dice::Dice;
+pub use table::{Access, Row, Table};
+pub use tally::Tally;
+
+/// "A stamp is 1 to 2^48-1".
+pub const GREATEST_STAMP: u64 = (1 << 48) - 1;
+
+/// "At most 512 rows."
+pub const MOST_ROWS: usize = 512;
+
+/// "A table buffer has at least 49,176 bytes."
+pub const TABLE_BYTES: usize = 49_176;

@@ -1,0 +1,94 @@
+/*
+ * Sprondilu's calls, as C11 and C++11 link them from libsprondilu.a. "01" is the paper that fixes every number and
+ * every byte: docs/CLAIMS.md has it sentence by sentence.
+ *
+ * A call works on buffers that its caller lends, keeps nothing between two calls, and ends with a number of 01's list.
+ * What a call promises stands above it, and holds where all of this does:
+ *
+ * - The machine is an x86-64, calls go by the System V convention, and size_t has 64 bits.
+ * - A pointer is valid for as many bytes as the length behind it says: for reading, and where it is not const for
+ *   writing too. A null pointer has length 0.
+ * - Two buffers lent to one call do not overlap.
+ * - Nobody else touches a lent buffer during a call: one call at a time for each buffer. Calls on other buffers may run
+ *   at the same time.
+ * - Whoever links supplies memset and memcpy, with C's meaning. Nothing else is needed.
+ *
+ * Where one of them does not hold, nothing is promised.
+ */
+#ifndef SPRONDILU_H
+#define SPRONDILU_H
+
+#include <stddef.h>
+#include <stdint.h>
+
+#ifdef __cplusplus
+static_assert(sizeof(size_t) == 8, "libsprondilu.a takes lengths of 64 bits");
+extern "C" {
+#else
+_Static_assert(sizeof(size_t) == 8, "libsprondilu.a takes lengths of 64 bits");
+#endif
+
+/*
+ * The numbers, each given exactly in the circumstances above it. The first that applies wins, in this order: 1, 2, 3, 4,
+ * 9, 10, 11, 8, 5, 6, 7.
+ */
+
+/* done: none below applies */
+#define SPRONDILU_DONE 0
+/* small buffer: table or output buffer (not a merge's run) below 49,176, or reply buffer below 24 */
+#define SPRONDILU_SMALL_BUFFER 1
+/* bad table: the lent table (never fresh's buffer or an output) doesn't begin with an image by the rules; for a merge,
+ * the run isn't one or more whole images */
+#define SPRONDILU_BAD_TABLE 2
+/* bad message: kind, length, stamp, body, register or code breaks a rule; fresh: bad n or box; count: see there */
+#define SPRONDILU_BAD_MESSAGE 3
+/* changing: messages 1 to 4 and 7 while mode is 1 */
+#define SPRONDILU_CHANGING 4
+/* other body: the stamp is held with another body */
+#define SPRONDILU_OTHER_BODY 5
+/* contradiction: an unequal final result or an opposite outcome is held */
+#define SPRONDILU_CONTRADICTION 6
+/* full: a new stamp with 512 rows held, or a merge of more than 512 stamps */
+#define SPRONDILU_FULL 7
+/* unknown: finalising a part that the table doesn't hold */
+#define SPRONDILU_UNKNOWN 8
+/* other view: message 2 or 4 for a view that isn't the box's */
+#define SPRONDILU_OTHER_VIEW 9
+/* old view: message 5 with v at or below promised; 6 with v below promised or at or below view */
+#define SPRONDILU_OLD_VIEW 10
+/* wrong tables: merge: not exactly f+1 images, unequal n, a box twice, mode 0, or promised not v */
+#define SPRONDILU_WRONG_TABLES 11
+
+/* The least length of a table buffer, in bytes: as long as the image of 512 rows with the longest bodies. */
+#define SPRONDILU_TABLE_BYTES 49176
+
+/*
+ * Writes the fresh table of box `box` of a group of `n` boxes at the start of a table buffer.
+ *
+ * Returns SPRONDILU_SMALL_BUFFER if table_len is below SPRONDILU_TABLE_BYTES; else SPRONDILU_BAD_MESSAGE if n is not 3, 5
+ * or 7, or box not below n; else SPRONDILU_DONE.
+ * Done, the first 24 bytes are the fresh image, and no other byte has changed: what the buffer held is neither looked at
+ * nor cleared. Refused, no byte has changed.
+ */
+uint8_t sprondilu_fresh(uint8_t *table, size_t table_len, uint8_t n, uint8_t box);
+
+/*
+ * Whether lent bytes begin with an image by 01's rules, and how long it is. What follows the image is not looked at.
+ *
+ * The answer has the number in bits 0 to 7, SPRONDILU_DONE or SPRONDILU_BAD_TABLE; for SPRONDILU_DONE the image's length
+ * in bytes in bits 16 to 63; and 0 in all other bits. The two macros below take it apart.
+ * Any length will do: as in a merge's run, SPRONDILU_SMALL_BUFFER does not apply. No byte changes.
+ */
+uint64_t sprondilu_valid(const uint8_t *bytes, size_t bytes_len);
+
+/* The number in an answer of 64 bits. */
+#define SPRONDILU_NUMBER_OF(answer) ((answer) & 0xffu)
+
+/* The image's length in an answer of sprondilu_valid whose number is SPRONDILU_DONE. */
+#define SPRONDILU_LENGTH_OF(answer) ((answer) >> 16)
+
+#ifdef __cplusplus
+}
+#endif
+
+#endif
