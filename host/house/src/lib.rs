@@ -61,7 +61,7 @@ pub fn cited(paper: &str) -> Vec<String> {
 
 /// Whether what a citation names is there. `None` for words that name nothing of the tree.
 ///
-/// `wire::u32_at` is a function of a crate, `wire/proofs/Numbers.read-back` a definition or a theorem, `wire/must-fail/..`
+/// `wire::u32_at` is a function of a crate, `table::header::read` one of a module of it, `wire/proofs/Numbers.read-back` a definition or a theorem, `wire/must-fail/..`
 /// an edit, and a path that begins with one of the repository's folders is that file.
 pub fn stands(citation: &str) -> Option<bool> {
     let crates = crates();
@@ -69,9 +69,7 @@ pub fn stands(citation: &str) -> Option<bool> {
         if !crates.iter().any(|c| c == name) {
             return None;
         }
-        let declared = format!("fn {}(", function);
-        let sources = files(&format!("crates/{}/src", name), ".rt");
-        return Some(sources.iter().any(|file| text(file).contains(&declared)));
+        return Some(declares_function(name, function));
     }
     let (first, rest) = citation.split_once('/')?;
     if crates.iter().any(|c| c == first) {
@@ -82,6 +80,23 @@ pub fn stands(citation: &str) -> Option<bool> {
         return Some(top().join(citation).exists());
     }
     None
+}
+
+/// Whether a source of the crate has this function: `u32_at` in any of them, `header::read` in the module that is named,
+/// and `header::Header::with_view` there too, as a method.
+fn declares_function(name: &str, path: &str) -> bool {
+    let parts: Vec<&str> = path.split("::").collect();
+    let sources = match parts.as_slice() {
+        [_] => files(&format!("crates/{}/src", name), ".rt"),
+        [module, ..] => vec![format!("crates/{}/src/{}.rt", name, module)],
+        [] => return false,
+    };
+    let declared = format!("fn {}(", parts[parts.len() - 1]);
+    sources.iter().any(|file| {
+        fs::read_to_string(top().join(file))
+            .map(|source| source.contains(&declared))
+            .unwrap_or(false)
+    })
 }
 
 fn stands_in_crate(name: &str, rest: &str) -> bool {
