@@ -1,6 +1,6 @@
 -- 01, 'The table image: contents first, bodies after': the fields of a row as they stand in bytes, and what they mean.
 use mathlib.Core.Bool.{Bool, cond}
-use mathlib.Core.List.{List, []}
+use mathlib.Core.List.{List}
 use Prim.Native.Nat.{ℕ, _+_, _-_}
 use lib.Dec.{eqb, ltb, leb}
 use Rattle.wire.specs.Numbers.{numberAt}

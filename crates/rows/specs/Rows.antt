@@ -7,7 +7,7 @@ use lib.ListN.{length, drop}
 use Rattle.wire.specs.Parts.{part}
 use Rattle.rules.specs.Tests.{both, every}
 use Rattle.rules.specs.Stamps.{contentsByRule}
-use Rattle.rules.specs.Tables.{Row, rising, rowByRule}
+use Rattle.rules.specs.Tables.{rising, rowByRule}
 use Rattle.rows.specs.declared.row.RowFields.{RowFields}
 use Rattle.rows.specs.Bytes.{bodyLength, rowsBytes, bodiesBytes, bodiesLength}
 use Rattle.rows.specs.Fields.{fieldsAt, fieldsByRule}
@@ -23,7 +23,7 @@ bodyPart s f = part s (f .offset) (sizeOf f)
 abbrev pub BodyInside : List ℕ → RowFields → Type 0
 BodyInside s f = f .offset + sizeOf f ≤ length s
 
--- n rows from begin lie inside, each with its body: less than that an image is there
+-- n rows from begin lie inside, each with its body; of an image more is asked than that
 abbrev pub RowsInside : List ℕ → ℕ → ℕ → Type 0
 RowsInside s begin n = (begin + 24 * n ≤ length s) × ((i : ℕ) → i < n → BodyInside s (fieldsAt s (begin + 24 * i)))
 

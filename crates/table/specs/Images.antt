@@ -37,6 +37,6 @@ headerOf F T = record {
   length = imageLength F T;
 }
 
--- "contents first, bodies after": "offsets count from the image's start"
+-- contents first, bodies after; "offsets count from the image's start"
 unfoldable pub image : Form → Table → List ℕ
 image F T = headerBytes (headerOf F T) ++ (F .stored (T .rows) ++ (rowsBytes (bodiesAt F (T .rows)) (T .rows) ++ bodiesBytes (T .rows)))

@@ -6,7 +6,6 @@ use Prim.Native.Nat.{ℕ}
 use Rattle.rules.specs.Tests.{both, provided}
 use Rattle.rules.specs.Tables.{Table, Model, tableByRule}
 use Rattle.rows.specs.Read.{rowsAt, begins}
-use Rattle.table.specs.declared.header.Header.{Header}
 use Rattle.table.specs.declared.image.Found.{Found}
 use Rattle.table.specs.declared.image.Found.the-variants.{Image, Nothing}
 use Rattle.table.specs.Headers.{headerAt}

@@ -1,17 +1,14 @@
-use Rattle.table.proofs.Found.{found-at-most}
-use Rattle.table.specs.Parse.{parse, imageFound}
-use Rattle.table.specs.Images.{formatOne}
-use Rattle.rules.specs.Tables.{valley}
-use denote.Ref.{now}
+-- The look for an image answers for a valley box, whose images are short enough for their length to stand in the upper bits.
 use mathlib.Core.Path.{_≡_, sym, _∙_}
 use native.Mathlib.Omega.{arith}
 use borrow.Author.Needs.{needs}
+use denote.Ref.{now}
+use Rattle.rules.specs.Tables.{valley}
+use Rattle.table.specs.Parse.{parse, imageFound}
+use Rattle.table.specs.Images.{formatOne}
+use Rattle.table.proofs.Found.{found-at-most}
 use Rattle.sprondilu.proofs.sprondilu_valid.Statement.{statement}
 use Rattle.sprondilu.proofs.sprondilu_valid.Tie as tie
-use Rattle.sprondilu.proofs.sprondilu_valid.Reads as reads
-use Rattle.sprondilu.proofs.sprondilu_valid.Lts as lts
-use Rattle.table.proofs.image.find.Reads as find-reads
-use Rattle.table.proofs.model.Model.valley.Reads as valley-reads
 
 valley-requires : tie.Need-valley-requires
 valley-requires c κs = search needs

@@ -1,11 +1,7 @@
-use Rattle.rows.specs.Read.{accessAt}
 use borrow.Author.Needs.{needs}
+use Rattle.rows.specs.Read.{accessAt}
 use Rattle.rows.proofs.body.access_at.Statement.{statement}
 use Rattle.rows.proofs.body.access_at.Tie as tie
-use Rattle.rows.proofs.body.access_at.Reads as reads
-use Rattle.rows.proofs.body.access_at.Lts as lts
-use Rattle.wire.proofs.u64_at.Reads as u64-at-reads
-use Rattle.wire.proofs.u8_at.Reads as u8-at-reads
 
 mul-at : tie.Need-mul-at
 mul-at c = search needs

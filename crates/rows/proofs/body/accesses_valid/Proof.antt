@@ -1,19 +1,17 @@
-use Rattle.rows.proofs.Turns.{accesses-turn, accesses-end}
-use Rattle.rows.specs.Read.{accessAt, accessesAt}
-use Rattle.rules.proofs.Chains.{tests}
+-- The accesses passed kept the rules: what is left to be tried, from the next register that is allowed on, gives the whole answer.
+use mathlib.Core.Path.{_≡_, sym, _∙_}
+use Prim.Native.Nat.{_+_, _-_, _*_, _≤_}
+use native.Mathlib.Nat.{add-zero, sub-zero}
+use native.Mathlib.Omega.{arith}
+use lib.Dec.{ltb, leb}
+use denote.Ref.{now}
 use Rattle.rules.specs.Stamps.{accessesByRule}
 use Rattle.rules.specs.Tests.{both}
-use denote.Ref.{now}
-use lib.Dec.{ltb, leb}
-use native.Mathlib.Nat.{add-zero, sub-zero}
-use Prim.Native.Nat.{_+_, _-_, _*_, _≤_}
-use mathlib.Core.Path.{_≡_, sym, _∙_}
-use native.Mathlib.Omega.{arith}
+use Rattle.rules.proofs.Chains.{tests}
+use Rattle.rows.specs.Read.{accessAt, accessesAt}
+use Rattle.rows.proofs.Turns.{accesses-turn, accesses-end}
 use Rattle.rows.proofs.body.accesses_valid.Statement.{statement}
 use Rattle.rows.proofs.body.accesses_valid.Tie as tie
-use Rattle.rows.proofs.body.accesses_valid.Reads as reads
-use Rattle.rows.proofs.body.accesses_valid.Lts as lts
-use Rattle.rows.proofs.body.access_at.Reads as access-at-reads
 
 abbrev Inv-loop : tie.InvT-loop
 Inv-loop body from n most low₀ i₀ low i = (i ≤ n) × (accessesByRule (most + 1) 0 (accessesAt body (9 * from) n) ≡ accessesByRule (most + 1) low (accessesAt body (9 * (from + i)) (n - i)))

@@ -1,11 +1,9 @@
-use Rattle.rows.proofs.Turns.{contents-are}
-use Rattle.rules.proofs.Chains.{chain}
+-- Reads and writes are one test each; a number below the stamp is one at most the stamp less one.
 use borrow.Author.Needs.{needs}
+use Rattle.rules.proofs.Chains.{chain}
+use Rattle.rows.proofs.Turns.{contents-are}
 use Rattle.rows.proofs.body.contents_valid.Statement.{statement}
 use Rattle.rows.proofs.body.contents_valid.Tie as tie
-use Rattle.rows.proofs.body.contents_valid.Reads as reads
-use Rattle.rows.proofs.body.contents_valid.Lts as lts
-use Rattle.rows.proofs.body.accesses_valid.Reads as accesses-valid-reads
 
 sub-accesses-valid : tie.Need-sub-accesses-valid
 sub-accesses-valid c = search needs

@@ -1,11 +1,9 @@
+use borrow.Author.Needs.{needs}
 use Rattle.rules.specs.Tests.{both}
 use Rattle.rules.specs.Stamps.{countsByRule}
 use Rattle.rules.proofs.Chains.{tests}
-use borrow.Author.Needs.{needs}
 use Rattle.rows.proofs.body.counts_valid.Statement.{statement}
 use Rattle.rows.proofs.body.counts_valid.Tie as tie
-use Rattle.rows.proofs.body.counts_valid.Reads as reads
-use Rattle.rows.proofs.body.counts_valid.Lts as lts
 
 returns : tie.Need-returns
 unfolding countsByRule both

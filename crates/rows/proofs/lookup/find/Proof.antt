@@ -1,21 +1,19 @@
-use Rattle.rows.specs.Fields.{fieldsAt}
-use lib.Dec.{eqb, ltb}
+-- The rows passed are lower: the search among the rest gives the whole answer, and for rising rows that is the place of the stamp (Sought).
 use mathlib.Core.Bool.{cond}
-use Rattle.rows.proofs.Sought.{sought, place-sought, sought-turn, sought-end}
+use mathlib.Core.Path.{_≡_, sym, ap, _∙_}
+use Prim.Native.Nat.{_+_, _-_, _*_, _≤_}
+use native.Mathlib.Nat.{add-zero, sub-zero}
+use native.Mathlib.Omega.{arith}
+use lib.Dec.{eqb, ltb}
+use denote.Ref.{now}
+use Rattle.rules.proofs.Chains.{tests}
+use Rattle.rows.specs.Fields.{fieldsAt}
 use Rattle.rows.specs.declared.lookup.Place.the-variants.{Held, Absent}
 use Rattle.rows.specs.Places.{placeOf}
 use Rattle.rows.specs.Read.{rowsAt}
-use Rattle.rules.proofs.Chains.{tests}
-use denote.Ref.{now}
-use native.Mathlib.Nat.{add-zero, sub-zero}
-use Prim.Native.Nat.{_+_, _-_, _*_, _≤_}
-use mathlib.Core.Path.{_≡_, sym, ap, _∙_}
-use native.Mathlib.Omega.{arith}
+use Rattle.rows.proofs.Sought.{sought, place-sought, sought-turn, sought-end}
 use Rattle.rows.proofs.lookup.find.Statement.{statement}
 use Rattle.rows.proofs.lookup.find.Tie as tie
-use Rattle.rows.proofs.lookup.find.Reads as reads
-use Rattle.rows.proofs.lookup.find.Lts as lts
-use Rattle.rows.proofs.row.row_at.Reads as row-at-reads
 
 abbrev Inv-loop : tie.InvT-loop
 Inv-loop image begin rows stamp i₀ i = (i ≤ rows) × (placeOf (rowsAt image begin rows) stamp ≡ sought i (rowsAt image (begin + 24 * i) (rows - i)) stamp)

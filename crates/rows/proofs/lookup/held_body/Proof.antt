@@ -1,22 +1,18 @@
-use Rattle.rules.specs.Messages.{held}
+-- The row that was found is the one that `rules` holds for the stamp, and its part has its bytes.
 use mathlib.Core.Option.{some}
-use Rattle.rows.proofs.Sought.{absent-none, held-row}
-use Rattle.rows.proofs.Bodies.{body-part}
+use mathlib.Core.Path.{_≡_, sym, _∙_}
+use Prim.Native.Nat.{_+_, _*_, _<_}
+use native.Mathlib.Omega.{arith}
+use borrow.Author.Needs.{needs}
+use denote.Ref.{now}
 use Rattle.wire.proofs.Numbers.{all-of}
+use Rattle.rules.specs.Messages.{held}
 use Rattle.rows.specs.Read.{rowOf, rowsAt}
 use Rattle.rows.specs.Fields.{fieldsAt}
-use denote.Ref.{now}
-use native.Mathlib.Omega.{arith}
-use Prim.Native.Nat.{_+_, _*_, _<_}
-use mathlib.Core.Path.{_≡_, sym, _∙_}
-use borrow.Author.Needs.{needs}
+use Rattle.rows.proofs.Sought.{absent-none, held-row}
+use Rattle.rows.proofs.Bodies.{body-part}
 use Rattle.rows.proofs.lookup.held_body.Statement.{statement}
 use Rattle.rows.proofs.lookup.held_body.Tie as tie
-use Rattle.rows.proofs.lookup.held_body.Reads as reads
-use Rattle.rows.proofs.lookup.held_body.Lts as lts
-use Rattle.rows.proofs.lookup.find.Reads as find-reads
-use Rattle.rows.proofs.row.body_of.Reads as body-of-reads
-use Rattle.rows.proofs.row.row_at.Reads as row-at-reads
 
 find-requires : tie.Need-find-requires
 find-requires c κs = search needs

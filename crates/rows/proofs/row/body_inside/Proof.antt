@@ -1,10 +1,7 @@
-use Rattle.rules.proofs.Chains.{tests}
 use borrow.Author.Needs.{needs}
+use Rattle.rules.proofs.Chains.{tests}
 use Rattle.rows.proofs.row.body_inside.Statement.{statement}
 use Rattle.rows.proofs.row.body_inside.Tie as tie
-use Rattle.rows.proofs.row.body_inside.Reads as reads
-use Rattle.rows.proofs.row.body_inside.Lts as lts
-use Rattle.rows.proofs.row.body_length.Reads as body-length-reads
 
 cast-result : tie.Need-cast-result
 cast-result c = search needs

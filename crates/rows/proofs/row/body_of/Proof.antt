@@ -1,11 +1,9 @@
-use Rattle.rows.specs.Rows.{bodyPart}
+-- The part from the offset on has as many bytes as the counts say.
 use native.Mathlib.Nat.{add-sub-cancel-left}
 use borrow.Author.Needs.{needs}
+use Rattle.rows.specs.Rows.{bodyPart}
 use Rattle.rows.proofs.row.body_of.Statement.{statement}
 use Rattle.rows.proofs.row.body_of.Tie as tie
-use Rattle.rows.proofs.row.body_of.Reads as reads
-use Rattle.rows.proofs.row.body_of.Lts as lts
-use Rattle.rows.proofs.row.body_length.Reads as body-length-reads
 
 cast-from : tie.Need-cast-from
 cast-from c = search needs

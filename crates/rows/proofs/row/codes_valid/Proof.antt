@@ -1,11 +1,9 @@
-use Rattle.rules.specs.Tests.{both}
-use Rattle.rows.specs.Fields.{codesByRule}
-use Rattle.rules.proofs.Chains.{tests}
 use borrow.Author.Needs.{needs}
+use Rattle.rules.specs.Tests.{both}
+use Rattle.rules.proofs.Chains.{tests}
+use Rattle.rows.specs.Fields.{codesByRule}
 use Rattle.rows.proofs.row.codes_valid.Statement.{statement}
 use Rattle.rows.proofs.row.codes_valid.Tie as tie
-use Rattle.rows.proofs.row.codes_valid.Reads as reads
-use Rattle.rows.proofs.row.codes_valid.Lts as lts
 
 returns : tie.Need-returns
 unfolding codesByRule both

@@ -1,12 +1,8 @@
-use Rattle.rows.specs.Fields.{fieldsByRule}
-use Rattle.rules.proofs.Chains.{chain}
 use borrow.Author.Needs.{needs}
+use Rattle.rules.proofs.Chains.{chain}
+use Rattle.rows.specs.Fields.{fieldsByRule}
 use Rattle.rows.proofs.row.fields_valid.Statement.{statement}
 use Rattle.rows.proofs.row.fields_valid.Tie as tie
-use Rattle.rows.proofs.row.fields_valid.Reads as reads
-use Rattle.rows.proofs.row.fields_valid.Lts as lts
-use Rattle.rows.proofs.row.name_valid.Reads as name-valid-reads
-use Rattle.rows.proofs.row.state_valid.Reads as state-valid-reads
 
 name-valid-requires : tie.Need-name-valid-requires
 name-valid-requires c κs = search needs

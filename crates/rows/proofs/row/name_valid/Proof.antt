@@ -1,11 +1,7 @@
-use Rattle.rules.proofs.Chains.{chain}
 use borrow.Author.Needs.{needs}
+use Rattle.rules.proofs.Chains.{chain}
 use Rattle.rows.proofs.row.name_valid.Statement.{statement}
 use Rattle.rows.proofs.row.name_valid.Tie as tie
-use Rattle.rows.proofs.row.name_valid.Reads as reads
-use Rattle.rows.proofs.row.name_valid.Lts as lts
-use Rattle.rows.proofs.body.counts_valid.Reads as counts-valid-reads
-use Rattle.rows.proofs.row.stamp_valid.Reads as stamp-valid-reads
 
 stamp-valid-requires : tie.Need-stamp-valid-requires
 stamp-valid-requires c κs = search needs

@@ -1,12 +1,9 @@
-use Rattle.rules.specs.Tests.{both}
-use Rattle.rows.specs.Rows.{placeByRule}
-use Rattle.rules.proofs.Chains.{chain}
 use borrow.Author.Needs.{needs}
+use Rattle.rules.specs.Tests.{both}
+use Rattle.rules.proofs.Chains.{chain}
+use Rattle.rows.specs.Rows.{placeByRule}
 use Rattle.rows.proofs.row.place_valid.Statement.{statement}
 use Rattle.rows.proofs.row.place_valid.Tie as tie
-use Rattle.rows.proofs.row.place_valid.Reads as reads
-use Rattle.rows.proofs.row.place_valid.Lts as lts
-use Rattle.rows.proofs.row.stamp_rises.Reads as stamp-rises-reads
 
 cast-if1 : tie.Need-cast-if1
 cast-if1 c = search needs

@@ -1,12 +1,9 @@
-use Rattle.rules.specs.Tests.{either}
-use Rattle.rows.specs.Fields.{retryByCode}
-use Rattle.rules.proofs.Chains.{tests}
 use borrow.Author.Needs.{needs}
+use Rattle.rules.specs.Tests.{either}
+use Rattle.rules.proofs.Chains.{tests}
+use Rattle.rows.specs.Fields.{retryByCode}
 use Rattle.rows.proofs.row.retry_valid.Statement.{statement}
 use Rattle.rows.proofs.row.retry_valid.Tie as tie
-use Rattle.rows.proofs.row.retry_valid.Reads as reads
-use Rattle.rows.proofs.row.retry_valid.Lts as lts
-use Rattle.rows.proofs.row.stamp_valid.Reads as stamp-valid-reads
 
 stamp-valid-requires : tie.Need-stamp-valid-requires
 stamp-valid-requires c κs = search needs

@@ -1,12 +1,7 @@
-use Rattle.rows.specs.Fields.{fieldsAt}
 use borrow.Author.Needs.{needs}
+use Rattle.rows.specs.Fields.{fieldsAt}
 use Rattle.rows.proofs.row.row_at.Statement.{statement}
 use Rattle.rows.proofs.row.row_at.Tie as tie
-use Rattle.rows.proofs.row.row_at.Reads as reads
-use Rattle.rows.proofs.row.row_at.Lts as lts
-use Rattle.wire.proofs.u32_at.Reads as u32-at-reads
-use Rattle.wire.proofs.u64_at.Reads as u64-at-reads
-use Rattle.wire.proofs.u8_at.Reads as u8-at-reads
 
 mul-at : tie.Need-mul-at
 mul-at c = search needs

@@ -3,8 +3,6 @@ use Rattle.rules.specs.Stamps.{isStamp}
 use Rattle.rules.proofs.Chains.{tests}
 use Rattle.rows.proofs.row.stamp_valid.Statement.{statement}
 use Rattle.rows.proofs.row.stamp_valid.Tie as tie
-use Rattle.rows.proofs.row.stamp_valid.Reads as reads
-use Rattle.rows.proofs.row.stamp_valid.Lts as lts
 
 returns : tie.Need-returns
 unfolding isStamp both

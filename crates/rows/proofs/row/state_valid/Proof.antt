@@ -1,11 +1,7 @@
-use Rattle.rules.proofs.Chains.{chain}
 use borrow.Author.Needs.{needs}
+use Rattle.rules.proofs.Chains.{chain}
 use Rattle.rows.proofs.row.state_valid.Statement.{statement}
 use Rattle.rows.proofs.row.state_valid.Tie as tie
-use Rattle.rows.proofs.row.state_valid.Reads as reads
-use Rattle.rows.proofs.row.state_valid.Lts as lts
-use Rattle.rows.proofs.row.codes_valid.Reads as codes-valid-reads
-use Rattle.rows.proofs.row.retry_valid.Reads as retry-valid-reads
 
 codes-valid-requires : tie.Need-codes-valid-requires
 codes-valid-requires c κs = search needs

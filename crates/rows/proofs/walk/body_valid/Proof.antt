@@ -1,24 +1,20 @@
+-- A body that ends in time lies inside the lent bytes, so it can be handed out as a part; its accesses are the same there.
 use mathlib.Core.List.{List}
+use mathlib.Core.Path.{_≡_, sym, ap, _∙_}
+use Prim.Native.Nat.{ℕ, _+_, _≤_}
+use native.Mathlib.Omega.{arith}
 use lib.ListN.{length}
-use Rattle.rows.proofs.Turns.{length-body-part, body-of-part}
+use borrow.Author.Tests.{leb-true}
+use borrow.Author.Needs.{needs}
+use denote.Ref.{now}
+use Rattle.rules.specs.Stamps.{contentsByRule}
+use Rattle.rules.proofs.Chains.{both-yes, chain}
 use Rattle.rows.specs.Rows.{sizeOf, BodyInside, bodyByRuleAt}
 use Rattle.rows.specs.Read.{bodyAt}
-use Rattle.rules.proofs.Chains.{both-yes, chain}
-use Rattle.rules.specs.Stamps.{contentsByRule}
-use borrow.Author.Tests.{leb-true}
-use denote.Ref.{now}
-use lib.Dec.{leb}
-use native.Mathlib.Omega.{arith}
-use Prim.Native.Nat.{ℕ, _+_, _≤_}
-use mathlib.Core.Path.{_≡_, sym, ap, _∙_}
-use borrow.Author.Needs.{needs}
+use Rattle.rows.proofs.Turns.{length-body-part, body-of-part}
+use Rattle.rows.proofs.walk.body_valid.Reads as reads
 use Rattle.rows.proofs.walk.body_valid.Statement.{statement}
 use Rattle.rows.proofs.walk.body_valid.Tie as tie
-use Rattle.rows.proofs.walk.body_valid.Reads as reads
-use Rattle.rows.proofs.walk.body_valid.Lts as lts
-use Rattle.rows.proofs.body.contents_valid.Reads as contents-valid-reads
-use Rattle.rows.proofs.row.body_inside.Reads as body-inside-reads
-use Rattle.rows.proofs.row.body_of.Reads as body-of-reads
 
 body-inside-requires : tie.Need-body-inside-requires
 body-inside-requires c κs = search needs

@@ -1,11 +1,7 @@
-use Rattle.rules.proofs.Chains.{chain}
 use borrow.Author.Needs.{needs}
+use Rattle.rules.proofs.Chains.{chain}
 use Rattle.rows.proofs.walk.head_valid.Statement.{statement}
 use Rattle.rows.proofs.walk.head_valid.Tie as tie
-use Rattle.rows.proofs.walk.head_valid.Reads as reads
-use Rattle.rows.proofs.walk.head_valid.Lts as lts
-use Rattle.rows.proofs.row.fields_valid.Reads as fields-valid-reads
-use Rattle.rows.proofs.row.place_valid.Reads as place-valid-reads
 
 fields-valid-requires : tie.Need-fields-valid-requires
 fields-valid-requires c κs = search needs

@@ -1,15 +1,12 @@
-use Rattle.rows.proofs.Turns.{fields-facts}
-use Rattle.rules.proofs.Logic.{both-left}
+-- Fields by the rules have few accesses and a stamp above 0, which is what the test of the body asks.
 use mathlib.Core.Path.{sym, _∙_}
-use Rattle.rows.specs.Rows.{rowByRuleAt}
-use Rattle.rules.proofs.Chains.{chain}
 use borrow.Author.Needs.{needs}
+use Rattle.rules.proofs.Logic.{both-left}
+use Rattle.rules.proofs.Chains.{chain}
+use Rattle.rows.specs.Rows.{rowByRuleAt}
+use Rattle.rows.proofs.Turns.{fields-facts}
 use Rattle.rows.proofs.walk.row_valid.Statement.{statement}
 use Rattle.rows.proofs.walk.row_valid.Tie as tie
-use Rattle.rows.proofs.walk.row_valid.Reads as reads
-use Rattle.rows.proofs.walk.row_valid.Lts as lts
-use Rattle.rows.proofs.walk.body_valid.Reads as body-valid-reads
-use Rattle.rows.proofs.walk.head_valid.Reads as head-valid-reads
 
 head-valid-requires : tie.Need-head-valid-requires
 head-valid-requires c κs = search needs

@@ -1,25 +1,20 @@
+-- The rows passed kept the rules: the walk over the rest, after the last stamp and from the body that is due, gives the whole answer. What the walk finds is what is asked (RowsRead).
+use mathlib.Core.Bool.{false}
+use mathlib.Core.Path.{_≡_, sym, _∙_}
+use Prim.Native.Nat.{_+_, _-_, _*_, _≤_}
+use native.Mathlib.Nat.{add-zero, sub-zero}
+use native.Mathlib.Omega.{arith}
 use borrow.Author.Tests.{not-true, not-false}
-use Rattle.rows.proofs.RowsRead.{rows-walked}
+use denote.Ref.{now}
+use Rattle.wire.proofs.Numbers.{all-of}
+use Rattle.rules.specs.Tests.{both}
 use Rattle.rows.specs.Rows.{sizeOf, rowByRuleAt, rowsByRuleAt}
 use Rattle.rows.specs.Fields.{fieldsAt}
-use mathlib.Core.Bool.{false}
-use Rattle.wire.proofs.Numbers.{all-of}
+use Rattle.rows.proofs.RowsRead.{rows-walked}
 use Rattle.rows.proofs.Turns.{rows-turn, rows-end, row-room}
 use Rattle.rows.proofs.Walks.{rowsWalk}
-use Rattle.rules.specs.Tests.{both}
-use denote.Ref.{now}
-use native.Mathlib.Nat.{add-zero, sub-zero}
-use Prim.Native.Nat.{_+_, _-_, _*_, _≤_}
-use mathlib.Core.Bool.{true}
-use mathlib.Core.Path.{_≡_, sym, _∙_}
-use native.Mathlib.Omega.{arith}
 use Rattle.rows.proofs.walk.rows_valid.Statement.{statement}
 use Rattle.rows.proofs.walk.rows_valid.Tie as tie
-use Rattle.rows.proofs.walk.rows_valid.Reads as reads
-use Rattle.rows.proofs.walk.rows_valid.Lts as lts
-use Rattle.rows.proofs.walk.row_valid.Reads as row-valid-reads
-use Rattle.rows.proofs.row.body_length.Reads as body-length-reads
-use Rattle.rows.proofs.row.row_at.Reads as row-at-reads
 
 abbrev Inv-loop : tie.InvT-loop
 Inv-loop image begin rows end last₀ due₀ i₀ last due i = (i ≤ rows) × (due ≤ end) × (rowsWalk image begin rows 0 (begin + 24 * rows) end ≡ rowsWalk image (begin + 24 * i) (rows - i) last due end)

@@ -1,13 +1,10 @@
-use Rattle.rules.specs.Tables.{Model}
-use native.Mathlib.Omega.{arith}
+-- The same for the valley, whose least buffer has room for a header.
 use mathlib.Core.Path.{_≡_, ap}
+use native.Mathlib.Omega.{arith}
 use borrow.Author.Needs.{needs}
+use Rattle.rules.specs.Tables.{Model}
 use Rattle.table.proofs.fresh.fresh.Statement.{statement}
 use Rattle.table.proofs.fresh.fresh.Tie as tie
-use Rattle.table.proofs.fresh.fresh.Reads as reads
-use Rattle.table.proofs.fresh.fresh.Lts as lts
-use Rattle.table.proofs.fresh.fresh_in.Reads as fresh-in-reads
-use Rattle.table.proofs.model.Model.valley.Reads as valley-reads
 
 valley-requires : tie.Need-valley-requires
 valley-requires c κs = search needs

@@ -1,18 +1,13 @@
-use Rattle.table.proofs.FreshCall.{fresh-image}
-use Rattle.table.proofs.FreshCall.{fresh-small, fresh-bad, fresh-done}
-use Rattle.table.specs.Models.{modelOf}
-use Rattle.rules.specs.Circumstances.{tooSmall, badGroup}
-use borrow.Author.Tests.{lt-ltb, le-ltb}
-use denote.Ref.{now}
+-- Each way out is one of the three ways of the call (FreshCall).
 use mathlib.Core.Path.{sym}
+use borrow.Author.Tests.{lt-ltb, le-ltb}
 use borrow.Author.Needs.{needs}
+use denote.Ref.{now}
+use Rattle.rules.specs.Circumstances.{tooSmall, badGroup}
+use Rattle.table.specs.Models.{modelOf}
+use Rattle.table.proofs.FreshCall.{fresh-image, fresh-small, fresh-bad, fresh-done}
 use Rattle.table.proofs.fresh.fresh_in.Statement.{statement}
 use Rattle.table.proofs.fresh.fresh_in.Tie as tie
-use Rattle.table.proofs.fresh.fresh_in.Reads as reads
-use Rattle.table.proofs.fresh.fresh_in.Lts as lts
-use Rattle.table.proofs.header.Header.fresh.Reads as fresh-reads
-use Rattle.table.proofs.header.box_valid.Reads as box-valid-reads
-use Rattle.table.proofs.header.write.Reads as write-reads
 
 returns : tie.Need-returns
 unfolding tooSmall

@@ -3,8 +3,6 @@ use Rattle.rules.specs.Groups.{isGroup}
 use Rattle.rules.proofs.Chains.{tests}
 use Rattle.table.proofs.header.group_valid.Statement.{statement}
 use Rattle.table.proofs.header.group_valid.Tie as tie
-use Rattle.table.proofs.header.group_valid.Reads as reads
-use Rattle.table.proofs.header.group_valid.Lts as lts
 
 returns : tie.Need-returns
 unfolding isGroup either

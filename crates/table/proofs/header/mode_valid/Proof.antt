@@ -1,12 +1,10 @@
 use mathlib.Core.Path.{sym}
-use Rattle.rules.proofs.Tables.{normal-views}
 use Rattle.rules.specs.Tests.{both, either}
 use Rattle.rules.specs.Tables.{modeByRule}
+use Rattle.rules.proofs.Tables.{normal-views}
 use Rattle.rules.proofs.Chains.{tests}
 use Rattle.table.proofs.header.mode_valid.Statement.{statement}
 use Rattle.table.proofs.header.mode_valid.Tie as tie
-use Rattle.table.proofs.header.mode_valid.Reads as reads
-use Rattle.table.proofs.header.mode_valid.Lts as lts
 
 returns : tie.Need-returns
 returns c = rw (c .if1 .taken) (sym (normal-views _ _))

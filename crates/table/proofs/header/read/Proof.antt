@@ -1,11 +1,7 @@
-use Rattle.table.specs.Headers.{headerAt}
 use borrow.Author.Needs.{needs}
+use Rattle.table.specs.Headers.{headerAt}
 use Rattle.table.proofs.header.read.Statement.{statement}
 use Rattle.table.proofs.header.read.Tie as tie
-use Rattle.table.proofs.header.read.Reads as reads
-use Rattle.table.proofs.header.read.Lts as lts
-use Rattle.wire.proofs.u32_at.Reads as u32-at-reads
-use Rattle.wire.proofs.u8_at.Reads as u8-at-reads
 
 u8-at-requires : tie.Need-u8-at-requires
 u8-at-requires c κs = search needs

@@ -1,11 +1,9 @@
-use Rattle.rules.specs.Tests.{both}
-use Rattle.table.specs.Headers.{sizesByRule}
-use Rattle.rules.proofs.Chains.{tests}
 use borrow.Author.Needs.{needs}
+use Rattle.rules.specs.Tests.{both}
+use Rattle.rules.proofs.Chains.{tests}
+use Rattle.table.specs.Headers.{sizesByRule}
 use Rattle.table.proofs.header.sizes_valid.Statement.{statement}
 use Rattle.table.proofs.header.sizes_valid.Tie as tie
-use Rattle.table.proofs.header.sizes_valid.Reads as reads
-use Rattle.table.proofs.header.sizes_valid.Lts as lts
 
 returns : tie.Need-returns
 unfolding sizesByRule both

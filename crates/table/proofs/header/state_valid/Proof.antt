@@ -1,11 +1,7 @@
-use Rattle.rules.proofs.Chains.{chain}
 use borrow.Author.Needs.{needs}
+use Rattle.rules.proofs.Chains.{chain}
 use Rattle.table.proofs.header.state_valid.Statement.{statement}
 use Rattle.table.proofs.header.state_valid.Tie as tie
-use Rattle.table.proofs.header.state_valid.Reads as reads
-use Rattle.table.proofs.header.state_valid.Lts as lts
-use Rattle.table.proofs.header.mode_valid.Reads as mode-valid-reads
-use Rattle.table.proofs.header.sizes_valid.Reads as sizes-valid-reads
 
 mode-valid-requires : tie.Need-mode-valid-requires
 mode-valid-requires c κs = search needs

@@ -1,12 +1,8 @@
-use Rattle.table.specs.Headers.{headerByRuleAt}
-use Rattle.rules.proofs.Chains.{chain}
 use borrow.Author.Needs.{needs}
+use Rattle.rules.proofs.Chains.{chain}
+use Rattle.table.specs.Headers.{headerByRuleAt}
 use Rattle.table.proofs.header.valid.Statement.{statement}
 use Rattle.table.proofs.header.valid.Tie as tie
-use Rattle.table.proofs.header.valid.Reads as reads
-use Rattle.table.proofs.header.valid.Lts as lts
-use Rattle.table.proofs.header.format_valid.Reads as format-valid-reads
-use Rattle.table.proofs.header.state_valid.Reads as state-valid-reads
 
 format-valid-requires : tie.Need-format-valid-requires
 format-valid-requires c κs = search needs

@@ -1,12 +1,9 @@
-use Rattle.table.proofs.Headers.{header-steps}
-use denote.Ref.{now}
+-- The two halves side by side are the header.
 use borrow.Author.Needs.{needs}
+use denote.Ref.{now}
+use Rattle.table.proofs.Headers.{header-steps}
 use Rattle.table.proofs.header.write.Statement.{statement}
 use Rattle.table.proofs.header.write.Tie as tie
-use Rattle.table.proofs.header.write.Reads as reads
-use Rattle.table.proofs.header.write.Lts as lts
-use Rattle.table.proofs.header.write_names.Reads as write-names-reads
-use Rattle.table.proofs.header.write_numbers.Reads as write-numbers-reads
 
 write-names-requires : tie.Need-write-names-requires
 write-names-requires c κs = search needs

@@ -1,11 +1,9 @@
-use Rattle.table.proofs.Headers.{names-steps}
-use denote.Ref.{now}
+-- Four writes side by side are one.
 use borrow.Author.Needs.{needs}
+use denote.Ref.{now}
+use Rattle.table.proofs.Headers.{names-steps}
 use Rattle.table.proofs.header.write_names.Statement.{statement}
 use Rattle.table.proofs.header.write_names.Tie as tie
-use Rattle.table.proofs.header.write_names.Reads as reads
-use Rattle.table.proofs.header.write_names.Lts as lts
-use Rattle.wire.proofs.put_u8.Reads as put-u8-reads
 
 put-u8-requires : tie.Need-put-u8-requires
 put-u8-requires c κs = search needs

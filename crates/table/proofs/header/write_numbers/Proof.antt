@@ -1,11 +1,9 @@
-use Rattle.table.proofs.Headers.{numbers-steps}
-use denote.Ref.{now}
+-- Five writes side by side are one.
 use borrow.Author.Needs.{needs}
+use denote.Ref.{now}
+use Rattle.table.proofs.Headers.{numbers-steps}
 use Rattle.table.proofs.header.write_numbers.Statement.{statement}
 use Rattle.table.proofs.header.write_numbers.Tie as tie
-use Rattle.table.proofs.header.write_numbers.Reads as reads
-use Rattle.table.proofs.header.write_numbers.Lts as lts
-use Rattle.wire.proofs.put_u32.Reads as put-u32-reads
 
 put-u32-requires : tie.Need-put-u32-requires
 put-u32-requires c κs = search needs

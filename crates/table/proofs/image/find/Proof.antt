@@ -1,25 +1,18 @@
-use Rattle.table.proofs.Found.{parse-short, parse-tests, found-length}
-use Rattle.rows.specs.Rows.{rowsByRuleAt}
-use Rattle.table.specs.Parse.{parse, tableAt, imageFound}
-use Rattle.table.specs.Images.{formatOne}
-use Rattle.table.specs.Headers.{headerAt, headerByRuleAt}
-use Rattle.table.specs.Models.{modelOf}
-use Rattle.rules.proofs.Logic.{both-right}
-use Rattle.rules.specs.Tests.{both, provided}
-use Rattle.wire.proofs.Numbers.{all-of}
-use denote.Ref.{now}
-use lib.ListN.{length}
-use native.Mathlib.Omega.{arith}
-use Prim.Native.Nat.{_+_, _*_, _^_, _<_}
-use mathlib.Core.Bool.{Bool, true, false}
+-- The two tests that were made are those of the parse; the length in the header is then that of the image.
+use mathlib.Core.Bool.{Bool}
 use mathlib.Core.Path.{_≡_, sym, ap, _∙_}
+use native.Mathlib.Omega.{arith}
 use borrow.Author.Needs.{needs}
+use denote.Ref.{now}
+use Rattle.wire.proofs.Numbers.{all-of}
+use Rattle.rules.specs.Tests.{provided}
+use Rattle.rules.proofs.Logic.{both-right}
+use Rattle.table.specs.Parse.{parse, tableAt}
+use Rattle.table.specs.Images.{formatOne}
+use Rattle.table.specs.Models.{modelOf}
+use Rattle.table.proofs.Found.{parse-short, parse-tests, found-length}
 use Rattle.table.proofs.image.find.Statement.{statement}
 use Rattle.table.proofs.image.find.Tie as tie
-use Rattle.table.proofs.image.find.Reads as reads
-use Rattle.table.proofs.image.find.Lts as lts
-use Rattle.table.proofs.header.read.Reads as read-reads
-use Rattle.table.proofs.image.whole_valid.Reads as whole-valid-reads
 
 returns : tie.Need-returns
 returns c = rw (parse-short (modelOf (c .before .before .args .model)) (now (c .before .before .args .s)) (c .if1 .taken))

@@ -1,14 +1,11 @@
-use Rattle.table.proofs.Headers.{header-sizes}
-use Rattle.rules.proofs.Chains.{chain}
-use native.Mathlib.Omega.{arith}
+-- A header that was passed keeps its rows and its length inside the lent bytes.
 use mathlib.Core.Path.{sym, _∙_}
+use native.Mathlib.Omega.{arith}
 use borrow.Author.Needs.{needs}
+use Rattle.rules.proofs.Chains.{chain}
+use Rattle.table.proofs.Headers.{header-sizes}
 use Rattle.table.proofs.image.whole_valid.Statement.{statement}
 use Rattle.table.proofs.image.whole_valid.Tie as tie
-use Rattle.table.proofs.image.whole_valid.Reads as reads
-use Rattle.table.proofs.image.whole_valid.Lts as lts
-use Rattle.table.proofs.header.valid.Reads as valid-reads
-use Rattle.rows.proofs.walk.rows_valid.Reads as rows-valid-reads
 
 valid-requires : tie.Need-valid-requires
 valid-requires c κs = search needs

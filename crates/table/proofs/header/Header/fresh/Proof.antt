@@ -3,8 +3,6 @@ use Rattle.rules.specs.Tables.{freshTable}
 use Rattle.rows.specs.Bytes.{bodiesLength}
 use Rattle.table.proofs.header.Header.fresh.Statement.{statement}
 use Rattle.table.proofs.header.Header.fresh.Tie as tie
-use Rattle.table.proofs.header.Header.fresh.Reads as reads
-use Rattle.table.proofs.header.Header.fresh.Lts as lts
 
 returns : tie.Need-returns
 unfolding freshTable bodiesLength
