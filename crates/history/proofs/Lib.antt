@@ -4,4 +4,3 @@ pub mod Follow
 pub mod Survival
 pub mod Regular
 pub mod Beyond
-pub mod Computed

@@ -1,5 +1,2 @@
 pub mod Survival
 pub mod Beyond
-pub mod Histories
-pub mod FiveBoxes
-pub mod Bent

@@ -6,8 +6,8 @@ use Rattle.rules.specs.Tables.{Result.OK, Result.ABORT, Result.ABSTAIN, Prepare
 use Rattle.rules.specs.Messages.{Message.proposePrepare, Message.finalisePrepare, Message.proposeOutcome, Message.finaliseOutcome, Message.changeView, Message.startView}
 use Rattle.rules.specs.Circumstances.{belowLimit}
 use Rattle.rules.specs.Check.{check}
 use Rattle.history.specs.Survival.{Group, freshGroup, Event, Event.sends, Event.arrives, Event.declares, Event.merges, after}
-use Rattle.history.specs.Histories.{reads, writes, row, image, told, tablesAt}
+use Rattle.histories.specs.Histories.{reads, writes, row, image, told, tablesAt}
 
 -- ---- the four transactions
 

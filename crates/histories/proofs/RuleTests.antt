@@ -18,9 +18,9 @@ use Rattle.rules.specs.Count.{Heard, Counted, Counted.fast, Counted.slow, Count
 use Rattle.rules.proofs.Logic.{impossible, both-left, both-right, both-true, either-cases, eqb-self, not-false-of}
 use Rattle.rules.proofs.Lists.{_∈_, every-one, any-some, those-of, all-from, first-from, provided-some}
 use Rattle.rules.proofs.Same.{same-result, same-verdict, same-body}
 use Rattle.history.specs.Survival.{Answered, Declared, Group, boxesBelow, Event, Event.sends, Event.arrives, Event.declares, Event.merges, step, AsksPrepare, prepareHeard, WasSent, Gave, QuorumOf, Replied, Replies, Confirmed, Accepted, OneBody, OneResult, OnAnAnswer, OnFastOrConfirmed, CommitAfterOK, NeverBoth, OnAcceptances, BeforeOutcome, TheMerged, MaySend, May, Lawful}
 use Rattle.history.proofs.Group.Cells.{commit-abort}
-use Rattle.history.proofs.Computed.SameTables.{sameTable, table-equal}
+use Rattle.histories.proofs.SameTables.{sameTable, table-equal}
 
 -- ---- messages by their parts
 

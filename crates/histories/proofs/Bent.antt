@@ -14,12 +14,12 @@ use Rattle.rules.specs.Check.{check, clash}
 use Rattle.rules.specs.Merge.{merge}
 use Rattle.rules.proofs.Logic.{impossible, both-left, both-right}
 use Rattle.rules.proofs.Lists.{places, any-some}
 use Rattle.history.specs.Survival.{Declared, Merged, Group, freshGroup, WasSent, WasDeclared, OneBody, OnFastOrConfirmed, NeverBoth, BeforeOutcome, QuorumOf, Accepted, Lawful}
-use Rattle.history.specs.Histories.{row, image, heldIn, heldInMerges}
-use Rattle.history.specs.Bent.{writer, reader, Bent, until, since, atEnd, LawfulBut, Breaks, twoResults, commitToOldView, twoAcceptances, finishedInOldView, bentCheck, abortFrees, afterAbortFrees, bentMerge, bothOK, agreedUnchecked, gathered, emptied}
-use Rattle.history.proofs.Computed.SameTables.{samePrepare, prepare-same}
-use Rattle.history.proofs.Computed.RuleTests.{one-body, never-both, before-outcome, on-fast-or-confirmed, one-table, accepted-it, on-acceptances, lawful, lawful-is}
-use Rattle.history.proofs.Computed.Computing.{computing}
+use Rattle.histories.specs.Histories.{row, image, heldIn, heldInMerges}
+use Rattle.histories.specs.Bent.{writer, reader, Bent, until, since, atEnd, LawfulBut, Breaks, twoResults, commitToOldView, twoAcceptances, finishedInOldView, bentCheck, abortFrees, afterAbortFrees, bentMerge, bothOK, agreedUnchecked, gathered, emptied}
+use Rattle.histories.proofs.SameTables.{samePrepare, prepare-same}
+use Rattle.histories.proofs.RuleTests.{one-body, never-both, before-outcome, on-fast-or-confirmed, one-table, accepted-it, on-acceptances, lawful, lawful-is}
+use Rattle.histories.proofs.Computing.{computing}
 
 -- a merge of a later view does not hold a declared result
 turned : Merged → Declared → Bool

@@ -11,9 +11,9 @@ use Rattle.rules.specs.Messages.{Message.proposePrepare, Message.finalisePrepar
 use Rattle.rules.specs.Circumstances.{belowLimit}
 use Rattle.rules.specs.Check.{committed, ruleA, ruleB, retryStamp, check}
 use Rattle.rules.specs.Merge.{used, groupOf, amongAgreed, amongOpen, toCheck, uncheckedRows, checkedInTurn}
 use Rattle.history.specs.Survival.{Group, freshGroup, Event, Event.sends, Event.arrives, Event.declares, Event.merges, after, Lawful, Survival}
-use Rattle.history.specs.FiveBoxes.{afterFiveBoxes}
-use Rattle.history.specs.Histories.{reads, writes, row, image, told, tablesAt}
+use Rattle.histories.specs.FiveBoxes.{afterFiveBoxes}
+use Rattle.histories.specs.Histories.{reads, writes, row, image, told, tablesAt}
 
 -- stamp 10
 abbrev pub writer : Body

@@ -9,12 +9,12 @@ use Rattle.rules.specs.Groups.{isGroup}
 use Rattle.rules.specs.Tables.{Result.OK, Result.ABORT, Result.ABSTAIN, Prepare.noPrepare, Prepare.tentative, Prepare.final, Verdict.commit, Verdict.abort, Outcome.noOutcome, Outcome.noted, Outcome.done, valley}
 use Rattle.rules.specs.Circumstances.{belowLimit}
 use Rattle.rules.specs.Check.{check}
 use Rattle.history.specs.Survival.{freshGroup, QuorumOf, Accepted, Lawful, Survival}
-use Rattle.history.specs.Histories.{heldIn, heldInMerges}
-use Rattle.history.specs.FiveBoxes.{fiveBoxes, afterFiveBoxes, transactions, gatheredForView1, gatheredForView2}
+use Rattle.histories.specs.Histories.{heldIn, heldInMerges}
+use Rattle.histories.specs.FiveBoxes.{fiveBoxes, afterFiveBoxes, transactions, gatheredForView1, gatheredForView2}
 use Rattle.history.proofs.Survival.{survival}
-use Rattle.history.proofs.Computed.RuleTests.{on-acceptances, lawful-is}
-use Rattle.history.proofs.Computed.Computing.{computing}
+use Rattle.histories.proofs.RuleTests.{on-acceptances, lawful-is}
+use Rattle.histories.proofs.Computing.{computing}
 
 pub five-boxes-lawful : Lawful valley belowLimit check (freshGroup 5) fiveBoxes
 unfolding computing

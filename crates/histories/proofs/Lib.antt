@@ -1,0 +1,5 @@
+pub mod SameTables
+pub mod RuleTests
+pub mod Computing
+pub mod FiveBoxes
+pub mod Bent

@@ -1,0 +1,3 @@
+pub mod Histories
+pub mod FiveBoxes
+pub mod Bent
