@@ -43,5 +43,5 @@ pub fn held_body(image: &[u8], begin: usize, rows: usize, stamp: u64) -> &[u8]
     let Place::Held { row: index } = find(image, begin, rows, stamp) else {
         return &image[0..0];
     };
-    row::body_of(image, row::row_at(image, begin, index))
+    row::body_at(image, begin, index)
 }

@@ -55,6 +55,14 @@ pub fn body_of(image: &[u8], row: RowFields) -> &[u8]
     &image[from..to]
 }
 
+// The body of the row at an index.
+pub fn body_at(image: &[u8], begin: usize, index: usize) -> &[u8]
+    requires { ⌜ (begin + 24 * index + 24 ≤ length (now image)) × BodyInside (now image) (fieldsAt (now image) (begin + 24 * index)) ⌝ }
+    ensures { λ r. ⌜ now r ≡ bodyPart (now (image .entry)) (fieldsAt (now (image .entry)) (begin + 24 * index)) ⌝ }
+{
+    body_of(image, row_at(image, begin, index))
+}
+
 pub fn stamp_valid(stamp: u64) -> bool
     ensures { λ r. ⌜ r ≡ isStamp stamp ⌝ }
 {

@@ -47,22 +47,19 @@ found c =
     let a = p .args in
     held-row (now (a .image)) (a .begin) (a .rows) (a .stamp) (c .before .index .given .0 .0) (p .pre .1) (sym (c .before .before .before .find .ensures) ∙ c .before .index .given .1)
 
-row-at-requires : tie.Need-row-at-requires
-row-at-requires c κs =
+body-at-requires : tie.Need-body-at-requires
+body-at-requires c κs =
+    let p = c .before .before .before .before .before in
     let l = found c .0 in
-    omega (arith, c .before .before .before .before .before .pre .0 .0)
-
-body-of-requires : tie.Need-body-of-requires
-body-of-requires c κs = rw (c .row-at .ensures) (c .before .before .before .before .before .before .pre .0 .1 _ (found (c .before) .0))
+    (omega (arith, p .pre .0 .0), p .pre .0 .1 _ l)
 
 returns-2 : tie.Need-returns-2
 returns-2 c =
-    let p = c .before .before .before .before .before .before .before in
+    let p = c .before .before .before .before .before .before in
     let s = now (p .args .image) in
-    let f = found (c .before .before) in
-    let inside = p .pre .0 .1 _ (f .0) in
-    let all = all-of s (λ i. c .before .before .before .before .before .before .shared-slice-known .given i .fits) in
-    rw (c .body-of .ensures, c .before .row-at .ensures, f .1) (body-part s _ all inside)
+    let f = found (c .before) in
+    let all = all-of s (λ i. c .before .before .before .before .before .shared-slice-known .given i .fits) in
+    rw (c .body-at .ensures, f .1) (body-part s _ all (p .pre .0 .1 _ (f .0)))
 
 pub held-body-spec : {M : Type 1} → statement M
 held-body-spec =
@@ -75,6 +72,5 @@ held-body-spec =
     part-result-start
     part-result-end
     returns
-    row-at-requires
-    body-of-requires
+    body-at-requires
     returns-2)
