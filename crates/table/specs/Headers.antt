@@ -37,58 +37,32 @@ headerAt s = record {
 
 -- ---- a header with one thing changed
 
-abbrev pub withView : Header → ℕ → Header
-withView h view = record {
-  format = h .format;
-  boxnumber = h .boxnumber;
-  n = h .n;
-  mode = h .mode;
-  rows = h .rows;
-  view = view;
-  promised = h .promised;
-  start = h .start;
-  length = h .length;
-}
-
-abbrev pub withPromised : Header → ℕ → Header
-withPromised h promised = record {
-  format = h .format;
-  boxnumber = h .boxnumber;
-  n = h .n;
-  mode = h .mode;
-  rows = h .rows;
-  view = h .view;
-  promised = promised;
-  start = h .start;
-  length = h .length;
-}
-
-abbrev pub withMode : Header → ℕ → Header
-withMode h mode = record {
+-- of the same format, box, n and start rows
+abbrev pub changedTo : Header → ℕ → ℕ → ℕ → ℕ → ℕ → Header
+changedTo h mode rows view promised length = record {
   format = h .format;
   boxnumber = h .boxnumber;
   n = h .n;
   mode = mode;
-  rows = h .rows;
-  view = h .view;
-  promised = h .promised;
-  start = h .start;
-  length = h .length;
-}
-
--- the total length goes with the rows
-abbrev pub withRows : Header → ℕ → ℕ → Header
-withRows h rows length = record {
-  format = h .format;
-  boxnumber = h .boxnumber;
-  n = h .n;
-  mode = h .mode;
   rows = rows;
-  view = h .view;
-  promised = h .promised;
+  view = view;
+  promised = promised;
   start = h .start;
   length = length;
 }
+
+abbrev pub withView : Header → ℕ → Header
+withView h view = changedTo h (h .mode) (h .rows) view (h .promised) (h .length)
+
+abbrev pub withPromised : Header → ℕ → Header
+withPromised h promised = changedTo h (h .mode) (h .rows) (h .view) promised (h .length)
+
+abbrev pub withMode : Header → ℕ → Header
+withMode h mode = changedTo h mode (h .rows) (h .view) (h .promised) (h .length)
+
+-- the total length goes with the rows
+abbrev pub withRows : Header → ℕ → ℕ → Header
+withRows h rows length = changedTo h (h .mode) rows (h .view) (h .promised) length
 
 -- ---- what can be told of a header without looking at a row
 
