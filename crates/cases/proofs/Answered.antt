@@ -4,14 +4,14 @@ use mathlib.Core.List.{[], _∷_}
 use Rattle.rules.specs.Tests.{both, either, any, every, those, greatest, firstOf}
 use Rattle.rules.specs.Groups.{isGroup}
 use Rattle.rules.specs.Stamps.{isStamp, isRegister, bodyByRule, countsByRule, contentsByRule, accessesByRule, sameAccesses, sameBody}
-use Rattle.rules.specs.Tables.{Result.OK, Prepare.noPrepare, Prepare.tentative, Prepare.final, Verdict.commit, Outcome.noOutcome, Outcome.noted, Outcome.done, normalMode, valley, sameResult, resultByRule, retryByRule, somethingHeld, rowByRule, rising, isView, modeByRule, headerByRule, tableByRule, freshTable}
+use Rattle.rules.specs.Tables.{Result.OK, Prepare.noPrepare, Prepare.final, Verdict.commit, Outcome.noted, Outcome.done, valley, sameResult, resultByRule, retryByRule, somethingHeld, rowByRule, rising, isView, modeByRule, headerByRule, tableByRule, freshTable}
 use Rattle.rules.specs.Numbers.{applies, first, number}
 use Rattle.rules.specs.Messages.{Message.proposePrepare, held, changed, added, tableAfter, prepareProposed, prepareFinalised, outcomeProposed, outcomeFinalised, found, later, writeOf}
 use Rattle.rules.specs.Circumstances.{circumstances, furtherCircumstances, messageByRule, startsView, settled, isChanging, heldWithOtherBody, heldUnequalFinal, heldOppositeOutcome, newButFull, belowLimit, prepareNotHeld, outcomeNotHeld, forOtherView, changesToOldView, startsOldView}
 use Rattle.rules.specs.Answers.{answer, answerNumber, taken, refused, refusal, replyFrom, stateByte, replyStamp, replyValue}
 use Rattle.rules.specs.Check.{committed, prepared, overwrites, ruleA, ruleB, ruleC, retryStamp, check}
 use Rattle.cases.specs.Marked.{writes, row}
-use Rattle.cases.specs.Beside.{Counts.n, numbers, twoRows, messages}
+use Rattle.cases.specs.Beside.{afterOne, numbers, twoRows, messages}
 
 -- one message after the other: each refusal in its circumstances, and a refused message leaves the next one the same table
 -- and "After message 1 with stamp 65,537 and one write, register 5, value 7": one row, "prepare 1, outcome 0"
@@ -19,7 +19,7 @@ pub answered :
     (numbers twoRows (freshTable 3 0) messages ≡ 0 ∷ 5 ∷ 3 ∷ 9 ∷ 8 ∷ 0 ∷ 6 ∷ 8 ∷ 0 ∷ 6 ∷ 0 ∷ 0 ∷ 3 ∷ 0 ∷ 7 ∷ 10 ∷ 0 ∷ 4 ∷ 10 ∷ 3 ∷ 0 ∷ 0 ∷ [])
     × (answer valley belowLimit check (freshTable 3 0) (proposePrepare 65537 writes) ≡ record {
       number = 0;
-      table = record { box = 0; n = 3; mode = normalMode; view = 0; promised = 0; start = 0; rows = row 65537 writes (tentative OK) noOutcome ∷ [] };
+      table = afterOne;
       reply = record { number = 0; kind = 1; box = 0; state = 1; view = 0; stamp = 65537; value = 0 };
     })
 unfolding numbers messages answer answerNumber circumstances furtherCircumstances taken refused refusal replyFrom stateByte replyStamp replyValue messageByRule startsView settled isChanging heldWithOtherBody heldUnequalFinal heldOppositeOutcome newButFull belowLimit prepareNotHeld outcomeNotHeld forOtherView changesToOldView startsOldView tableAfter prepareProposed prepareFinalised outcomeProposed outcomeFinalised held changed added found later writeOf isStamp isRegister bodyByRule countsByRule contentsByRule accessesByRule sameAccesses sameBody sameResult resultByRule retryByRule somethingHeld rowByRule rising isGroup isView modeByRule headerByRule tableByRule freshTable check retryStamp ruleA ruleB ruleC committed prepared overwrites number first applies both either any every those greatest firstOf

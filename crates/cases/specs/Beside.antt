@@ -1,4 +1,4 @@
--- Beside the marked cases: the codes of a row, two merges, and messages to one box, one after the other.
+-- Beside the marked cases: the codes of a row, merges, the image after message 1, and messages to one box, one after the other.
 use mathlib.Core.Bool.{cond}
 use mathlib.Core.List.{List, [], _∷_, _++_, map}
 use Prim.Native.Nat.{ℕ}

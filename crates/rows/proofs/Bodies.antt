@@ -21,7 +21,7 @@ use Rattle.rows.specs.Rows.{sizeOf, bodyPart, BodyInside}
 
 -- ---- accesses
 
-pub length-accesses : (xs : List Access) → length (accessesBytes xs) ≡ 9 * length xs
+length-accesses : (xs : List Access) → length (accessesBytes xs) ≡ 9 * length xs
 unfolding accessesBytes
 length-accesses [] = refl
 length-accesses (x ∷ xs) = let i = length-accesses xs in simp (length-append, length-bytes) (omega arith)
@@ -32,7 +32,7 @@ length-accessesAt s at zero = refl
 length-accessesAt s at (suc n) = ap suc (length-accessesAt s (at + 9) n)
 
 -- the accesses that are read stand there
-pub accesses-stand : (s : List ℕ) (at n : ℕ) → AllBytes s → at + 9 * n ≤ length s → Stands s at (accessesBytes (accessesAt s at n))
+accesses-stand : (s : List ℕ) (at n : ℕ) → AllBytes s → at + 9 * n ≤ length s → Stands s at (accessesBytes (accessesAt s at n))
 unfolding accessesBytes accessesAt accessAt
 accesses-stand s at zero a l = stands-nothing s at
 accesses-stand s at (suc n) a l =
@@ -40,7 +40,7 @@ accesses-stand s at (suc n) a l =
     (field-stands 8 s (at + 1) (at + 9) _ a (omega arith) (omega arith) (accesses-stand s (at + 9) n a (omega arith)))
 
 -- the accesses that stand there are read, if they are by the rules
-pub accesses-read : (s : List ℕ) (at limit low : ℕ) (xs : List Access) → accessesByRule limit low xs ≡ true → limit ≤ 256 ^ 8 → Stands s at (accessesBytes xs) → accessesAt s at (length xs) ≡ xs
+accesses-read : (s : List ℕ) (at limit low : ℕ) (xs : List Access) → accessesByRule limit low xs ≡ true → limit ≤ 256 ^ 8 → Stands s at (accessesBytes xs) → accessesAt s at (length xs) ≡ xs
 unfolding accessesBytes accessesAt accessAt accessesByRule isRegister
 accesses-read s at limit low [] g m h = refl
 accesses-read s at limit low (x ∷ xs) g m h =
@@ -52,7 +52,7 @@ accesses-read s at limit low (x ∷ xs) g m h =
     rw (a .0, b .0, accesses-read s (at + 9) limit (suc (x .register)) xs (both-right _ _ g) m (b .1))
 
 -- the accesses in a part of the bytes
-pub accesses-in-part : (s : List ℕ) (a len at n : ℕ) → a + len ≤ length s → at + 9 * n ≤ len → accessesAt (part s a len) at n ≡ accessesAt s (a + at) n
+accesses-in-part : (s : List ℕ) (a len at n : ℕ) → a + len ≤ length s → at + 9 * n ≤ len → accessesAt (part s a len) at n ≡ accessesAt s (a + at) n
 unfolding accessesAt accessAt
 accesses-in-part s a len at zero h l = refl
 accesses-in-part s a len at (suc n) h l =

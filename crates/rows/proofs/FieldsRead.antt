@@ -27,7 +27,7 @@ fieldsBytes f =
     ++ (bytes 8 (f .retry)
     ++ (bytes 4 (f .offset) ++ (bytes 1 (f .reads) ++ (bytes 1 (f .writes) ++ (bytes 1 (f .prepare) ++ bytes 1 (f .outcome))))))
 
-pub length-fields : (f : RowFields) → length (fieldsBytes f) ≡ 24
+length-fields : (f : RowFields) → length (fieldsBytes f) ≡ 24
 unfolding fieldsBytes
 length-fields f = simp (length-append, length-bytes)
 

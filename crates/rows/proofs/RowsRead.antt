@@ -56,11 +56,11 @@ pub record RowStands (s : List ℕ) (at last due end : ℕ) (r : Row) : Type 0 w
   pub tail : Stands s due (bodyBytes (r .body))
   pub ends : due + lengthOf (r .body) ≤ end
 
-pub stamp-said : (s : List ℕ) (f : RowFields) → rowOf s f .stamp ≡ f .stamp
+stamp-said : (s : List ℕ) (f : RowFields) → rowOf s f .stamp ≡ f .stamp
 unfolding rowOf
 stamp-said s f = refl
 
-pub size-said : (s : List ℕ) (f : RowFields) → lengthOf (rowOf s f .body) ≡ sizeOf f
+size-said : (s : List ℕ) (f : RowFields) → lengthOf (rowOf s f .body) ≡ sizeOf f
 unfolding rowOf
 size-said s f = lengthOf-bodyAt s (f .offset) (f .reads) (f .writes)
 
@@ -80,7 +80,7 @@ row-said s f end h b =
     }
 
 -- a row that passes where it stands is by the rules, and stands there
-pub row-sound : (s : List ℕ) (at last due end : ℕ) → AllBytes s → at + 24 ≤ length s → end ≤ length s → rowByRuleAt s (fieldsAt s at) last due end ≡ true → RowStands s at last due end (rowOf s (fieldsAt s at))
+row-sound : (s : List ℕ) (at last due end : ℕ) → AllBytes s → at + 24 ≤ length s → end ≤ length s → rowByRuleAt s (fieldsAt s at) last due end ≡ true → RowStands s at last due end (rowOf s (fieldsAt s at))
 unfolding rowByRuleAt fieldsByRule placeByRule bodyByRuleAt rowOf
 row-sound s at last due end a l m h =
     let f = fieldsAt s at in
@@ -108,10 +108,10 @@ row-passes s last due end r h p l e =
     (both-true (eqb-self due) p))
     (both-true (le-leb _ _ l) (rw e (k .contents)))
 
-pub fields-there : (s : List ℕ) (at last due end : ℕ) (r : Row) → due < 256 ^ 4 → RowStands s at last due end r → fieldsAt s at ≡ fieldsOf due r
+fields-there : (s : List ℕ) (at last due end : ℕ) (r : Row) → due < 256 ^ 4 → RowStands s at last due end r → fieldsAt s at ≡ fieldsOf due r
 fields-there s at last due end r l h = fields-read s at (fieldsOf due r) (fields-fit due r l (h .byRule)) (rw row-bytes at (h .head))
 
-pub row-complete : (s : List ℕ) (at last due end : ℕ) (r : Row) → due < 256 ^ 4 → RowStands s at last due end r → (rowOf s (fieldsAt s at) ≡ r) × (rowByRuleAt s (fieldsAt s at) last due end ≡ true)
+row-complete : (s : List ℕ) (at last due end : ℕ) (r : Row) → due < 256 ^ 4 → RowStands s at last due end r → (rowOf s (fieldsAt s at) ≡ r) × (rowByRuleAt s (fieldsAt s at) last due end ≡ true)
 row-complete s at last due end r l h =
     let k = row-facts r (h .byRule) in
     let m : r .stamp < 256 ^ 8 = stamp-small (r .stamp) (k .stamp) in
@@ -130,7 +130,7 @@ pub record RowsStand (s : List ℕ) (at last due end : ℕ) (rows : List Row) : 
   pub ends : due + bodiesLength rows ≡ end
 
 -- the first of them, and the rest
-pub first-row : (s : List ℕ) (at last due end : ℕ) (r : Row) (rows : List Row) → RowsStand s at last due end (r ∷ rows) → RowStands s at last due end r
+first-row : (s : List ℕ) (at last due end : ℕ) (r : Row) (rows : List Row) → RowsStand s at last due end (r ∷ rows) → RowStands s at last due end r
 unfolding rising every rowsBytes bodiesBytes bodiesLength
 first-row s at last due end r rows h =
     let e = h .ends in
@@ -142,7 +142,7 @@ first-row s at last due end r rows h =
       ends = omega arith;
     }
 
-pub other-rows : (s : List ℕ) (at last due end : ℕ) (r : Row) (rows : List Row) → RowsStand s at last due end (r ∷ rows) → RowsStand s (at + 24) (r .stamp) (due + lengthOf (r .body)) end rows
+other-rows : (s : List ℕ) (at last due end : ℕ) (r : Row) (rows : List Row) → RowsStand s at last due end (r ∷ rows) → RowsStand s (at + 24) (r .stamp) (due + lengthOf (r .body)) end rows
 unfolding rising every rowsBytes bodiesBytes bodiesLength
 other-rows s at last due end r rows h =
     let e = h .ends in
@@ -154,7 +154,7 @@ other-rows s at last due end r rows h =
       ends = omega arith;
     }
 
-pub more-rows : (s : List ℕ) (at last due end : ℕ) (r : Row) (rows : List Row) → RowStands s at last due end r → RowsStand s (at + 24) (r .stamp) (due + lengthOf (r .body)) end rows → RowsStand s at last due end (r ∷ rows)
+more-rows : (s : List ℕ) (at last due end : ℕ) (r : Row) (rows : List Row) → RowStands s at last due end r → RowsStand s (at + 24) (r .stamp) (due + lengthOf (r .body)) end rows → RowsStand s at last due end (r ∷ rows)
 unfolding rising every rowsBytes bodiesBytes bodiesLength
 more-rows s at last due end r rows h k =
     let e = k .ends in
@@ -167,7 +167,7 @@ more-rows s at last due end r rows h k =
     }
 
 -- where the walk passes, the rows that are read stand
-pub rows-sound : (s : List ℕ) (at n last due end : ℕ) → AllBytes s → at + 24 * n ≤ length s → end ≤ length s → rowsWalk s at n last due end ≡ true → RowsStand s at last due end (rowsAt s at n)
+rows-sound : (s : List ℕ) (at n last due end : ℕ) → AllBytes s → at + 24 * n ≤ length s → end ≤ length s → rowsWalk s at n last due end ≡ true → RowsStand s at last due end (rowsAt s at n)
 unfolding rowsWalk rowsAt rising every rowsBytes bodiesBytes bodiesLength
 rows-sound s at zero last due end a l m h =
     let e = eqb-true due end h in
@@ -218,12 +218,14 @@ by-rule-stand s begin n end h =
       ends = eqb-true _ _ (both-right _ _ (both-right _ _ h));
     }
 
+-- rows and bodies side by side
+pub rows-together : (s : List ℕ) (begin n end : ℕ) → RowsStand s begin 0 (begin + 24 * n) end (rowsAt s begin n) → Stands s begin (rowsBytes (begin + 24 * n) (rowsAt s begin n) ++ bodiesBytes (rowsAt s begin n))
+rows-together s begin n end h = stands-joined s begin _ _ (h .heads) (rw (length-rows, length-rowsAt) (h .tails))
+
 pub stand-by-rule : (s : List ℕ) (begin n end : ℕ) → RowsStand s begin 0 (begin + 24 * n) end (rowsAt s begin n) → rowsByRuleAt s begin n end ≡ true
 unfolding rowsByRuleAt
 stand-by-rule s begin n end h =
-    let rows = rowsAt s begin n in
-    let w : Stands s begin (rowsBytes (begin + 24 * n) rows ++ bodiesBytes rows) = stands-joined s begin _ _ (h .heads) (rw (length-rows, length-rowsAt) (h .tails)) in
-    both-true (both-true (h .rise) (h .byRule)) (both-true (stands-begins s begin _ w) (eq-eqb _ _ (h .ends)))
+    both-true (both-true (h .rise) (h .byRule)) (both-true (stands-begins s begin _ (rows-together s begin n end h)) (eq-eqb _ _ (h .ends)))
 
 pub rows-walked : (s : List ℕ) (begin n end : ℕ) → AllBytes s → begin + 24 * n ≤ end → end ≤ length s → end < 256 ^ 4 → rowsWalk s begin n 0 (begin + 24 * n) end ≡ rowsByRuleAt s begin n end
 rows-walked s begin n end a l m k = same-test _ _ there back

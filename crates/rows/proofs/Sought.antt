@@ -8,17 +8,21 @@ use Prim.Native.Nat.{ℕ, zero, suc, _+_, _-_, _*_, _≤_, _<_}
 use native.Mathlib.Nat.{add-zero, zero-add}
 use native.Mathlib.Omega.{arith}
 use lib.Dec.{eqb, ltb}
+use lib.ListN.{length}
 use borrow.Author.Tests.{ltb-true, ltb-false, lt-ltb, le-ltb, eq-eqb, ne-eqb}
-use Rattle.rules.specs.Tests.{bit, isSome, count, firstOf}
-use Rattle.rules.specs.Tables.{Row, rising}
+use Rattle.rules.specs.Tests.{bit, isSome, every, count, firstOf}
+use Rattle.rules.specs.Tables.{Row, rising, rowByRule}
 use Rattle.rules.specs.Messages.{held}
 use Rattle.rules.proofs.Logic.{both-left, both-right, cases}
-use Rattle.rules.proofs.Rows.{held-cons}
+use Rattle.rules.proofs.Lists.{every-one}
+use Rattle.rules.proofs.Rows.{held-cons, held-from}
+use Rattle.rules.proofs.Tables.{row-facts}
 use Rattle.rows.specs.declared.lookup.Place.{Place}
 use Rattle.rows.specs.declared.lookup.Place.the-variants.{Held, Absent}
 use Rattle.rows.specs.Fields.{fieldsAt}
 use Rattle.rows.specs.Read.{rowOf, rowsAt}
-use Rattle.rows.specs.Places.{lower, heldOrNot, placeOf}
+use Rattle.rows.specs.Places.{lower, heldOrNot, placeOf, heldBody}
+use Rattle.rows.proofs.Bodies.{body-size}
 
 unfoldable pub sought : ℕ → List Row → ℕ → Place
 sought i [] stamp = Absent i
@@ -180,3 +184,9 @@ held-row s begin n stamp i rise h =
     let f = found-among s begin n 0 stamp i (sym (place-sought (rowsAt s begin n) stamp rise) ∙ h) in
     let e : i ≡ f .0 = omega (arith, f .1) in
     rw e (f .2, f .3)
+
+-- the body that is handed out for a stamp has 9 to 72 bytes, if the rows are by the rules
+pub held-body-size : (rows : List Row) (s : ℕ) (r : Row) → every rowByRule rows ≡ true → held rows s ≡ some r → (9 ≤ length (heldBody (held rows s))) × (length (heldBody (held rows s)) ≤ 72)
+held-body-size rows s r byRule h =
+    let m = held-from rows s r h in
+    rw h (body-size (r .body) (row-facts r (every-one rowByRule rows byRule r (m .0)) .counts))

@@ -17,6 +17,7 @@ accessesBytes (a ∷ more) = bytes 1 (a .register) ++ (bytes 8 (a .number) ++ ac
 unfoldable pub bodyBytes : Body → List ℕ
 bodyBytes x = accessesBytes (x .reads) ++ accessesBytes (x .writes)
 
+-- "each is 9 bytes": how many a body with these counts has
 abbrev pub bodyLength : ℕ → ℕ → ℕ
 bodyLength reads writes = 9 * (reads + writes)
 
@@ -28,6 +29,7 @@ unfoldable pub bodiesBytes : List Row → List ℕ
 bodiesBytes [] = []
 bodiesBytes (r ∷ rs) = bodyBytes (r .body) ++ bodiesBytes rs
 
+-- how many bytes the bodies take together
 unfoldable pub bodiesLength : List Row → ℕ
 bodiesLength [] = 0
 bodiesLength (r ∷ rs) = lengthOf (r .body) + bodiesLength rs

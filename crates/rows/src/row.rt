@@ -63,12 +63,14 @@ pub fn body_at(image: &[u8], begin: usize, index: usize) -> &[u8]
     body_of(image, row_at(image, begin, index))
 }
 
+// A stamp is 1 to 2^48-1.
 pub fn stamp_valid(stamp: u64) -> bool
     ensures { λ r. ⌜ r ≡ isStamp stamp ⌝ }
 {
     0 < stamp && stamp < 0x1_0000_0000_0000
 }
 
+// Prepare is 0 to 8, outcome 0 to 4, and not both are zero.
 pub fn codes_valid(prepare: u8, outcome: u8) -> bool
     ensures { λ r. ⌜ r ≡ codesByRule prepare outcome ⌝ }
 {
@@ -81,6 +83,7 @@ pub fn codes_valid(prepare: u8, outcome: u8) -> bool
     0 < prepare + outcome
 }
 
+// The retry stamp is a stamp for RETRY, tentative or final, and 0 otherwise.
 pub fn retry_valid(prepare: u8, retry: u64) -> bool
     ensures { λ r. ⌜ r ≡ retryByCode prepare retry ⌝ }
 {
@@ -100,13 +103,15 @@ pub fn body_inside(row: RowFields, end: usize) -> bool
     row.offset as usize + body_length(row.reads, row.writes) <= end
 }
 
+// Stamps rise strictly from row to row.
 pub fn stamp_rises(last: u64, stamp: u64) -> bool
     ensures { λ r. ⌜ r ≡ ltb last stamp ⌝ }
 {
     last < stamp
 }
 
-fn name_valid(row: RowFields) -> bool
+// A stamp, and counts of a body.
+fn stamp_and_counts_valid(row: RowFields) -> bool
     ensures { λ r. ⌜ r ≡ both (isStamp (row .stamp)) (countsByRule (row .reads) (row .writes)) ⌝ }
 {
     if stamp_valid(row.stamp) {
@@ -115,6 +120,7 @@ fn name_valid(row: RowFields) -> bool
     false
 }
 
+// The two bytes, and the retry stamp that goes with them.
 fn state_valid(row: RowFields) -> bool
     ensures { λ r. ⌜ r ≡ both (codesByRule (row .prepare) (row .outcome)) (retryByCode (row .prepare) (row .retry)) ⌝ }
 {
@@ -128,7 +134,7 @@ fn state_valid(row: RowFields) -> bool
 pub fn fields_valid(row: RowFields) -> bool
     ensures { λ r. ⌜ r ≡ fieldsByRule row ⌝ }
 {
-    if name_valid(row) {
+    if stamp_and_counts_valid(row) {
         return state_valid(row);
     }
     false

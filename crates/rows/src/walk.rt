@@ -25,7 +25,7 @@ fn body_valid(image: &[u8], row: RowFields, end: usize) -> bool
     false
 }
 
-// All that a row's own 24 bytes tell.
+// A row's fields, and that it stands in its place: all but its body.
 fn head_valid(row: RowFields, last: u64, due: usize) -> bool
     ensures { λ r. ⌜ r ≡ both (fieldsByRule row) (placeByRule row last due) ⌝ }
 {

@@ -1,12 +1,11 @@
 -- 01, 'Messages to a box' and 'Numbers returned': a box's answer, whole: the number, the table after it, the reply.
 use mathlib.Core.Bool.{cond}
-use mathlib.Core.List.{[], _∷_}
 use Prim.Native.Nat.{ℕ}
 use lib.Dec.{eqb}
 use Rattle.rules.specs.Tables.{prepareCode, prepareRetry, outcomeCode, Model, Table}
-use Rattle.rules.specs.Numbers.{Number.badMessage, number}
+use Rattle.rules.specs.Numbers.{number}
 use Rattle.rules.specs.Messages.{Message, Message.proposePrepare, Message.finalisePrepare, Message.proposeOutcome, Message.finaliseOutcome, Message.changeView, Message.startView, Message.readRegister, kind, Check, held, prepareOf, outcomeOf, tableAfter, found}
-use Rattle.rules.specs.Circumstances.{Room, badGroup, circumstances}
+use Rattle.rules.specs.Circumstances.{Room, circumstances}
 
 -- "Reply, 24 bytes: number 0, kind, box, state byte .., last normal view after the call 4, stamp 8, value 8."
 pub record Reply : Type 0 where
@@ -74,7 +73,3 @@ answerNumber M room T m = number (circumstances M room T m)
 -- a box's answer to one message; the check is the one for message 1
 unfoldable pub answer : Model → Room → Check → Table → Message → Answer
 answer M room check T m = cond (eqb (answerNumber M room T m) 0) (taken (tableAfter check T m) m) (refused (answerNumber M room T m) T)
-
--- "fresh: bad n or box"
-unfoldable pub freshNumber : ℕ → ℕ → ℕ
-freshNumber n box = number ((badMessage, badGroup n box) ∷ [])

@@ -10,6 +10,7 @@ ghost use Rattle.table.specs.Parse.{parse, imageFound};
 ghost use Rattle.table.specs.Fresh.{freshNumber, freshBuffer};
 ghost use Rattle.sprondilu.specs.Calls.{validAnswer};
 
+// The fresh table of a box, at the start of a table buffer; the answer is the number.
 #[no_mangle]
 pub extern "C" fn sprondilu_fresh(table: &mut [u8], n: u8, boxnumber: u8) -> u8
     ensures { λ r. ⌜ r ≡ freshNumber valley (now (table .entry)) n boxnumber ⌝ }
@@ -18,6 +19,7 @@ pub extern "C" fn sprondilu_fresh(table: &mut [u8], n: u8, boxnumber: u8) -> u8
     table::fresh::fresh(table, n, boxnumber)
 }
 
+// Whether lent bytes begin with an image, and how long it is: number and length in one word.
 #[no_mangle]
 pub extern "C" fn sprondilu_valid(bytes: &[u8]) -> u64
     ensures { λ r. ⌜ r ≡ validAnswer (imageFound formatOne (parse formatOne valley (now (bytes .entry)))) ⌝ }

@@ -22,7 +22,7 @@ use Rattle.rows.specs.Read.{rowsAt, begins}
 use Rattle.table.specs.Parse.{tableAt, parse, imageFound}
 use Rattle.rows.specs.Rows.{rowsByRuleAt}
 use Rattle.table.proofs.Headers.{length-header, header-stands}
-use Rattle.rows.proofs.RowsRead.{length-rowsAt, length-rows, by-rule-stand, stand-by-rule}
+use Rattle.rows.proofs.RowsRead.{length-rowsAt, by-rule-stand, stand-by-rule, rows-together}
 use Rattle.rows.proofs.Begins.{begins-stands, stands-begins}
 use Rattle.table.proofs.Images.{Sound, one-sound, valley-sound, length-image, valley-at-most, image-rows, image-read, parse-facts, parse-by-rule}
 
@@ -95,8 +95,7 @@ found-stands M s a l h =
     let e : headerAt s .format ≡ 1 = eqb-true _ _ (both-left _ _ (both-left _ _ (both-left _ _ h))) in
     let n = headerAt s .rows in
     let rows = rowsAt s 24 n in
-    let r = by-rule-stand s 24 n (headerAt s .length) g in
-    let w : Stands s 24 (rowsBytes (24 + 24 * n) rows ++ bodiesBytes rows) = stands-joined s 24 _ _ (r .heads) (rw (length-rows, length-rowsAt) (r .tails)) in
+    let w = rows-together s 24 n (headerAt s .length) (by-rule-stand s 24 n (headerAt s .length) g) in
     let t : Stands s 0 (headerBytes (headerAt s) ++ (rowsBytes (24 + 24 * n) rows ++ bodiesBytes rows)) = stands-joined s 0 _ _ (header-stands s a l) (rw length-header w) in
     rw (found-header s e g, length-rowsAt) t
 

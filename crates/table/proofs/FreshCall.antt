@@ -31,7 +31,7 @@ small-or-bad true false = refl
 small-or-bad false true = refl
 small-or-bad false false = refl
 
-pub fresh-number : (M : Model) (s : List ℕ) (n box : ℕ) → freshNumber M s n box ≡ cond (tooSmall M (length s)) 1 (cond (badGroup n box) 3 0)
+fresh-number : (M : Model) (s : List ℕ) (n box : ℕ) → freshNumber M s n box ≡ cond (tooSmall M (length s)) 1 (cond (badGroup n box) 3 0)
 unfolding freshNumber
 fresh-number M s n box = small-or-bad (tooSmall M (length s)) (badGroup n box)
 

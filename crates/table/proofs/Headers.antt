@@ -15,19 +15,19 @@ use Rattle.wire.proofs.Stands.{Stands, stands-left, stands-right, stands-joined
 use Rattle.wire.proofs.Fields.{field-read, field-stands, last-read, last-stands}
 use Rattle.rules.proofs.Logic.{both-left, both-right}
 use Rattle.table.specs.declared.header.Header.{Header}
-use Rattle.table.specs.Headers.{nameBytes, numberBytes, headerBytes, headerAt, sizesByRule, headerByRuleAt}
+use Rattle.table.specs.Headers.{singleBytes, fourByteFields, headerBytes, headerAt, sizesByRule, headerByRuleAt}
 
-length-names : (h : Header) → length (nameBytes h) ≡ 4
-unfolding nameBytes
-length-names h = simp (length-append, length-bytes)
+length-single : (h : Header) → length (singleBytes h) ≡ 4
+unfolding singleBytes
+length-single h = simp (length-append, length-bytes)
 
-length-numbers : (h : Header) → length (numberBytes h) ≡ 20
-unfolding numberBytes
-length-numbers h = simp (length-append, length-bytes)
+length-four-byte : (h : Header) → length (fourByteFields h) ≡ 20
+unfolding fourByteFields
+length-four-byte h = simp (length-append, length-bytes)
 
 pub length-header : (h : Header) → length (headerBytes h) ≡ 24
 unfolding headerBytes
-length-header h = simp (length-append, length-names, length-numbers)
+length-header h = simp (length-append, length-single, length-four-byte)
 
 -- every field is a number of its width
 pub record HeaderFits (h : Header) : Type 0 where
@@ -43,13 +43,13 @@ pub record HeaderFits (h : Header) : Type 0 where
 
 -- the header that stands there is read
 pub header-read : (s : List ℕ) (h : Header) → HeaderFits h → Stands s 0 (headerBytes h) → headerAt s ≡ h
-unfolding headerAt headerBytes nameBytes numberBytes
+unfolding headerAt headerBytes singleBytes fourByteFields
 header-read s h f x =
-    let a = field-read 1 (h .format) s 0 1 _ (f .format) refl (stands-left s 0 (nameBytes h) (numberBytes h) x) in
+    let a = field-read 1 (h .format) s 0 1 _ (f .format) refl (stands-left s 0 (singleBytes h) (fourByteFields h) x) in
     let b = field-read 1 (h .boxnumber) s 1 2 _ (f .boxnumber) refl (a .1) in
     let c = field-read 1 (h .n) s 2 3 _ (f .n) refl (b .1) in
     let d = last-read 1 (h .mode) s 3 (f .mode) (c .1) in
-    let numbers : Stands s 4 (numberBytes h) = rw (length-names h, zero-add) at (stands-right s 0 (nameBytes h) (numberBytes h) x) in
+    let numbers : Stands s 4 (fourByteFields h) = rw (length-single h, zero-add) at (stands-right s 0 (singleBytes h) (fourByteFields h) x) in
     let r = field-read 4 (h .rows) s 4 8 _ (f .rows) refl numbers in
     let v = field-read 4 (h .view) s 8 12 _ (f .view) refl (r .1) in
     let p = field-read 4 (h .promised) s 12 16 _ (f .promised) refl (v .1) in
@@ -58,24 +58,24 @@ header-read s h f x =
 
 -- the header that is read stands there
 pub header-stands : (s : List ℕ) → AllBytes s → 24 ≤ length s → Stands s 0 (headerBytes (headerAt s))
-unfolding headerAt headerBytes nameBytes numberBytes
+unfolding headerAt headerBytes singleBytes fourByteFields
 header-stands s a l =
-    let names : Stands s 0 (nameBytes (headerAt s)) =
+    let names : Stands s 0 (singleBytes (headerAt s)) =
     field-stands 1 s 0 1 _ a (omega arith) refl
     (field-stands 1 s 1 2 _ a (omega arith) refl
     (field-stands 1 s 2 3 _ a (omega arith) refl (last-stands 1 s 3 a (omega arith)))) in
-    let numbers : Stands s 4 (numberBytes (headerAt s)) =
+    let numbers : Stands s 4 (fourByteFields (headerAt s)) =
     field-stands 4 s 4 8 _ a (omega arith) refl
     (field-stands 4 s 8 12 _ a (omega arith) refl
     (field-stands 4 s 12 16 _ a (omega arith) refl
     (field-stands 4 s 16 20 _ a (omega arith) refl (last-stands 4 s 20 a (omega arith))))) in
-    stands-joined s 0 (nameBytes (headerAt s)) (numberBytes (headerAt s)) names (rw (length-names (headerAt s), zero-add) numbers)
+    stands-joined s 0 (singleBytes (headerAt s)) (fourByteFields (headerAt s)) names (rw (length-single (headerAt s), zero-add) numbers)
 
 -- ---- its numbers put one after the other
 
-pub names-steps : (s : List ℕ) (h : Header) → 24 ≤ length s → replaced (replaced (replaced (replaced s 0 (bytes 1 (h .format))) 1 (bytes 1 (h .boxnumber))) 2 (bytes 1 (h .n))) 3 (bytes 1 (h .mode)) ≡ replaced s 0 (nameBytes h)
-unfolding nameBytes
-names-steps s h l =
+pub single-steps : (s : List ℕ) (h : Header) → 24 ≤ length s → replaced (replaced (replaced (replaced s 0 (bytes 1 (h .format))) 1 (bytes 1 (h .boxnumber))) 2 (bytes 1 (h .n))) 3 (bytes 1 (h .mode)) ≡ replaced s 0 (singleBytes h)
+unfolding singleBytes
+single-steps s h l =
     let a : List ℕ = bytes 1 (h .format) in
     let b : List ℕ = a ++ bytes 1 (h .boxnumber) in
     let c : List ℕ = b ++ bytes 1 (h .n) in
@@ -86,9 +86,9 @@ names-steps s h l =
     )
     (simp append-assoc)
 
-pub numbers-steps : (s : List ℕ) (h : Header) → 24 ≤ length s → replaced (replaced (replaced (replaced (replaced s 4 (bytes 4 (h .rows))) 8 (bytes 4 (h .view))) 12 (bytes 4 (h .promised))) 16 (bytes 4 (h .start))) 20 (bytes 4 (h .length)) ≡ replaced s 4 (numberBytes h)
-unfolding numberBytes
-numbers-steps s h l =
+pub four-byte-steps : (s : List ℕ) (h : Header) → 24 ≤ length s → replaced (replaced (replaced (replaced (replaced s 4 (bytes 4 (h .rows))) 8 (bytes 4 (h .view))) 12 (bytes 4 (h .promised))) 16 (bytes 4 (h .start))) 20 (bytes 4 (h .length)) ≡ replaced s 4 (fourByteFields h)
+unfolding fourByteFields
+four-byte-steps s h l =
     let r : List ℕ = bytes 4 (h .rows) in
     let v : List ℕ = r ++ bytes 4 (h .view) in
     let p : List ℕ = v ++ bytes 4 (h .promised) in
@@ -101,9 +101,9 @@ numbers-steps s h l =
     )
     (simp append-assoc)
 
-pub header-steps : (s : List ℕ) (h : Header) → 24 ≤ length s → replaced (replaced s 0 (nameBytes h)) 4 (numberBytes h) ≡ replaced s 0 (headerBytes h)
+pub header-steps : (s : List ℕ) (h : Header) → 24 ≤ length s → replaced (replaced s 0 (singleBytes h)) 4 (fourByteFields h) ≡ replaced s 0 (headerBytes h)
 unfolding headerBytes
-header-steps s h l = replaced-joined s 0 4 (nameBytes h) (numberBytes h) (omega arith) (rw (length-names h))
+header-steps s h l = replaced-joined s 0 4 (singleBytes h) (fourByteFields h) (omega arith) (rw (length-single h))
 
 -- what a header that was passed says of the lengths
 pub header-sizes : (h : Header) (format begin limit lent : ℕ) → headerByRuleAt h format begin limit lent ≡ true → (begin + 24 * h .rows ≤ h .length) × (h .length ≤ lent)

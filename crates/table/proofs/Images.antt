@@ -7,7 +7,7 @@ use mathlib.Core.Option.{Option, none, some}
 use Prim.Native.Nat.{ℕ, _+_, _*_, _^_, _≤_, _<_}
 use native.Mathlib.Omega.{arith}
 use lib.Dec.{eqb, ltb}
-use lib.ListN.{length, drop, length-append}
+use lib.ListN.{length, take, drop, length-append}
 use borrow.Author.Tests.{ltb-true, leb-true, eqb-true}
 use Rattle.wire.specs.Numbers.{numberAt}
 use Rattle.wire.proofs.Stands.{Stands, stands-inside, stands-left, stands-right}
@@ -29,7 +29,7 @@ use Rattle.rows.specs.Rows.{RowsInside}
 use Rattle.table.proofs.Headers.{length-header, HeaderFits, header-read}
 use Rattle.rows.proofs.RowsRead.{length-rows, length-bodies, RowsStand, rows-complete, bodies-inside}
 use Rattle.rows.proofs.Begins.{begins-stands}
-pub use Rattle.rows.proofs.Begins.{begins-is, begins-with}
+use Rattle.rows.proofs.Begins.{begins-is, begins-with}
 
 -- the header and what is stored behind it reach to the rows, and every number of an image has room in its field
 pub record Sound (F : Form) (M : Model) : Type 0 where
@@ -192,8 +192,14 @@ at-most-one F M T U k h g xs ys e =
     let p : some T ≡ some U = sym (image-parses F M T k h xs) ∙ ap (parse F M) e ∙ image-parses F M U k g ys in
     cc
 
-pub one-image : (F : Form) (M : Model) (T U : Table) → Sound F M → tableByRule M T ≡ true → tableByRule M U ≡ true → image F T ≡ image F U → T ≡ U
-one-image F M T U k h g e = at-most-one F M T U k h g [] [] (ap (λ (z : List ℕ). z ++ []) e)
+-- one image is of one table
+pub one-table : (F : Form) (M : Model) (T U : Table) → Sound F M → tableByRule M T ≡ true → tableByRule M U ≡ true → image F T ≡ image F U → T ≡ U
+one-table F M T U k h g e = at-most-one F M T U k h g [] [] (ap (λ (z : List ℕ). z ++ []) e)
+
+-- and one table has one image: bytes that parse to it begin alike
+pub one-image : (F : Form) (M : Model) (s t : List ℕ) (T : Table) → parse F M s ≡ some T → parse F M t ≡ some T → take (length (image F T)) s ≡ take (length (image F T)) t
+unfolding Stands
+one-image F M s t T h g = begins-stands s 0 (image F T) (parse-facts F M s T h .1) ∙ sym (begins-stands t 0 (image F T) (parse-facts F M t T g .1))
 
 -- what the header gives as total length is the length of the image
 pub header-says : (F : Form) (M : Model) (T : Table) → Sound F M → tableByRule M T ≡ true → (rest : List ℕ) → numberAt (image F T ++ rest) 20 4 ≡ length (image F T)

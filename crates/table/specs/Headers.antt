@@ -10,16 +10,16 @@ use Rattle.rules.specs.Tables.{modeByRule}
 use Rattle.table.specs.declared.header.Header.{Header}
 
 -- "format 1; box; n; mode (0 normal, 1 changing)"
-unfoldable pub nameBytes : Header → List ℕ
-nameBytes h = bytes 1 (h .format) ++ (bytes 1 (h .boxnumber) ++ (bytes 1 (h .n) ++ bytes 1 (h .mode)))
+unfoldable pub singleBytes : Header → List ℕ
+singleBytes h = bytes 1 (h .format) ++ (bytes 1 (h .boxnumber) ++ (bytes 1 (h .n) ++ bytes 1 (h .mode)))
 
 -- "then 4 bytes each: rows, view (last normal), promised view, rows when this view began, total length"
-unfoldable pub numberBytes : Header → List ℕ
-numberBytes h = bytes 4 (h .rows) ++ (bytes 4 (h .view) ++ (bytes 4 (h .promised) ++ (bytes 4 (h .start) ++ bytes 4 (h .length))))
+unfoldable pub fourByteFields : Header → List ℕ
+fourByteFields h = bytes 4 (h .rows) ++ (bytes 4 (h .view) ++ (bytes 4 (h .promised) ++ (bytes 4 (h .start) ++ bytes 4 (h .length))))
 
 -- "Header, 24 bytes"
 unfoldable pub headerBytes : Header → List ℕ
-headerBytes h = nameBytes h ++ numberBytes h
+headerBytes h = singleBytes h ++ fourByteFields h
 
 -- the header that bytes begin with, whatever they are
 unfoldable pub headerAt : List ℕ → Header

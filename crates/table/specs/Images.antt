@@ -21,6 +21,7 @@ formatOne = record { format = 1; begin = 24; stored = λ rows. [] }
 abbrev pub bodiesAt : Form → List Row → ℕ
 bodiesAt F rows = F .begin + 24 * length rows
 
+-- "total length"
 abbrev pub imageLength : Form → Table → ℕ
 imageLength F T = bodiesAt F (T .rows) + bodiesLength (T .rows)
 

@@ -7,7 +7,7 @@ ghost use Rattle.wire.specs.Parts.{replaced};
 ghost use Rattle.rules.specs.Tests.{both};
 ghost use Rattle.rules.specs.Groups.{isGroup};
 ghost use Rattle.rules.specs.Tables.{modeByRule, freshTable};
-ghost use Rattle.table.specs.Headers.{nameBytes, numberBytes, headerBytes, headerAt, withView, withPromised, withMode, withRows, sizesByRule, headerByRuleAt};
+ghost use Rattle.table.specs.Headers.{singleBytes, fourByteFields, headerBytes, headerAt, withView, withPromised, withMode, withRows, sizesByRule, headerByRuleAt};
 ghost use Rattle.table.specs.Images.{headerOf, formatOne};
 
 // How many bytes a header has.
@@ -27,7 +27,6 @@ pub struct Header {
     pub length: u32,
 }
 
-// Each gives the header with one thing changed; that promised and view fit the mode is for whoever changes them.
 impl Header {
     // A fresh box's header: normal, no rows, no view begun.
     pub fn fresh(n: u8, boxnumber: u8) -> Header
@@ -46,6 +45,7 @@ impl Header {
         }
     }
 
+    // The methods below give the header with its view, promise, mode or rows changed; that promised and view fit the mode is for whoever changes them.
     pub fn with_view(mut self, view: u32) -> Header
         ensures { λ r. ⌜ r ≡ withView self view ⌝ }
     {
@@ -77,6 +77,7 @@ impl Header {
     }
 }
 
+// The header at the start of lent bytes, whatever they are.
 pub fn read(s: &[u8]) -> Header
     requires { ⌜ 24 ≤ length (now s) ⌝ }
     ensures { λ r. ⌜ r ≡ headerAt (now (s .entry)) ⌝ }
@@ -95,9 +96,9 @@ pub fn read(s: &[u8]) -> Header
 }
 
 // The first four fields have a byte each.
-fn write_names(s: &mut [u8], h: Header)
+fn write_single_bytes(s: &mut [u8], h: Header)
     requires { ⌜ 24 ≤ length (now s) ⌝ }
-    ensures { λ _. ⌜ now (s .exit) ≡ replaced (now (s .entry)) 0 (nameBytes h) ⌝ }
+    ensures { λ _. ⌜ now (s .exit) ≡ replaced (now (s .entry)) 0 (singleBytes h) ⌝ }
 {
     wire::put_u8(s, 0, h.format);
     wire::put_u8(s, 1, h.boxnumber);
@@ -106,9 +107,9 @@ fn write_names(s: &mut [u8], h: Header)
 }
 
 // The other five have four bytes each.
-fn write_numbers(s: &mut [u8], h: Header)
+fn write_four_byte_fields(s: &mut [u8], h: Header)
     requires { ⌜ 24 ≤ length (now s) ⌝ }
-    ensures { λ _. ⌜ now (s .exit) ≡ replaced (now (s .entry)) 4 (numberBytes h) ⌝ }
+    ensures { λ _. ⌜ now (s .exit) ≡ replaced (now (s .entry)) 4 (fourByteFields h) ⌝ }
 {
     wire::put_u32(s, 4, h.rows);
     wire::put_u32(s, 8, h.view);
@@ -117,12 +118,13 @@ fn write_numbers(s: &mut [u8], h: Header)
     wire::put_u32(s, 20, h.length);
 }
 
+// Writes a header at the start of a lent buffer.
 pub fn write(s: &mut [u8], h: Header)
     requires { ⌜ 24 ≤ length (now s) ⌝ }
     ensures { λ _. ⌜ now (s .exit) ≡ replaced (now (s .entry)) 0 (headerBytes h) ⌝ }
 {
-    write_names(s, h);
-    write_numbers(s, h);
+    write_single_bytes(s, h);
+    write_four_byte_fields(s, h);
 }
 
 fn group_valid(n: u8) -> bool

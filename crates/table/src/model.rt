@@ -10,6 +10,7 @@ pub struct Model {
 }
 
 impl Model {
+    // The valley box: 512 rows, 49,176 bytes.
     pub fn valley() -> Model
         ensures { λ r. ⌜ modelOf r ≡ valley ⌝ }
     {

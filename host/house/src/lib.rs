@@ -61,8 +61,9 @@ pub fn cited(paper: &str) -> Vec<String> {
 
 /// Whether what a citation names is there. `None` for words that name nothing of the tree.
 ///
-/// `wire::u32_at` is a function of a crate, `table::header::read` one of a module of it, `wire/proofs/Numbers.read-back` a definition or a theorem, `wire/must-fail/..`
-/// an edit, and a path that begins with one of the repository's folders is that file.
+/// `wire::u32_at` is a function of a crate, `table::header::read` one of a module of it, `wire/proofs/Numbers.read-back`
+/// a definition or a theorem, `wire/must-fail/..` an edit, and a path that begins with one of the repository's folders is
+/// that file.
 pub fn stands(citation: &str) -> Option<bool> {
     let crates = crates();
     if let Some((name, function)) = citation.split_once("::") {

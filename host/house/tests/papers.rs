@@ -50,6 +50,8 @@ fn a_citation_of_nothing_is_noticed() {
         "wire/proofs/Numbers.no-such-law",
         "wire/proofs/NoSuchFile.read-back",
         "wire/must-fail/no_such_edit",
+        "table::header::no_such_function",
+        "table::no_such_module::read",
         "host/no/such/file",
     ] {
         assert_eq!(stands(wrong), Some(false), "{}", wrong);
@@ -78,6 +80,11 @@ fn the_first_command_shows_every_crate() {
         assert!(heading, "./demo says nothing of {}: {}", name, printed);
     }
     assert!(printed.contains("- u32_at(s: &[u8]"), "{}", printed);
+    assert!(
+        printed.contains("- sprondilu_fresh(table: &mut [u8]"),
+        "{}",
+        printed
+    );
     assert!(printed.contains("claims: "), "{}", printed);
 }
 

@@ -4,8 +4,8 @@ use Rattle.rows.specs.Fields.{fieldsByRule}
 use Rattle.rows.proofs.row.fields_valid.Statement.{statement}
 use Rattle.rows.proofs.row.fields_valid.Tie as tie
 
-name-valid-requires : tie.Need-name-valid-requires
-name-valid-requires c κs = search needs
+stamp-and-counts-valid-requires : tie.Need-stamp-and-counts-valid-requires
+stamp-and-counts-valid-requires c κs = search needs
 
 state-valid-requires : tie.Need-state-valid-requires
 state-valid-requires c κs = search needs
@@ -19,4 +19,4 @@ unfolding fieldsByRule
 returns-2 c = search chain
 
 pub fields-valid-spec : {M : Type 1} → statement M
-fields-valid-spec = tie.close (tie.spec name-valid-requires state-valid-requires returns returns-2)
+fields-valid-spec = tie.close (tie.spec stamp-and-counts-valid-requires state-valid-requires returns returns-2)

@@ -5,11 +5,11 @@ use Rattle.table.proofs.Headers.{header-steps}
 use Rattle.table.proofs.header.write.Statement.{statement}
 use Rattle.table.proofs.header.write.Tie as tie
 
-write-names-requires : tie.Need-write-names-requires
-write-names-requires c κs = search needs
+write-single-bytes-requires : tie.Need-write-single-bytes-requires
+write-single-bytes-requires c κs = search needs
 
-write-numbers-requires : tie.Need-write-numbers-requires
-write-numbers-requires c κs = search needs
+write-four-byte-fields-requires : tie.Need-write-four-byte-fields-requires
+write-four-byte-fields-requires c κs = search needs
 
 same-length : tie.Need-same-length
 same-length c = search needs
@@ -18,9 +18,9 @@ returns : tie.Need-returns
 returns c =
     let p = c .before .before .before .before .before .before .before .before .before in
     rw (
-      c .before .before .write-numbers .ensures,
-      c .before .before .before .before .before .before .write-names .ensures,
+      c .before .before .write-four-byte-fields .ensures,
+      c .before .before .before .before .before .before .write-single-bytes .ensures,
     ) (header-steps (now (p .args .s)) (p .args .h) (p .pre))
 
 pub write-spec : {M : Type 1} → statement M
-write-spec = tie.close (tie.spec write-names-requires write-numbers-requires same-length returns)
+write-spec = tie.close (tie.spec write-single-bytes-requires write-four-byte-fields-requires same-length returns)

@@ -1,9 +1,9 @@
 -- Four writes side by side are one.
 use borrow.Author.Needs.{needs}
 use denote.Ref.{now}
-use Rattle.table.proofs.Headers.{names-steps}
-use Rattle.table.proofs.header.write_names.Statement.{statement}
-use Rattle.table.proofs.header.write_names.Tie as tie
+use Rattle.table.proofs.Headers.{single-steps}
+use Rattle.table.proofs.header.write_single_bytes.Statement.{statement}
+use Rattle.table.proofs.header.write_single_bytes.Tie as tie
 
 put-u8-requires : tie.Need-put-u8-requires
 put-u8-requires c κs = search needs
@@ -28,10 +28,10 @@ returns c =
       c .before .before .before .before .before .before .put-u83 .ensures,
       c .before .before .before .before .before .before .before .before .before .before .put-u82 .ensures,
       c .before .before .before .before .before .before .before .before .before .before .before .before .before .before .put-u8 .ensures,
-    ) (names-steps (now (p .args .s)) (p .args .h) (p .pre))
+    ) (single-steps (now (p .args .s)) (p .args .h) (p .pre))
 
-pub write-names-spec : {M : Type 1} → statement M
-write-names-spec =
+pub write-single-bytes-spec : {M : Type 1} → statement M
+write-single-bytes-spec =
     tie.close
     (tie.spec
     put-u8-requires

@@ -1,9 +1,9 @@
 -- Five writes side by side are one.
 use borrow.Author.Needs.{needs}
 use denote.Ref.{now}
-use Rattle.table.proofs.Headers.{numbers-steps}
-use Rattle.table.proofs.header.write_numbers.Statement.{statement}
-use Rattle.table.proofs.header.write_numbers.Tie as tie
+use Rattle.table.proofs.Headers.{four-byte-steps}
+use Rattle.table.proofs.header.write_four_byte_fields.Statement.{statement}
+use Rattle.table.proofs.header.write_four_byte_fields.Tie as tie
 
 put-u32-requires : tie.Need-put-u32-requires
 put-u32-requires c κs = search needs
@@ -32,10 +32,10 @@ returns c =
       c .before .before .before .before .before .before .before .before .before .before .put-u323 .ensures,
       c .before .before .before .before .before .before .before .before .before .before .before .before .before .before .put-u322 .ensures,
       c .before .before .before .before .before .before .before .before .before .before .before .before .before .before .before .before .before .before .put-u32 .ensures,
-    ) (numbers-steps (now (p .args .s)) (p .args .h) (p .pre))
+    ) (four-byte-steps (now (p .args .s)) (p .args .h) (p .pre))
 
-pub write-numbers-spec : {M : Type 1} → statement M
-write-numbers-spec =
+pub write-four-byte-fields-spec : {M : Type 1} → statement M
+write-four-byte-fields-spec =
     tie.close
     (tie.spec
     put-u32-requires
