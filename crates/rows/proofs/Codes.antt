@@ -13,17 +13,24 @@ use Rattle.rows.specs.Fields.{resultNumbered, prepareNumbered, verdictNu
 
 -- ---- what a code was made of is read from it
 
+-- of a prepare, and that the rule of its retry stamp is the same in its code
+prepare-coded : (p : Prepare) → (prepareNumbered (prepareCode p) (prepareRetry p) ≡ p) × (retryByCode (prepareCode p) (prepareRetry p) ≡ retryByRule p)
+unfolding prepareNumbered resultNumbered retryByCode retryByRule resultByRule either
+prepare-coded noPrepare = (refl, refl)
+prepare-coded (tentative OK) = (refl, refl)
+prepare-coded (tentative ABORT) = (refl, refl)
+prepare-coded (tentative ABSTAIN) = (refl, refl)
+prepare-coded (tentative (RETRY s)) = (refl, refl)
+prepare-coded (final OK) = (refl, refl)
+prepare-coded (final ABORT) = (refl, refl)
+prepare-coded (final ABSTAIN) = (refl, refl)
+prepare-coded (final (RETRY s)) = (refl, refl)
+
 pub prepare-read : (p : Prepare) → prepareNumbered (prepareCode p) (prepareRetry p) ≡ p
-unfolding prepareNumbered resultNumbered
-prepare-read noPrepare = refl
-prepare-read (tentative OK) = refl
-prepare-read (tentative ABORT) = refl
-prepare-read (tentative ABSTAIN) = refl
-prepare-read (tentative (RETRY s)) = refl
-prepare-read (final OK) = refl
-prepare-read (final ABORT) = refl
-prepare-read (final ABSTAIN) = refl
-prepare-read (final (RETRY s)) = refl
+prepare-read p = prepare-coded p .0
+
+pub retry-of-code : (p : Prepare) → retryByCode (prepareCode p) (prepareRetry p) ≡ retryByRule p
+retry-of-code p = prepare-coded p .1
 
 pub outcome-read : (o : Outcome) → outcomeNumbered (outcomeCode o) ≡ o
 unfolding outcomeNumbered verdictNumbered
@@ -33,7 +40,7 @@ outcome-read (noted abort) = refl
 outcome-read (done commit) = refl
 outcome-read (done abort) = refl
 
--- ---- codes are small, and the rule of the retry stamp is the same in them
+-- ---- codes are small
 
 result-code-limit : (r : Result) → resultCode r ≤ 4
 result-code-limit OK = omega arith
@@ -54,18 +61,6 @@ pub outcome-code-limit : (o : Outcome) → outcomeCode o ≤ 4
 outcome-code-limit noOutcome = omega arith
 outcome-code-limit (noted v) = omega (arith, verdict-code-limit v)
 outcome-code-limit (done v) = omega (arith, verdict-code-limit v)
-
-pub retry-of-code : (p : Prepare) → retryByCode (prepareCode p) (prepareRetry p) ≡ retryByRule p
-unfolding retryByCode retryByRule resultByRule either
-retry-of-code noPrepare = refl
-retry-of-code (tentative OK) = refl
-retry-of-code (tentative ABORT) = refl
-retry-of-code (tentative ABSTAIN) = refl
-retry-of-code (tentative (RETRY s)) = refl
-retry-of-code (final OK) = refl
-retry-of-code (final ABORT) = refl
-retry-of-code (final ABSTAIN) = refl
-retry-of-code (final (RETRY s)) = refl
 
 pub codes-of : (p : Prepare) (o : Outcome) → codesByRule (prepareCode p) (outcomeCode o) ≡ somethingHeld p o
 unfolding codesByRule somethingHeld both
