@@ -105,7 +105,20 @@ outcome-of =
     (one-more {P = OutcomeOf} 1 (noted commit, refl)
     (one-more {P = OutcomeOf} 0 (noOutcome, refl) (λ b z. absurd (omega arith))))))
 
--- so what is read from codes has these codes, and keeps the rules
+-- so what is read from codes has these codes
+pub prepare-numbered : (c q : ℕ) → c ≤ 8 → retryByCode c q ≡ true → (prepareCode (prepareNumbered c q) ≡ c) × (prepareRetry (prepareNumbered c q) ≡ q)
+prepare-numbered c q l h =
+    let (p, a, b) = prepare-of c q (omega arith) h in
+    let e : prepareNumbered c q ≡ p = sym (ap₂ prepareNumbered a b) ∙ prepare-read p in
+    (ap prepareCode e ∙ a, ap prepareRetry e ∙ b)
+
+pub outcome-numbered : (o : ℕ) → o ≤ 4 → outcomeCode (outcomeNumbered o) ≡ o
+outcome-numbered o l =
+    let (w, d) = outcome-of o (omega arith) in
+    let f : outcomeNumbered o ≡ w = sym (ap outcomeNumbered d) ∙ outcome-read w in
+    ap outcomeCode f ∙ d
+
+-- and keeps the rules
 pub record Coded (c q o : ℕ) : Type 0 where
   pub prepare : prepareCode (prepareNumbered c q) ≡ c
   pub retry : prepareRetry (prepareNumbered c q) ≡ q
@@ -116,16 +129,12 @@ pub record Coded (c q o : ℕ) : Type 0 where
 pub coded : (c q o : ℕ) → codesByRule c o ≡ true → retryByCode c q ≡ true → Coded c q o
 unfolding codesByRule
 coded c q o k h =
-    let lc : c ≤ 8 = leb-true c 8 (both-left _ _ k) in
-    let lo : o ≤ 4 = leb-true o 4 (both-left _ _ (both-right _ _ k)) in
-    let (p, a, b) = prepare-of c q (omega arith) h in
-    let (w, d) = outcome-of o (omega arith) in
-    let e : prepareNumbered c q ≡ p = sym (ap₂ prepareNumbered a b) ∙ prepare-read p in
-    let f : outcomeNumbered o ≡ w = sym (ap outcomeNumbered d) ∙ outcome-read w in
+    let (a, b) = prepare-numbered c q (leb-true c 8 (both-left _ _ k)) h in
+    let d = outcome-numbered o (leb-true o 4 (both-left _ _ (both-right _ _ k))) in
     record {
-      prepare = ap prepareCode e ∙ a;
-      retry = ap prepareRetry e ∙ b;
-      outcome = ap outcomeCode f ∙ d;
-      held = ap₂ somethingHeld e f ∙ sym (codes-of p w) ∙ ap₂ codesByRule a d ∙ k;
-      byRule = ap retryByRule e ∙ sym (retry-of-code p) ∙ ap₂ retryByCode a b ∙ h;
+      prepare = a;
+      retry = b;
+      outcome = d;
+      held = sym (codes-of (prepareNumbered c q) (outcomeNumbered o)) ∙ ap₂ codesByRule a d ∙ k;
+      byRule = sym (retry-of-code (prepareNumbered c q)) ∙ ap₂ retryByCode a b ∙ h;
     }

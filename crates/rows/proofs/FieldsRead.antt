@@ -7,27 +7,21 @@ use native.Mathlib.Omega.{arith}
 use lib.ListN.{length, length-append}
 use borrow.Author.Tests.{ltb-true, leb-true}
 use Rattle.wire.specs.Numbers.{bytes, AllBytes}
-use Rattle.wire.proofs.Numbers.{length-bytes}
+use Rattle.wire.proofs.Numbers.{length-bytes, bytes-fit, all-joined}
 use Rattle.wire.proofs.Stands.{Stands}
-use Rattle.wire.proofs.Fields.{field-read, field-stands, last-read, last-stands}
+use Rattle.wire.proofs.Fields.{field-read, field-stands, last-read, last-stands, stands-bytes}
 use Rattle.rules.specs.Stamps.{isStamp, countsByRule}
 use Rattle.rules.specs.Tables.{Result, Result.OK, Result.ABORT, Result.ABSTAIN, Result.RETRY, Prepare, Prepare.noPrepare, Prepare.tentative, Prepare.final, resultRetry, prepareCode, prepareRetry, outcomeCode, resultByRule, retryByRule, Row, rowByRule}
 use Rattle.rules.proofs.Logic.{both-left, both-right}
 use Rattle.rules.proofs.Tables.{row-facts}
 use Rattle.rows.specs.declared.row.RowFields.{RowFields}
 use Rattle.rows.specs.Bytes.{rowBytes}
-use Rattle.rows.specs.Fields.{fieldsAt, codesByRule, retryByCode}
+use Rattle.rows.specs.Fields.{fieldsBytes, fieldsAt, codesByRule, retryByCode}
 use Rattle.rows.specs.Read.{bodyAt, rowOf}
 use Rattle.rows.proofs.Codes.{prepare-code-limit, outcome-code-limit, prepare-read, outcome-read, coded}
 use Rattle.rows.proofs.Bodies.{length-accessesAt}
 
-unfoldable pub fieldsBytes : RowFields → List ℕ
-fieldsBytes f =
-    bytes 8 (f .stamp)
-    ++ (bytes 8 (f .retry)
-    ++ (bytes 4 (f .offset) ++ (bytes 1 (f .reads) ++ (bytes 1 (f .writes) ++ (bytes 1 (f .prepare) ++ bytes 1 (f .outcome))))))
-
-length-fields : (f : RowFields) → length (fieldsBytes f) ≡ 24
+pub length-fields : (f : RowFields) → length (fieldsBytes f) ≡ 24
 unfolding fieldsBytes
 length-fields f = simp (length-append, length-bytes)
 
@@ -52,6 +46,30 @@ fields-read s at f k h =
     let e = field-read 1 (f .writes) s (at + 21) (at + 22) _ (k .writes) (omega arith) (d .1) in
     let p = field-read 1 (f .prepare) s (at + 22) (at + 23) _ (k .prepare) (omega arith) (e .1) in
     rw (a .0, b .0, c .0, d .0, e .0, p .0, last-read 1 (f .outcome) s (at + 23) (k .outcome) (p .1))
+
+-- fields whose bytes are bytes fit
+pub fields-told : (f : RowFields) → AllBytes (fieldsBytes f) → FieldsFit f
+unfolding fieldsBytes
+fields-told f h =
+    let a = all-joined (bytes 8 (f .stamp)) _ h in
+    let b = all-joined (bytes 8 (f .retry)) _ (a .1) in
+    let c = all-joined (bytes 4 (f .offset)) _ (b .1) in
+    let d = all-joined (bytes 1 (f .reads)) _ (c .1) in
+    let e = all-joined (bytes 1 (f .writes)) _ (d .1) in
+    let p = all-joined (bytes 1 (f .prepare)) _ (e .1) in
+    record {
+      stamp = bytes-fit 8 (f .stamp) (omega arith) (a .0);
+      retry = bytes-fit 8 (f .retry) (omega arith) (b .0);
+      offset = bytes-fit 4 (f .offset) (omega arith) (c .0);
+      reads = bytes-fit 1 (f .reads) (omega arith) (d .0);
+      writes = bytes-fit 1 (f .writes) (omega arith) (e .0);
+      prepare = bytes-fit 1 (f .prepare) (omega arith) (p .0);
+      outcome = bytes-fit 1 (f .outcome) (omega arith) (p .1);
+    }
+
+-- so fields that stand among bytes fit and are read, whatever they say
+pub fields-among : (s : List ℕ) (at : ℕ) (f : RowFields) → AllBytes s → Stands s at (fieldsBytes f) → FieldsFit f × (fieldsAt s at ≡ f)
+fields-among s at f a h = let k = fields-told f (stands-bytes s at (fieldsBytes f) a h) in (k, fields-read s at f k h)
 
 -- the fields that are read stand there
 pub fields-stand : (s : List ℕ) (at : ℕ) → AllBytes s → at + 24 ≤ length s → Stands s at (fieldsBytes (fieldsAt s at))

@@ -1,9 +1,9 @@
 -- 01, 'The table image: contents first, bodies after': the fields of a row as they stand in bytes, and what they mean.
 use mathlib.Core.Bool.{Bool, cond}
-use mathlib.Core.List.{List}
+use mathlib.Core.List.{List, _++_}
 use Prim.Native.Nat.{ℕ, _+_, _-_}
 use lib.Dec.{eqb, ltb, leb}
-use Rattle.wire.specs.Numbers.{numberAt}
+use Rattle.wire.specs.Numbers.{bytes, numberAt}
 use Rattle.rules.specs.Tests.{both, either}
 use Rattle.rules.specs.Stamps.{isStamp, countsByRule}
 use Rattle.rules.specs.Tables.{Result, Result.OK, Result.ABORT, Result.ABSTAIN, Result.RETRY, Prepare, Prepare.noPrepare, Prepare.tentative, Prepare.final, Verdict, Verdict.commit, Verdict.abort, Outcome, Outcome.noOutcome, Outcome.noted, Outcome.done}
@@ -20,6 +20,34 @@ fieldsAt s at = record {
   prepare = numberAt s (at + 22) 1;
   outcome = numberAt s (at + 23) 1;
 }
+
+-- the same as bytes
+unfoldable pub fieldsBytes : RowFields → List ℕ
+fieldsBytes f =
+    bytes 8 (f .stamp)
+    ++ (bytes 8 (f .retry)
+    ++ (bytes 4 (f .offset) ++ (bytes 1 (f .reads) ++ (bytes 1 (f .writes) ++ (bytes 1 (f .prepare) ++ bytes 1 (f .outcome))))))
+
+-- ---- a row's fields with its state changed
+
+-- of the same stamp, offset and counts
+abbrev pub withState : RowFields → ℕ → ℕ → ℕ → RowFields
+withState f retry prepare outcome = record {
+  stamp = f .stamp;
+  retry = retry;
+  offset = f .offset;
+  reads = f .reads;
+  writes = f .writes;
+  prepare = prepare;
+  outcome = outcome;
+}
+
+-- the retry stamp goes with the prepare byte
+abbrev pub withPrepareByte : RowFields → ℕ → ℕ → RowFields
+withPrepareByte f prepare retry = withState f retry prepare (f .outcome)
+
+abbrev pub withOutcomeByte : RowFields → ℕ → RowFields
+withOutcomeByte f outcome = withState f (f .retry) (f .prepare) outcome
 
 -- ---- codes
 

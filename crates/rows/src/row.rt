@@ -7,7 +7,7 @@ ghost use lib.ListN.{length};
 ghost use Rattle.rules.specs.Tests.{both};
 ghost use Rattle.rules.specs.Stamps.{isStamp, countsByRule};
 ghost use Rattle.rows.specs.Bytes.{bodyLength};
-ghost use Rattle.rows.specs.Fields.{fieldsAt, codesByRule, retryByCode, fieldsByRule};
+ghost use Rattle.rows.specs.Fields.{fieldsAt, withPrepareByte, withOutcomeByte, codesByRule, retryByCode, fieldsByRule};
 ghost use Rattle.rows.specs.Rows.{BodyInside, bodyPart, placeByRule};
 
 // The fields of a row, in the order in which they stand.
@@ -19,6 +19,25 @@ pub struct RowFields {
     pub writes: u8,
     pub prepare: u8,
     pub outcome: u8,
+}
+
+impl RowFields {
+    // The row with its prepare byte changed; the retry stamp goes with it.
+    pub fn with_prepare(mut self, prepare: u8, retry: u64) -> RowFields
+        ensures { λ r. ⌜ r ≡ withPrepareByte self prepare retry ⌝ }
+    {
+        self.prepare = prepare;
+        self.retry = retry;
+        self
+    }
+
+    // The row with its outcome byte changed.
+    pub fn with_outcome(mut self, outcome: u8) -> RowFields
+        ensures { λ r. ⌜ r ≡ withOutcomeByte self outcome ⌝ }
+    {
+        self.outcome = outcome;
+        self
+    }
 }
 
 // The row at an index of an image whose rows begin there. Whoever goes over rows takes them from here.
@@ -38,9 +57,9 @@ pub fn row_at(image: &[u8], begin: usize, index: usize) -> RowFields
     }
 }
 
-// How many bytes a body with these counts has.
+// How many bytes a body with these counts has, by the rules or not. The bound is there for callers that add many of them.
 pub fn body_length(reads: u8, writes: u8) -> usize
-    ensures { λ r. ⌜ r ≡ bodyLength reads writes ⌝ }
+    ensures { λ r. ⌜ (r ≡ bodyLength reads writes) × (r ≤ 4590) ⌝ }
 {
     9 * (reads as usize + writes as usize)
 }

@@ -10,9 +10,9 @@ use borrow.Author.Tests.{leb-true}
 use Rattle.wire.specs.Parts.{replaced}
 use Rattle.wire.specs.Numbers.{bytes, AllBytes}
 use Rattle.wire.proofs.Parts.{replaced-joined}
-use Rattle.wire.proofs.Numbers.{length-bytes}
+use Rattle.wire.proofs.Numbers.{length-bytes, bytes-fit, all-joined}
 use Rattle.wire.proofs.Stands.{Stands, stands-left, stands-right, stands-joined}
-use Rattle.wire.proofs.Fields.{field-read, field-stands, last-read, last-stands}
+use Rattle.wire.proofs.Fields.{field-read, field-stands, last-read, last-stands, stands-bytes}
 use Rattle.rules.proofs.Logic.{both-left, both-right}
 use Rattle.table.specs.declared.header.Header.{Header}
 use Rattle.table.specs.Headers.{singleBytes, fourByteFields, headerBytes, headerAt, sizesByRule, headerByRuleAt}
@@ -55,6 +55,34 @@ header-read s h f x =
     let p = field-read 4 (h .promised) s 12 16 _ (f .promised) refl (v .1) in
     let t = field-read 4 (h .start) s 16 20 _ (f .start) refl (p .1) in
     rw (a .0, b .0, c .0, d, r .0, v .0, p .0, t .0, last-read 4 (h .length) s 20 (f .length) (t .1))
+
+-- a header whose bytes are bytes fits
+header-told : (h : Header) → AllBytes (headerBytes h) → HeaderFits h
+unfolding headerBytes singleBytes fourByteFields
+header-told h x =
+    let (y, z) = all-joined (singleBytes h) (fourByteFields h) x in
+    let a = all-joined (bytes 1 (h .format)) _ y in
+    let b = all-joined (bytes 1 (h .boxnumber)) _ (a .1) in
+    let c = all-joined (bytes 1 (h .n)) _ (b .1) in
+    let r = all-joined (bytes 4 (h .rows)) _ z in
+    let v = all-joined (bytes 4 (h .view)) _ (r .1) in
+    let p = all-joined (bytes 4 (h .promised)) _ (v .1) in
+    let t = all-joined (bytes 4 (h .start)) _ (p .1) in
+    record {
+      format = bytes-fit 1 (h .format) (omega arith) (a .0);
+      boxnumber = bytes-fit 1 (h .boxnumber) (omega arith) (b .0);
+      n = bytes-fit 1 (h .n) (omega arith) (c .0);
+      mode = bytes-fit 1 (h .mode) (omega arith) (c .1);
+      rows = bytes-fit 4 (h .rows) (omega arith) (r .0);
+      view = bytes-fit 4 (h .view) (omega arith) (v .0);
+      promised = bytes-fit 4 (h .promised) (omega arith) (p .0);
+      start = bytes-fit 4 (h .start) (omega arith) (t .0);
+      length = bytes-fit 4 (h .length) (omega arith) (t .1);
+    }
+
+-- so a header that stands among bytes is read, whatever it says
+pub header-among : (s : List ℕ) (h : Header) → AllBytes s → Stands s 0 (headerBytes h) → headerAt s ≡ h
+header-among s h a x = header-read s h (header-told h (stands-bytes s 0 (headerBytes h) a x)) x
 
 -- the header that is read stands there
 pub header-stands : (s : List ℕ) → AllBytes s → 24 ≤ length s → Stands s 0 (headerBytes (headerAt s))

@@ -125,12 +125,17 @@ pub record Parsed (F : Form) (s : List ℕ) (T : Table) : Type 0 where
   pub long : imageLength F T ≤ length s
   pub rise : rising 0 (T .rows) ≡ true
 
-pub image-rows : (F : Form) (M : Model) (s : List ℕ) (T : Table) → Sound F M → tableByRule M T ≡ true → Stands s 0 (image F T) → RowsStand s (F .begin) 0 (bodiesAt F (T .rows)) (imageLength F T) (T .rows)
+-- rows and bodies stand from where rows begin
+pub image-behind : (F : Form) (s : List ℕ) (T : Table) → ((rows : List Row) → 24 + length (F .stored rows) ≡ F .begin) → Stands s 0 (image F T) → Stands s (F .begin) (rowsBytes (bodiesAt F (T .rows)) (T .rows) ++ bodiesBytes (T .rows))
 unfolding image
+image-behind F s T starts w =
+    let a = rw length-header at (stands-right s 0 (headerBytes (headerOf F T)) _ w) in
+    rw (starts (T .rows)) at (stands-right s 24 (F .stored (T .rows)) (rowsBytes (bodiesAt F (T .rows)) (T .rows) ++ bodiesBytes (T .rows)) a)
+
+pub image-rows : (F : Form) (M : Model) (s : List ℕ) (T : Table) → Sound F M → tableByRule M T ≡ true → Stands s 0 (image F T) → RowsStand s (F .begin) 0 (bodiesAt F (T .rows)) (imageLength F T) (T .rows)
 image-rows F M s T k h w =
     let (t, l) = table-facts M T h in
-    let a = rw length-header at (stands-right s 0 (headerBytes (headerOf F T)) _ w) in
-    let b = rw (k .starts (T .rows)) at (stands-right s 24 (F .stored (T .rows)) _ a) in
+    let b = image-behind F s T (k .starts) w in
     record {
       rise = t .rise;
       byRule = t .rows;

@@ -37,11 +37,11 @@ headerAt s = record {
 
 -- ---- a header with one thing changed
 
--- of the same format, box, n and start rows
-abbrev pub changedTo : Header → ℕ → ℕ → ℕ → ℕ → ℕ → Header
-changedTo h mode rows view promised length = record {
+-- of the same format, n and start rows
+abbrev pub changedTo : Header → ℕ → ℕ → ℕ → ℕ → ℕ → ℕ → Header
+changedTo h box mode rows view promised length = record {
   format = h .format;
-  boxnumber = h .boxnumber;
+  boxnumber = box;
   n = h .n;
   mode = mode;
   rows = rows;
@@ -52,17 +52,20 @@ changedTo h mode rows view promised length = record {
 }
 
 abbrev pub withView : Header → ℕ → Header
-withView h view = changedTo h (h .mode) (h .rows) view (h .promised) (h .length)
+withView h view = changedTo h (h .boxnumber) (h .mode) (h .rows) view (h .promised) (h .length)
 
 abbrev pub withPromised : Header → ℕ → Header
-withPromised h promised = changedTo h (h .mode) (h .rows) (h .view) promised (h .length)
+withPromised h promised = changedTo h (h .boxnumber) (h .mode) (h .rows) (h .view) promised (h .length)
 
 abbrev pub withMode : Header → ℕ → Header
-withMode h mode = changedTo h mode (h .rows) (h .view) (h .promised) (h .length)
+withMode h mode = changedTo h (h .boxnumber) mode (h .rows) (h .view) (h .promised) (h .length)
 
 -- the total length goes with the rows
 abbrev pub withRows : Header → ℕ → ℕ → Header
-withRows h rows length = changedTo h (h .mode) rows (h .view) (h .promised) length
+withRows h rows length = changedTo h (h .boxnumber) (h .mode) rows (h .view) (h .promised) length
+
+abbrev pub withBox : Header → ℕ → Header
+withBox h box = changedTo h box (h .mode) (h .rows) (h .view) (h .promised) (h .length)
 
 -- ---- what can be told of a header without looking at a row
 

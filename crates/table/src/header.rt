@@ -7,7 +7,7 @@ ghost use Rattle.wire.specs.Parts.{replaced};
 ghost use Rattle.rules.specs.Tests.{both};
 ghost use Rattle.rules.specs.Groups.{isGroup};
 ghost use Rattle.rules.specs.Tables.{modeByRule, freshTable};
-ghost use Rattle.table.specs.Headers.{singleBytes, fourByteFields, headerBytes, headerAt, withView, withPromised, withMode, withRows, sizesByRule, headerByRuleAt};
+ghost use Rattle.table.specs.Headers.{singleBytes, fourByteFields, headerBytes, headerAt, withView, withPromised, withMode, withRows, withBox, sizesByRule, headerByRuleAt};
 ghost use Rattle.table.specs.Images.{headerOf, formatOne};
 
 // How many bytes a header has.
@@ -73,6 +73,14 @@ impl Header {
     {
         self.rows = rows;
         self.length = length;
+        self
+    }
+
+    // Another box's header as this box's.
+    pub fn with_box(mut self, boxnumber: u8) -> Header
+        ensures { λ r. ⌜ r ≡ withBox self boxnumber ⌝ }
+    {
+        self.boxnumber = boxnumber;
         self
     }
 }

@@ -35,3 +35,8 @@ unfolding Stands numberAt
 last-stands width s at a l =
     let v = rw (length-part s at width l) at (bytes-number (part s at width) (all-part s at width a)) in
     rw length-bytes (sym v)
+
+-- what stands among bytes is bytes
+pub stands-bytes : (s : List ℕ) (at : ℕ) (ws : List ℕ) → AllBytes s → Stands s at ws → AllBytes ws
+unfolding Stands
+stands-bytes s at ws a h = rw h at (all-part s at (length ws) a)

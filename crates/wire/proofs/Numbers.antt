@@ -57,6 +57,12 @@ bytes-all (suc width) x h = (
   bytes-all width (x % 256 ^ width) (mod-lt x (power-positive width)),
 )
 
+-- and a number whose bytes they are fits
+pub bytes-fit : (width x : ℕ) → 0 < width → AllBytes (bytes width x) → x < 256 ^ width
+unfolding bytes
+bytes-fit zero x p h = absurd (omega arith)
+bytes-fit (suc width) x p h = rw pow-succ' (div-lt-iff-lt-mul (power-positive width) .0 (h .0))
+
 -- the number of two pieces side by side
 pub number-joined : (xs ys : List ℕ) → number (xs ++ ys) ≡ number xs * 256 ^ length ys + number ys
 unfolding number
@@ -109,6 +115,10 @@ all-drop (suc n) (b ∷ s) h = all-drop n s (h .1)
 
 pub all-part : (s : List ℕ) (at n : ℕ) → AllBytes s → AllBytes (part s at n)
 all-part s at n h = all-take n (drop at s) (all-drop at s h)
+
+pub all-joined : (xs ys : List ℕ) → AllBytes (xs ++ ys) → AllBytes xs × AllBytes ys
+all-joined [] ys h = (tt, h)
+all-joined (x ∷ xs) ys h = let i = all-joined xs ys (h .1) in ((h .0, i .0), i .1)
 
 pub all-of : (s : List ℕ) → ((i : ℕ) → getD s i 0 < 256) → AllBytes s
 all-of [] h = tt

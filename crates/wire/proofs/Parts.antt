@@ -6,7 +6,7 @@ use native.Mathlib.Nat.{add-zero, zero-add}
 use native.Mathlib.Numerals.{add-one}
 use native.Mathlib.Omega.{arith}
 use lib.ListN.{length, take, drop, set, length-append, length-take, length-drop, take-append-drop}
-use lib.Seq.{take-at, drop-at, take-append-seam, take-append-le, drop-append-le, drop-append-add, length-take-le, set-split, drop-drop, take-set-le, drop-set-lt, take-suc-set}
+use lib.Seq.{take-at, drop-at, take-append-seam, take-append-le, drop-append-le, drop-append-add, length-take-le, take-take, set-split, drop-drop, take-set-le, drop-set-lt, take-suc-set}
 use Rattle.wire.specs.Parts.{part, replaced}
 
 pub length-part : (s : List ℕ) (at n : ℕ) → at + n ≤ length s → length (part s at n) ≡ n
@@ -72,6 +72,17 @@ replaced-joined s at to xs ys h f =
     ∙ drop-drop (length ys) (at + length xs) s
     ∙ ap (λ (k : ℕ). drop k s) e) in
     rw (t, d) (simp append-assoc)
+
+-- the same, where the later one is written first
+pub replaced-before : (s : List ℕ) (at to : ℕ) (xs ys : List ℕ) → at + length xs ≡ to → to ≤ length s → replaced (replaced s to ys) at xs ≡ replaced s at (xs ++ ys)
+unfolding replaced
+replaced-before s at to xs ys e h =
+    let r : List ℕ = drop (to + length ys) s in
+    let n : length (take to s) ≡ to = length-take-le to s h in
+    let t : take at (take to s ++ (ys ++ r)) ≡ take at s = take-append-le at (take to s) (ys ++ r) (omega arith) ∙ take-take at to s (omega arith) in
+    let d : drop (at + length xs) (take to s ++ (ys ++ r)) ≡ ys ++ r = drop-at (take to s) (ys ++ r) (at + length xs) (n ∙ sym e) in
+    let f : at + length (xs ++ ys) ≡ to + length ys = simp length-append (omega arith) in
+    rw (t, d, f, append-assoc xs ys r)
 
 -- in a list that is put together, the piece in the middle is exchanged
 pub replaced-between : (p o q ws : List ℕ) (at : ℕ) → length p ≡ at → length o ≡ length ws → replaced (p ++ (o ++ q)) at ws ≡ p ++ (ws ++ q)

@@ -13,7 +13,7 @@ add-result : tie.Need-add-result
 add-result c = search needs
 
 returns : tie.Need-returns
-returns c = search (tests, ← c .body-length .ensures)
+returns c = search (tests, ← c .body-length .ensures .0)
 
 pub body-inside-spec : {M : Type 1} → statement M
 body-inside-spec = tie.close (tie.spec cast-result body-length-requires add-result returns)

@@ -25,7 +25,7 @@ part-result-end c = search needs
 
 returns : tie.Need-returns
 unfolding bodyPart
-returns c = rw (add-sub-cancel-left, c .before .body-length .ensures)
+returns c = rw (add-sub-cancel-left, c .before .body-length .ensures .0)
 
 pub body-of-spec : {M : Type 1} → statement M
 body-of-spec =

@@ -83,7 +83,7 @@ unfolding both
 loop-again c =
     let h = sym (c .before .before .row-valid .ensures) ∙ not-false _ (c .before .if1 .left) in
     let room = row-room _ _ _ _ _ h in
-    (omega arith, omega arith, turn (c .before .before .before .before) ∙ rw (← c .before .before .before .row-at .ensures, h, c .body-length .ensures))
+    (omega arith, omega arith, turn (c .before .before .before .before) ∙ rw (← c .before .before .before .row-at .ensures, h, c .body-length .ensures .0))
 
 returns-2 : tie.Need-returns-2 Inv-loop μ-loop
 returns-2 c =

@@ -1,0 +1,12 @@
+pub mod Holding
+pub mod EditedBuffers
+pub mod RowsJoined
+pub mod ChangedParts
+pub mod Slipped
+pub mod LaidRows
+pub mod Indexes
+pub mod AddedRows
+pub mod Taken
+pub mod RowSteps
+pub mod EditedParts
+pub mod AddedTables

@@ -1,0 +1,24 @@
+-- Two runs of fields side by side are the row.
+use borrow.Author.Needs.{needs}
+use denote.Ref.{now}
+use Rattle.edit.proofs.RowSteps.{row-steps}
+use Rattle.edit.proofs.state.write_row.Statement.{statement}
+use Rattle.edit.proofs.state.write_row.Tie as tie
+
+write-long-fields-requires : tie.Need-write-long-fields-requires
+write-long-fields-requires c κs = search needs
+
+write-single-bytes-requires : tie.Need-write-single-bytes-requires
+write-single-bytes-requires c κs = search needs
+
+same-length : tie.Need-same-length
+same-length c = search needs
+
+returns : tie.Need-returns
+returns c =
+    let p = c .before .before .before .before .before .before .before .before .before in
+    rw (c .before .before .write-single-bytes .ensures, c .before .before .before .before .before .before .write-long-fields .ensures) (row-steps (now (p .args .image)) (p .args .at) (p .args .row) (p .pre))
+
+pub write-row-spec : {M : Type 1} → statement M
+write-row-spec =
+    tie.close (tie.spec write-long-fields-requires write-single-bytes-requires same-length returns)
