@@ -1,0 +1,70 @@
+// The changes of `edit`, one by one, for the tests and the measurements of host/. No part of the library: what box firmware links never changes a table but by an answer.
+//
+// Each asks what the function under it asks, and its caller must see to that: nothing is tested here.
+ghost use mathlib.Core.Path.{_≡_};
+ghost use mathlib.Core.Bool.{true};
+ghost use Prim.Native.Nat.{_+_, _≤_, _<_};
+ghost use lib.ListN.{length};
+ghost use Rattle.rules.specs.Tables.{rising};
+ghost use Rattle.rules.specs.Messages.{withPrepare, withOutcome};
+ghost use Rattle.rows.specs.Fields.{fieldsAt, prepareNumbered, outcomeNumbered, retryByCode, fieldsByRule};
+ghost use Rattle.rows.specs.Read.{rowOf};
+ghost use Rattle.rows.specs.Rows.{sizeOf, BodyInside};
+ghost use Rattle.rows.specs.Places.{placeOf};
+ghost use Rattle.rows.specs.declared.lookup.Place.the-variants.{Absent};
+ghost use Rattle.table.specs.Headers.{headerAt};
+ghost use Rattle.table.specs.Images.{formatOne};
+ghost use Rattle.table.specs.Parse.{tableAt};
+ghost use Rattle.edit.specs.Changes.{withViews, promised, onRow, adding, taking};
+ghost use Rattle.edit.specs.Edited.{Holds, edited};
+
+#[no_mangle]
+pub extern "C" fn trial_set_views(table: &mut [u8], mode: u8, view: u32, promised: u32)
+    requires { ⌜ Holds formatOne (now table) ⌝ }
+    ensures { λ _. ⌜ now (table .exit) ≡ edited formatOne (withViews mode view promised) (now (table .entry)) ⌝ }
+{
+    edit::views::set_views(table, mode, view, promised)
+}
+
+#[no_mangle]
+pub extern "C" fn trial_promise(table: &mut [u8], view: u32)
+    requires { ⌜ Holds formatOne (now table) ⌝ }
+    ensures { λ _. ⌜ now (table .exit) ≡ edited formatOne (promised view) (now (table .entry)) ⌝ }
+{
+    edit::views::promise(table, view)
+}
+
+#[no_mangle]
+pub extern "C" fn trial_set_prepare(table: &mut [u8], index: usize, prepare: u8, retry: u64)
+    requires { ⌜ Holds formatOne (now table) × (index < headerAt (now table) .rows) × (prepare ≤ 8) × (retryByCode prepare retry ≡ true) ⌝ }
+    ensures { λ _. ⌜ now (table .exit) ≡ edited formatOne (onRow index (withPrepare (prepareNumbered prepare retry))) (now (table .entry)) ⌝ }
+{
+    edit::state::set_prepare(table, index, prepare, retry)
+}
+
+#[no_mangle]
+pub extern "C" fn trial_set_outcome(table: &mut [u8], index: usize, outcome: u8)
+    requires { ⌜ Holds formatOne (now table) × (index < headerAt (now table) .rows) × (outcome ≤ 4) ⌝ }
+    ensures { λ _. ⌜ now (table .exit) ≡ edited formatOne (onRow index (withOutcome (outcomeNumbered outcome))) (now (table .entry)) ⌝ }
+{
+    edit::state::set_outcome(table, index, outcome)
+}
+
+// The lent bytes begin with the row's 24, as they would stand in an image; its offset says where its body lies in them.
+#[no_mangle]
+pub extern "C" fn trial_add_row(table: &mut [u8], index: usize, row: &[u8])
+    requires { ⌜ Holds formatOne (now table) × (rising 0 (tableAt formatOne (now table) .rows) ≡ true) × (placeOf (tableAt formatOne (now table) .rows) (fieldsAt (now row) 0 .stamp) ≡ Absent index) ⌝ }
+    requires { ⌜ (24 ≤ length (now row)) × (fieldsByRule (fieldsAt (now row) 0) ≡ true) × BodyInside (now row) (fieldsAt (now row) 0) ⌝ }
+    requires { ⌜ (headerAt (now table) .rows < 65536) × (headerAt (now table) .length + 24 + sizeOf (fieldsAt (now row) 0) ≤ length (now table)) × (headerAt (now table) .length + 24 + sizeOf (fieldsAt (now row) 0) < 4294967296) ⌝ }
+    ensures { λ _. ⌜ now (table .exit) ≡ edited formatOne (adding (rowOf (now (row .entry)) (fieldsAt (now (row .entry)) 0))) (now (table .entry)) ⌝ }
+{
+    edit::add::add_row(table, index, rows::row::row_at(row, 0, 0), row)
+}
+
+#[no_mangle]
+pub extern "C" fn trial_take_image(table: &mut [u8], image: &[u8])
+    requires { ⌜ Holds formatOne (now table) × Holds formatOne (now image) × (headerAt (now image) .length ≤ length (now table)) ⌝ }
+    ensures { λ _. ⌜ now (table .exit) ≡ edited formatOne (taking (tableAt formatOne (now (image .entry)))) (now (table .entry)) ⌝ }
+{
+    edit::take::take_image(table, image)
+}
