@@ -10,3 +10,4 @@ pub mod Taken
 pub mod RowSteps
 pub mod EditedParts
 pub mod AddedTables
+pub mod ChangedTables

@@ -62,13 +62,13 @@ module _ (T : Table) (t : Regular T) where
   with-rows rows s r e = record { group = t .group; box = t .box; view = t .view; promised = t .promised; mode = t .mode; start = s; rise = r; rows = e }
 
   -- a row is changed, with its stamp kept
-  changed-rule : (s : ℕ) (change : Row → Row) → ((r : Row) → change r .stamp ≡ r .stamp) → ((r : Row) → rowByRule r ≡ true → rowByRule (change r) ≡ true) → Regular (withRows T (changed s change (T .rows)))
+  pub changed-rule : (s : ℕ) (change : Row → Row) → ((r : Row) → change r .stamp ≡ r .stamp) → ((r : Row) → rowByRule r ≡ true → rowByRule (change r) ≡ true) → Regular (withRows T (changed s change (T .rows)))
   changed-rule s change same keeps =
       let n = length-changed s change (T .rows) in
       with-rows (changed s change (T .rows)) (omega (arith, t .start)) (rising-changed s change same 0 (T .rows) ∙ t .rise) (every-changed s change (T .rows) keeps (t .rows))
 
   -- a row of a new stamp is added
-  added-rule : (r : Row) → rowByRule r ≡ true → held (T .rows) (r .stamp) ≡ none → Regular (withRows T (added r (T .rows)))
+  pub added-rule : (r : Row) → rowByRule r ≡ true → held (T .rows) (r .stamp) ≡ none → Regular (withRows T (added r (T .rows)))
   added-rule r k new =
       let n = length-added r (T .rows) in
       let low = stamp-positive (r .stamp) (row-facts r k .stamp) in
@@ -76,13 +76,13 @@ module _ (T : Table) (t : Regular T) where
 
 -- ---- what messages do to a row keeps its rule
 
-with-prepare : (p : Prepare) (r : Row) → 0 < prepareCode p → retryByRule p ≡ true → rowByRule r ≡ true → rowByRule (withPrepare p r) ≡ true
+pub with-prepare : (p : Prepare) (r : Row) → 0 < prepareCode p → retryByRule p ≡ true → rowByRule r ≡ true → rowByRule (withPrepare p r) ≡ true
 unfolding somethingHeld
 with-prepare p r l k h =
     let f = row-facts r h in
     row-by (record { stamp = f .stamp; counts = f .counts; held = lt-ltb 0 (prepareCode p + outcomeCode (r .outcome)) (omega arith); retry = k; contents = f .contents })
 
-with-outcome : (o : Outcome) (r : Row) → 0 < outcomeCode o → rowByRule r ≡ true → rowByRule (withOutcome o r) ≡ true
+pub with-outcome : (o : Outcome) (r : Row) → 0 < outcomeCode o → rowByRule r ≡ true → rowByRule (withOutcome o r) ≡ true
 unfolding somethingHeld
 with-outcome o r l h =
     let f = row-facts r h in
