@@ -11,7 +11,7 @@
  * - Two buffers lent to one call do not overlap.
  * - Nobody else touches a lent buffer during a call: one call at a time for each buffer. Calls on other buffers may run
  *   at the same time.
- * - Whoever links supplies memset and memcpy, with C's meaning. Nothing else is needed.
+ * - Whoever links supplies memset, memcpy and memmove, with C's meaning. Nothing else is needed.
  *
  * Where one of them does not hold, nothing is promised.
  */

@@ -18,7 +18,7 @@ use Rattle.rows.specs.Places.{placeOf}
 use Rattle.table.specs.Images.{Form}
 use Rattle.table.specs.Parse.{tableAt, parse}
 use Rattle.table.proofs.Images.{Sound, parse-by-rule}
-use Rattle.edit.specs.Changes.{withViews, promised, onRow, adding, taking}
+use Rattle.edit.specs.Changes.{withViews, withPromise, onRow, adding, taking}
 use Rattle.edit.specs.Edited.{edited}
 use Rattle.edit.proofs.EditedBuffers.{edited-parses, parse-holds}
 use Rattle.edit.proofs.Indexes.{changed-at}
@@ -49,8 +49,8 @@ module _ (F : Form) (M : Model) (s : List ℕ) (T : Table) (sound : Sound F M) (
   views-parse mode view promised v p m = changed-parses (withViews mode view promised) (views-by-rule mode view promised v p m)
 
   -- a view above the box's own
-  pub promise-parses : (v : ℕ) → isView v ≡ true → T .view < v → parse F M (edited F (promised v) s) ≡ some (promising T v)
-  promise-parses v p l = changed-parses (promised v) (views-by-rule changingMode (T .view) v (regular .view) p (changing-views (T .view) v l))
+  pub promise-parses : (v : ℕ) → isView v ≡ true → T .view < v → parse F M (edited F (withPromise v) s) ≡ some (promising T v)
+  promise-parses v p l = changed-parses (withPromise v) (views-by-rule changingMode (T .view) v (regular .view) p (changing-views (T .view) v l))
 
   -- a row's state, at the index of its stamp
   state-parses : (stamp i : ℕ) (change : Row → Row) → placeOf (T .rows) stamp ≡ Held i → ((r : Row) → change r .stamp ≡ r .stamp) → ((r : Row) → rowByRule r ≡ true → rowByRule (change r) ≡ true) → parse F M (edited F (onRow i change) s) ≡ some (withRows T (changed stamp change (T .rows)))

@@ -19,7 +19,7 @@ use Rattle.table.specs.Headers.{headerBytes, headerAt}
 use Rattle.table.specs.Images.{Form, bodiesAt, imageLength, headerOf, image}
 use Rattle.table.specs.Parse.{tableAt}
 use Rattle.table.proofs.Images.{length-image, image-behind}
-use Rattle.edit.specs.Changes.{withViews, promised, atIndex, onRow}
+use Rattle.edit.specs.Changes.{withViews, withPromise, atIndex, onRow}
 use Rattle.edit.specs.Edited.{Holds, edited}
 use Rattle.edit.proofs.Holding.{Starts, held-is, held-stands, held-rows}
 use Rattle.edit.proofs.EditedBuffers.{edited-grown, image-over}
@@ -45,7 +45,7 @@ header-edited F change s starts h e =
     rw (← held-is F s h) at (k ∙ sym (image-over F T U rest n)) ∙ sym (edited-grown F change s (omega arith))
 
 -- a view promised is the views set so, with the view that is read
-pub promise-edited : (F : Form) (s : List ℕ) (v : ℕ) → edited F (withViews 1 (headerAt s .view) v) s ≡ edited F (promised v) s
+pub promise-edited : (F : Form) (s : List ℕ) (v : ℕ) → edited F (withViews 1 (headerAt s .view) v) s ≡ edited F (withPromise v) s
 unfolding edited tableAt
 promise-edited F s v = refl
 

@@ -11,8 +11,8 @@ abbrev pub withViews : ℕ → ℕ → ℕ → Table → Table
 withViews mode view promised T = record { box = T .box; n = T .n; mode = mode; view = view; promised = promised; start = T .start; rows = T .rows }
 
 -- "Promised = v, mode 1."
-abbrev pub promised : ℕ → Table → Table
-promised v T = promising T v
+abbrev pub withPromise : ℕ → Table → Table
+withPromise v T = promising T v
 
 -- ---- rows
 

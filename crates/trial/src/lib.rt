@@ -15,7 +15,7 @@ ghost use Rattle.rows.specs.declared.lookup.Place.the-variants.{Absent};
 ghost use Rattle.table.specs.Headers.{headerAt};
 ghost use Rattle.table.specs.Images.{formatOne};
 ghost use Rattle.table.specs.Parse.{tableAt};
-ghost use Rattle.edit.specs.Changes.{withViews, promised, onRow, adding, taking};
+ghost use Rattle.edit.specs.Changes.{withViews, withPromise, onRow, adding, taking};
 ghost use Rattle.edit.specs.Edited.{Holds, edited};
 
 #[no_mangle]
@@ -29,7 +29,7 @@ pub extern "C" fn trial_set_views(table: &mut [u8], mode: u8, view: u32, promise
 #[no_mangle]
 pub extern "C" fn trial_promise(table: &mut [u8], view: u32)
     requires { ⌜ Holds formatOne (now table) ⌝ }
-    ensures { λ _. ⌜ now (table .exit) ≡ edited formatOne (promised view) (now (table .entry)) ⌝ }
+    ensures { λ _. ⌜ now (table .exit) ≡ edited formatOne (withPromise view) (now (table .entry)) ⌝ }
 {
     edit::views::promise(table, view)
 }
