@@ -31,16 +31,25 @@ fn body_place(image: &[u8], begin: usize, rows: usize, index: usize, end: usize)
     end
 }
 
-// Puts a row in at `at` and a body in at `middle`, from the end down, so that each part that moves goes to where nothing is needed any more.
-// Rows from the place on and the bodies up to the new one stand side by side, and move as one part.
-fn slip_in(image: &mut [u8], at: usize, middle: usize, end: usize, row: RowFields, body: &[u8])
-    requires { ⌜ (at ≤ middle) × (middle ≤ end) × (end + 24 + length (now body) ≤ length (now image)) ⌝ }
-    ensures { λ _. ⌜ now (image .exit) ≡ slipped (now (image .entry)) at middle end (fieldsBytes row) (now (body .entry)) ⌝ }
+// Puts a row in at an index and a body in at `middle`, from the end down, so that each part that moves goes to where nothing is needed any more.
+// Rows from the index on and the bodies up to the new one stand side by side, and move as one part.
+fn slip_in(
+    image: &mut [u8],
+    begin: usize,
+    index: usize,
+    middle: usize,
+    end: usize,
+    row: RowFields,
+    body: &[u8],
+)
+    requires { ⌜ (begin + 24 * index ≤ middle) × (middle ≤ end) × (end + 24 + length (now body) ≤ length (now image)) ⌝ }
+    ensures { λ _. ⌜ now (image .exit) ≡ slipped (now (image .entry)) (begin + 24 * index) middle end (fieldsBytes row) (now (body .entry)) ⌝ }
 {
+    let at = begin + 24 * index;
     wire::move_part(image, middle, middle + 24 + body.len(), end - middle);
     wire::copy_part(body, image, middle + 24);
     wire::move_part(image, at, at + 24, middle - at);
-    state::write_row(image, at, row);
+    state::write_row(image, begin, index, row);
 }
 
 // Lays the offsets of all rows anew, by their counts: the first body right behind the rows, each other behind the one before.
@@ -72,7 +81,7 @@ fn place_row(
     ensures { λ _. ⌜ now (image .exit) ≡ placed (now (image .entry)) begin rows end index (fieldsBytes row) (now (body .entry)) ⌝ }
 {
     let middle = body_place(image, begin, rows, index, end);
-    slip_in(image, begin + 24 * index, middle, end, row, body);
+    slip_in(image, begin, index, middle, end, row, body);
     lay_offsets(image, begin, rows + 1);
 }
 

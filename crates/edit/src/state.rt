@@ -36,11 +36,12 @@ fn write_single_bytes(image: &mut [u8], at: usize, row: RowFields)
     wire::put_u8(image, at + 23, row.outcome);
 }
 
-// Writes a row at its place. Whoever writes a row writes it here.
-pub fn write_row(image: &mut [u8], at: usize, row: RowFields)
-    requires { ⌜ at + 24 ≤ length (now image) ⌝ }
-    ensures { λ _. ⌜ now (image .exit) ≡ replaced (now (image .entry)) at (fieldsBytes row) ⌝ }
+// Writes the row at an index of an image whose rows begin there. Whoever writes a row writes it here.
+pub fn write_row(image: &mut [u8], begin: usize, index: usize, row: RowFields)
+    requires { ⌜ begin + 24 * index + 24 ≤ length (now image) ⌝ }
+    ensures { λ _. ⌜ now (image .exit) ≡ replaced (now (image .entry)) (begin + 24 * index) (fieldsBytes row) ⌝ }
 {
+    let at = begin + 24 * index;
     write_long_fields(image, at, row);
     write_single_bytes(image, at, row);
 }
@@ -53,7 +54,8 @@ pub fn set_prepare(table: &mut [u8], index: usize, prepare: u8, retry: u64)
     let held = row::row_at(table, header::LENGTH, index);
     write_row(
         table,
-        header::LENGTH + 24 * index,
+        header::LENGTH,
+        index,
         held.with_prepare(prepare, retry),
     );
 }
@@ -64,9 +66,5 @@ pub fn set_outcome(table: &mut [u8], index: usize, outcome: u8)
     ensures { λ _. ⌜ now (table .exit) ≡ edited formatOne (onRow index (withOutcome (outcomeNumbered outcome))) (now (table .entry)) ⌝ }
 {
     let held = row::row_at(table, header::LENGTH, index);
-    write_row(
-        table,
-        header::LENGTH + 24 * index,
-        held.with_outcome(outcome),
-    );
+    write_row(table, header::LENGTH, index, held.with_outcome(outcome));
 }

@@ -7,9 +7,9 @@ use native.Mathlib.Omega.{arith}
 use lib.ListN.{length, length-append}
 use borrow.Author.Tests.{ltb-true, leb-true}
 use Rattle.wire.specs.Numbers.{bytes, AllBytes}
-use Rattle.wire.proofs.Numbers.{length-bytes, bytes-fit, all-joined}
+use Rattle.wire.proofs.Numbers.{length-bytes, bytes-fit}
 use Rattle.wire.proofs.Stands.{Stands}
-use Rattle.wire.proofs.Fields.{field-read, field-stands, last-read, last-stands, stands-bytes}
+use Rattle.wire.proofs.Fields.{field-read, field-stands, last-read, last-stands, stands-bytes, field-fits}
 use Rattle.rules.specs.Stamps.{isStamp, countsByRule}
 use Rattle.rules.specs.Tables.{Result, Result.OK, Result.ABORT, Result.ABSTAIN, Result.RETRY, Prepare, Prepare.noPrepare, Prepare.tentative, Prepare.final, resultRetry, prepareCode, prepareRetry, outcomeCode, resultByRule, retryByRule, Row, rowByRule}
 use Rattle.rules.proofs.Logic.{both-left, both-right}
@@ -51,21 +51,13 @@ fields-read s at f k h =
 pub fields-told : (f : RowFields) → AllBytes (fieldsBytes f) → FieldsFit f
 unfolding fieldsBytes
 fields-told f h =
-    let a = all-joined (bytes 8 (f .stamp)) _ h in
-    let b = all-joined (bytes 8 (f .retry)) _ (a .1) in
-    let c = all-joined (bytes 4 (f .offset)) _ (b .1) in
-    let d = all-joined (bytes 1 (f .reads)) _ (c .1) in
-    let e = all-joined (bytes 1 (f .writes)) _ (d .1) in
-    let p = all-joined (bytes 1 (f .prepare)) _ (e .1) in
-    record {
-      stamp = bytes-fit 8 (f .stamp) (omega arith) (a .0);
-      retry = bytes-fit 8 (f .retry) (omega arith) (b .0);
-      offset = bytes-fit 4 (f .offset) (omega arith) (c .0);
-      reads = bytes-fit 1 (f .reads) (omega arith) (d .0);
-      writes = bytes-fit 1 (f .writes) (omega arith) (e .0);
-      prepare = bytes-fit 1 (f .prepare) (omega arith) (p .0);
-      outcome = bytes-fit 1 (f .outcome) (omega arith) (p .1);
-    }
+    let a = field-fits 8 (f .stamp) _ (omega arith) h in
+    let b = field-fits 8 (f .retry) _ (omega arith) (a .1) in
+    let c = field-fits 4 (f .offset) _ (omega arith) (b .1) in
+    let d = field-fits 1 (f .reads) _ (omega arith) (c .1) in
+    let e = field-fits 1 (f .writes) _ (omega arith) (d .1) in
+    let p = field-fits 1 (f .prepare) _ (omega arith) (e .1) in
+    record { stamp = a .0; retry = b .0; offset = c .0; reads = d .0; writes = e .0; prepare = p .0; outcome = bytes-fit 1 (f .outcome) (omega arith) (p .1) }
 
 -- so fields that stand among bytes fit and are read, whatever they say
 pub fields-among : (s : List ℕ) (at : ℕ) (f : RowFields) → AllBytes s → Stands s at (fieldsBytes f) → FieldsFit f × (fieldsAt s at ≡ f)

@@ -12,7 +12,7 @@ use Rattle.wire.specs.Numbers.{bytes, AllBytes}
 use Rattle.wire.proofs.Parts.{replaced-joined}
 use Rattle.wire.proofs.Numbers.{length-bytes, bytes-fit, all-joined}
 use Rattle.wire.proofs.Stands.{Stands, stands-left, stands-right, stands-joined}
-use Rattle.wire.proofs.Fields.{field-read, field-stands, last-read, last-stands, stands-bytes}
+use Rattle.wire.proofs.Fields.{field-read, field-stands, last-read, last-stands, stands-bytes, field-fits}
 use Rattle.rules.proofs.Logic.{both-left, both-right}
 use Rattle.table.specs.declared.header.Header.{Header}
 use Rattle.table.specs.Headers.{singleBytes, fourByteFields, headerBytes, headerAt, sizesByRule, headerByRuleAt}
@@ -61,22 +61,22 @@ header-told : (h : Header) → AllBytes (headerBytes h) → HeaderFits h
 unfolding headerBytes singleBytes fourByteFields
 header-told h x =
     let (y, z) = all-joined (singleBytes h) (fourByteFields h) x in
-    let a = all-joined (bytes 1 (h .format)) _ y in
-    let b = all-joined (bytes 1 (h .boxnumber)) _ (a .1) in
-    let c = all-joined (bytes 1 (h .n)) _ (b .1) in
-    let r = all-joined (bytes 4 (h .rows)) _ z in
-    let v = all-joined (bytes 4 (h .view)) _ (r .1) in
-    let p = all-joined (bytes 4 (h .promised)) _ (v .1) in
-    let t = all-joined (bytes 4 (h .start)) _ (p .1) in
+    let a = field-fits 1 (h .format) _ (omega arith) y in
+    let b = field-fits 1 (h .boxnumber) _ (omega arith) (a .1) in
+    let c = field-fits 1 (h .n) _ (omega arith) (b .1) in
+    let r = field-fits 4 (h .rows) _ (omega arith) z in
+    let v = field-fits 4 (h .view) _ (omega arith) (r .1) in
+    let p = field-fits 4 (h .promised) _ (omega arith) (v .1) in
+    let t = field-fits 4 (h .start) _ (omega arith) (p .1) in
     record {
-      format = bytes-fit 1 (h .format) (omega arith) (a .0);
-      boxnumber = bytes-fit 1 (h .boxnumber) (omega arith) (b .0);
-      n = bytes-fit 1 (h .n) (omega arith) (c .0);
+      format = a .0;
+      boxnumber = b .0;
+      n = c .0;
       mode = bytes-fit 1 (h .mode) (omega arith) (c .1);
-      rows = bytes-fit 4 (h .rows) (omega arith) (r .0);
-      view = bytes-fit 4 (h .view) (omega arith) (v .0);
-      promised = bytes-fit 4 (h .promised) (omega arith) (p .0);
-      start = bytes-fit 4 (h .start) (omega arith) (t .0);
+      rows = r .0;
+      view = v .0;
+      promised = p .0;
+      start = t .0;
       length = bytes-fit 4 (h .length) (omega arith) (t .1);
     }
 

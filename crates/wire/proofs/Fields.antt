@@ -7,7 +7,7 @@ use lib.ListN.{length}
 use Rattle.wire.specs.Parts.{part}
 use Rattle.wire.specs.Numbers.{number, bytes, numberAt, AllBytes}
 use Rattle.wire.proofs.Parts.{length-part}
-use Rattle.wire.proofs.Numbers.{length-bytes, number-bytes, bytes-number, all-part}
+use Rattle.wire.proofs.Numbers.{length-bytes, number-bytes, bytes-number, bytes-fit, all-part, all-joined}
 use Rattle.wire.proofs.Stands.{Stands, stands-left, stands-right, stands-joined}
 
 -- the field that stands there is read, and the rest stands behind it
@@ -40,3 +40,7 @@ last-stands width s at a l =
 pub stands-bytes : (s : List ℕ) (at : ℕ) (ws : List ℕ) → AllBytes s → Stands s at ws → AllBytes ws
 unfolding Stands
 stands-bytes s at ws a h = rw h at (all-part s at (length ws) a)
+
+-- a field among bytes fits its width, and the rest is bytes
+pub field-fits : (width x : ℕ) (ws : List ℕ) → 0 < width → AllBytes (bytes width x ++ ws) → (x < 256 ^ width) × AllBytes ws
+field-fits width x ws p h = let (first, others) = all-joined (bytes width x) ws h in (bytes-fit width x p first, others)

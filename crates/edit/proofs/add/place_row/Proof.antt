@@ -7,12 +7,6 @@ use Rattle.edit.proofs.add.place_row.Tie as tie
 body-place-requires : tie.Need-body-place-requires
 body-place-requires c κs = search needs
 
-mul-slip-in : tie.Need-mul-slip-in
-mul-slip-in c = search needs
-
-add-slip-in : tie.Need-add-slip-in
-add-slip-in c = search needs
-
 slip-in-requires : tie.Need-slip-in-requires
 slip-in-requires c κs = search needs
 
@@ -34,8 +28,6 @@ place-row-spec =
     tie.close
     (tie.spec
     body-place-requires
-    mul-slip-in
-    add-slip-in
     slip-in-requires
     add-lay-offsets
     lay-offsets-requires

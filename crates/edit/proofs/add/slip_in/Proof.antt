@@ -1,4 +1,5 @@
 -- Four writes, each right before the last one, are one.
+use Prim.Native.Nat.{_+_, _*_}
 use borrow.Author.Needs.{needs}
 use denote.Ref.{now}
 use Rattle.rows.specs.Fields.{fieldsBytes}
@@ -6,6 +7,12 @@ use Rattle.rows.proofs.FieldsRead.{length-fields}
 use Rattle.edit.proofs.Slipped.{slipped-steps}
 use Rattle.edit.proofs.add.slip_in.Statement.{statement}
 use Rattle.edit.proofs.add.slip_in.Tie as tie
+
+mul-at : tie.Need-mul-at
+mul-at c = search needs
+
+add-at : tie.Need-add-at
+add-at c = search needs
 
 add-move-part : tie.Need-add-move-part
 add-move-part c = search needs
@@ -43,14 +50,17 @@ same-length c = search needs
 returns : tie.Need-returns
 returns c =
     let p = c .before .before .before .before .before .before .before .before .before .before .before .before .before .before .before .before .before .before in
+    let a = p .args in
     let q = p .pre in
     rw (c .before .before .write-row .ensures, c .before .before .before .before .before .before .move-part2 .ensures, c .before .before .before .before .before .before .before .before .before .before .copy-part .ensures, c .before .before .before .before .before .before .before .before .before .before .before .before .before .before .move-part .ensures)
-    (slipped-steps (now (p .args .image)) (p .args .at) (p .args .middle) (p .args .end) (fieldsBytes (p .args .row)) (now (p .args .body)) (length-fields (p .args .row)) (q .0) (q .1) (q .2))
+    (slipped-steps (now (a .image)) (a .begin + 24 * a .index) (a .middle) (a .end) (fieldsBytes (a .row)) (now (a .body)) (length-fields (a .row)) (q .0) (q .1) (q .2))
 
 pub slip-in-spec : {M : Type 1} → statement M
 slip-in-spec =
     tie.close
     (tie.spec
+    mul-at
+    add-at
     add-move-part
     add-move-part-2
     sub-move-part

@@ -18,12 +18,6 @@ inside p = let q = p .pre in held-row-inside formatOne (now (p .args .table)) (p
 row-at-requires : tie.Need-row-at-requires
 row-at-requires c κs = inside (c .before .before)
 
-mul-write-row : tie.Need-mul-write-row
-mul-write-row c = let l = inside (c .before .before .before .before) in omega arith
-
-add-write-row : tie.Need-add-write-row
-add-write-row c = let l = inside (c .before .before .before .before) in omega arith
-
 with-outcome-requires : tie.Need-with-outcome-requires
 with-outcome-requires c κs = search needs
 
@@ -45,11 +39,4 @@ returns c =
 pub set-outcome-spec : {M : Type 1} → statement M
 set-outcome-spec =
     tie.close
-    (tie.spec
-    row-at-requires
-    mul-write-row
-    add-write-row
-    with-outcome-requires
-    write-row-requires
-    same-length
-    returns)
+    (tie.spec row-at-requires with-outcome-requires write-row-requires same-length returns)
