@@ -5,7 +5,7 @@ ghost use Rattle.table.specs.Images.{formatOne};
 ghost use Rattle.edit.specs.Changes.{withViews, withPromise};
 ghost use Rattle.edit.specs.Edited.{Holds, edited};
 
-// That promised and view fit the mode is for the caller to see to.
+// Sets mode, view and promise at once. That promised and view fit the mode is for the caller to see to.
 pub fn set_views(table: &mut [u8], mode: u8, view: u32, promised: u32)
     requires { ⌜ Holds formatOne (now table) ⌝ }
     ensures { λ _. ⌜ now (table .exit) ≡ edited formatOne (withViews mode view promised) (now (table .entry)) ⌝ }
