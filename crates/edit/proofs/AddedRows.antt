@@ -16,9 +16,8 @@ use Rattle.rows.proofs.RowsRead.{length-rows, length-bodies}
 use Rattle.table.specs.Headers.{headerBytes}
 use Rattle.table.specs.Images.{Form, bodiesAt, headerOf, image}
 use Rattle.table.proofs.Headers.{length-header}
-use Rattle.table.proofs.Images.{length-image}
+use Rattle.table.proofs.Images.{Starts, length-image}
 use Rattle.edit.specs.Parts.{slipped, laid}
-use Rattle.edit.proofs.Holding.{Starts}
 use Rattle.edit.proofs.RowsJoined.{rows-joined, bodies-joined, bodies-length-joined}
 use Rattle.edit.proofs.ChangedParts.{up-to-rows}
 use Rattle.edit.proofs.Slipped.{slipped-between}

@@ -28,11 +28,11 @@ use Rattle.table.specs.declared.header.Header.{Header}
 use Rattle.table.specs.Headers.{headerBytes, headerAt}
 use Rattle.table.specs.Images.{Form, bodiesAt, imageLength, headerOf, image}
 use Rattle.table.specs.Parse.{tableAt}
-use Rattle.table.proofs.Images.{image-behind}
+use Rattle.table.proofs.Images.{Starts, image-behind}
 use Rattle.edit.specs.Changes.{adding}
 use Rattle.edit.specs.Edited.{Holds, edited}
 use Rattle.edit.specs.Parts.{bodyPlace, placed}
-use Rattle.edit.proofs.Holding.{Starts, held-is, held-stands, held-header, held-rows}
+use Rattle.edit.proofs.Holding.{held-is, held-stands, held-header, held-rows}
 use Rattle.edit.proofs.EditedBuffers.{edited-grown}
 use Rattle.edit.proofs.RowsJoined.{bodies-length-joined}
 use Rattle.edit.proofs.Indexes.{Between, between}

@@ -15,7 +15,7 @@ use Rattle.table.specs.declared.header.Header.{Header}
 use Rattle.table.specs.Headers.{headerBytes}
 use Rattle.table.specs.Images.{Form, bodiesAt, imageLength, headerOf, image}
 use Rattle.table.proofs.Headers.{length-header}
-use Rattle.edit.proofs.Holding.{Starts}
+use Rattle.table.proofs.Images.{Starts}
 use Rattle.edit.proofs.RowsJoined.{rows-joined, bodies-joined, bodies-length-joined}
 
 -- another header over the same rows

@@ -14,9 +14,9 @@ use Rattle.rules.proofs.Logic.{both-right}
 use Rattle.rules.proofs.Lists.{provided-some}
 use Rattle.table.specs.Images.{Form, imageLength, image}
 use Rattle.table.specs.Parse.{tableAt, parse}
-use Rattle.table.proofs.Images.{Sound, length-image, image-parses}
+use Rattle.table.proofs.Images.{Starts, Sound, length-image, image-parses}
 use Rattle.edit.specs.Edited.{Holds, edited}
-use Rattle.edit.proofs.Holding.{Starts, held-is, held-long}
+use Rattle.edit.proofs.Holding.{held-is, held-long}
 
 -- ---- for the proofs of the changes
 

@@ -18,10 +18,10 @@ use Rattle.rows.proofs.RowsRead.{length-rows}
 use Rattle.table.specs.Headers.{headerBytes, headerAt}
 use Rattle.table.specs.Images.{Form, bodiesAt, imageLength, headerOf, image}
 use Rattle.table.specs.Parse.{tableAt}
-use Rattle.table.proofs.Images.{length-image, image-behind}
+use Rattle.table.proofs.Images.{Starts, length-image, image-behind}
 use Rattle.edit.specs.Changes.{withViews, withPromise, atIndex, onRow}
 use Rattle.edit.specs.Edited.{Holds, edited}
-use Rattle.edit.proofs.Holding.{Starts, held-is, held-stands, held-rows}
+use Rattle.edit.proofs.Holding.{held-is, held-stands, held-rows}
 use Rattle.edit.proofs.EditedBuffers.{edited-grown, image-over}
 use Rattle.edit.proofs.RowsJoined.{rows-joined}
 use Rattle.edit.proofs.ChangedParts.{header-replaced, inState, row-same-length, row-replaced}

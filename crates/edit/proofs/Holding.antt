@@ -6,19 +6,14 @@ use native.Mathlib.Omega.{arith}
 use lib.ListN.{length, drop}
 use Rattle.wire.specs.Numbers.{AllBytes}
 use Rattle.wire.proofs.Stands.{Stands, stands-inside, stands-left}
-use Rattle.rules.specs.Tables.{Row}
 use Rattle.rows.proofs.RowsRead.{length-rowsAt}
 use Rattle.rows.proofs.Begins.{begins-is, begins-stands}
 use Rattle.table.specs.Headers.{headerAt}
 use Rattle.table.specs.Images.{Form, formatOne, imageLength, headerOf, image}
 use Rattle.table.specs.Parse.{tableAt}
 use Rattle.table.proofs.Headers.{header-among}
-use Rattle.table.proofs.Images.{length-image}
+use Rattle.table.proofs.Images.{Starts, length-image}
 use Rattle.edit.specs.Edited.{Holds}
-
--- what stands before the rows reaches to where they begin
-abbrev pub Starts : Form → Type 0
-Starts F = (rows : List Row) → 24 + length (F .stored rows) ≡ F .begin
 
 pub held-is : (F : Form) (s : List ℕ) → Holds F s → s ≡ image F (tableAt F s) ++ drop (length (image F (tableAt F s))) s
 held-is F s h = begins-is s (image F (tableAt F s)) h

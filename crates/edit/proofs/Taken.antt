@@ -14,10 +14,10 @@ use Rattle.rules.specs.Messages.{keepingBox}
 use Rattle.table.specs.Headers.{headerBytes, headerAt, withBox}
 use Rattle.table.specs.Images.{Form, imageLength, headerOf, image}
 use Rattle.table.specs.Parse.{tableAt}
-use Rattle.table.proofs.Images.{length-image}
+use Rattle.table.proofs.Images.{Starts, length-image}
 use Rattle.edit.specs.Changes.{taking}
 use Rattle.edit.specs.Edited.{Holds, edited}
-use Rattle.edit.proofs.Holding.{Starts, held-stands, held-header}
+use Rattle.edit.proofs.Holding.{held-stands, held-header}
 use Rattle.edit.proofs.ChangedParts.{header-replaced}
 
 -- the part that is taken

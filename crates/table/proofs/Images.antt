@@ -19,32 +19,35 @@ use Rattle.rules.proofs.Logic.{none-some, both-left, both-right, both-true, eit
 use Rattle.rules.proofs.Lists.{provided-some}
 use Rattle.rules.proofs.Groups.{group-of}
 use Rattle.rules.proofs.Tables.{row-facts, table-facts}
+use Rattle.rows.specs.Bytes.{bodiesBytes, bodiesLength, rowsBytes}
+use Rattle.rows.specs.Read.{rowsAt, begins}
+use Rattle.rows.specs.Rows.{RowsInside}
+use Rattle.rows.proofs.RowsRead.{length-rows, length-bodies, RowsStand, rows-complete, bodies-inside}
+use Rattle.rows.proofs.Begins.{begins-stands, begins-is, begins-with}
 use Rattle.table.specs.declared.header.Header.{Header}
 use Rattle.table.specs.Headers.{headerBytes, headerAt}
-use Rattle.rows.specs.Bytes.{bodiesBytes, bodiesLength, rowsBytes}
 use Rattle.table.specs.Images.{Form, formatOne, bodiesAt, imageLength, headerOf, image}
-use Rattle.rows.specs.Read.{rowsAt, begins}
 use Rattle.table.specs.Parse.{tableAt, parse}
-use Rattle.rows.specs.Rows.{RowsInside}
 use Rattle.table.proofs.Headers.{length-header, HeaderFits, header-read}
-use Rattle.rows.proofs.RowsRead.{length-rows, length-bodies, RowsStand, rows-complete, bodies-inside}
-use Rattle.rows.proofs.Begins.{begins-stands}
-use Rattle.rows.proofs.Begins.{begins-is, begins-with}
 
--- the header and what is stored behind it reach to the rows, and every number of an image has room in its field
+-- the header and what is stored behind it reach to the rows
+abbrev pub Starts : Form → Type 0
+Starts F = (rows : List Row) → 24 + length (F .stored rows) ≡ F .begin
+
+-- and every number of an image has room in its field
 pub record Sound (F : Form) (M : Model) : Type 0 where
-  pub starts : (rows : List Row) → 24 + length (F .stored rows) ≡ F .begin
+  pub starts : Starts F
   pub format : F .format < 256
   pub fits : F .begin + 96 * M .rowLimit < 256 ^ 4
 
 -- ---- lengths
 
-pub length-image : (F : Form) (T : Table) → ((rows : List Row) → 24 + length (F .stored rows) ≡ F .begin) → length (image F T) ≡ imageLength F T
+pub length-image : (F : Form) (T : Table) → Starts F → length (image F T) ≡ imageLength F T
 unfolding image
 length-image F T h = let e = h (T .rows) in simp (length-append, length-header, length-rows, length-bodies) (omega arith)
 
 -- a row has 24 bytes and at most 8 accesses of 9: no more than 96 in all
-bodies-at-most : (rows : List Row) → every rowByRule rows ≡ true → bodiesLength rows ≤ 72 * length rows
+pub bodies-at-most : (rows : List Row) → every rowByRule rows ≡ true → bodiesLength rows ≤ 72 * length rows
 unfolding every bodiesLength countsByRule
 bodies-at-most [] h = omega arith
 bodies-at-most (r ∷ rows) h =
@@ -126,7 +129,7 @@ pub record Parsed (F : Form) (s : List ℕ) (T : Table) : Type 0 where
   pub rise : rising 0 (T .rows) ≡ true
 
 -- rows and bodies stand from where rows begin
-pub image-behind : (F : Form) (s : List ℕ) (T : Table) → ((rows : List Row) → 24 + length (F .stored rows) ≡ F .begin) → Stands s 0 (image F T) → Stands s (F .begin) (rowsBytes (bodiesAt F (T .rows)) (T .rows) ++ bodiesBytes (T .rows))
+pub image-behind : (F : Form) (s : List ℕ) (T : Table) → Starts F → Stands s 0 (image F T) → Stands s (F .begin) (rowsBytes (bodiesAt F (T .rows)) (T .rows) ++ bodiesBytes (T .rows))
 unfolding image
 image-behind F s T starts w =
     let a = rw length-header at (stands-right s 0 (headerBytes (headerOf F T)) _ w) in
