@@ -18,8 +18,10 @@ const WELL: &str = "mkdir -p target/log\n\
 const BUILT: &str = "mkdir -p target/staticlib\n\
     echo archive > \"target/staticlib/lib$2.a\"\n";
 
-/// Passes if it finds the library where the gate says that it is.
-const LINKED: &str = "grep -q archive \"$SPRONDILU_LIB/libsprondilu.a\" || exit 101\n\
+/// Passes if it finds the libraries where the gate says that they are.
+const LINKED: &str = "for name in sprondilu trial; do\n\
+    grep -q archive \"$SPRONDILU_LIB/lib$name.a\" || exit 101\n\
+    done\n\
     echo 'test result: ok. 3 passed; 0 failed'\n";
 
 /// A copy of the gate with stand-ins for what it calls.
@@ -195,16 +197,23 @@ fn a_library_that_cannot_be_built_is_red() {
         gate.rt_with_library("exit 0", WELL, staticlib);
         gate.is_red_at("rt staticlib sprondilu");
     }
+    let all_but_trial = format!("[ \"$2\" != trial ] || exit 1\n{}", BUILT);
+    gate.rt_with_library("exit 0", WELL, &all_but_trial);
+    gate.is_red_at("rt staticlib trial");
 }
 
 #[test]
 fn a_library_that_was_not_written_or_is_another_is_red() {
-    let gate = Gate::new("no-library");
+    let all_but = |name| format!("[ \"$2\" != {} ] || exit 0\n{}", name, BUILT);
     for staticlib in [
-        "exit 0",
-        "mkdir -p target/staticlib\necho archive > target/staticlib/libwire.a",
+        "exit 0".to_string(),
+        "mkdir -p target/staticlib\necho archive > target/staticlib/libwire.a".to_string(),
+        all_but("trial"),
+        all_but("sprondilu"),
     ] {
-        gate.rt_with_library("exit 0", WELL, staticlib);
+        // What another run left would be found.
+        let gate = Gate::new("no-library");
+        gate.rt_with_library("exit 0", WELL, &staticlib);
         gate.is_red_at("cargo test");
     }
 }

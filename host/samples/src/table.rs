@@ -37,7 +37,7 @@ impl Row {
         ACCESS_LENGTH * (self.reads.len() + self.writes.len())
     }
 
-    fn body(&self) -> Vec<u8> {
+    pub fn body(&self) -> Vec<u8> {
         let mut bytes = Vec::with_capacity(self.body_length());
         for access in self.reads.iter().chain(&self.writes) {
             bytes.push(access.register);
@@ -47,7 +47,7 @@ impl Row {
     }
 
     /// "stamp 8, retry stamp 8, body offset 4, read count, write count, prepare byte, outcome byte"
-    fn head(&self, offset: usize) -> Vec<u8> {
+    pub fn head(&self, offset: usize) -> Vec<u8> {
         let mut bytes = Vec::with_capacity(ROW_LENGTH);
         bytes.extend(self.stamp.to_be_bytes());
         bytes.extend(self.retry.to_be_bytes());

@@ -36,6 +36,14 @@ impl Tally {
         all.map(|met| met.images + met.others).sum()
     }
 
+    /// That there were so many kinds, and at least so many samples of each.
+    pub fn assert_met(&self, kinds: usize, least: u64) {
+        assert_eq!(self.kinds(), kinds, "{:?}", self.met.keys());
+        for (kind, met) in &self.met {
+            assert!(met.images + met.others >= least, "{}: {:?}", kind, met);
+        }
+    }
+
     /// That every kind but those named had at least so many images, and so many that were none.
     pub fn assert_both_verdicts_met(&self, least: u64, but: &[&str]) {
         for (kind, met) in &self.met {

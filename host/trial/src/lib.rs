@@ -1,0 +1,106 @@
+//! The proved changes of a table in its lent buffer, one by one, as Rust links them from the library that `rt staticlib
+//! trial` writes. Box firmware links another, so this is for tests and measurements alone. Nothing checks these
+//! declarations against the library's source, so there is one for each function of `crates/trial` and nothing else.
+//!
+//! Each leaves the image of the changed table at the buffer's start, zeros where the image before was longer, and every
+//! other byte as it was. None tests what it asks of its caller, and with less than that it may write anywhere: that is
+//! why each is unsafe. All of them ask for a buffer that begins with an image. It need not be that of a table by the
+//! rules, but its offsets and lengths have to be as the paper lays them.
+
+mod library {
+    extern "C" {
+        pub fn trial_set_views(
+            table: *mut u8,
+            table_len: usize,
+            mode: u8,
+            view: u32,
+            promised: u32,
+        );
+        pub fn trial_promise(table: *mut u8, table_len: usize, view: u32);
+        pub fn trial_set_prepare(
+            table: *mut u8,
+            table_len: usize,
+            index: usize,
+            prepare: u8,
+            retry: u64,
+        );
+        pub fn trial_set_outcome(table: *mut u8, table_len: usize, index: usize, outcome: u8);
+        pub fn trial_add_row(
+            table: *mut u8,
+            table_len: usize,
+            index: usize,
+            row: *const u8,
+            row_len: usize,
+        );
+        pub fn trial_take_image(
+            table: *mut u8,
+            table_len: usize,
+            image: *const u8,
+            image_len: usize,
+        );
+    }
+}
+
+/// Gives the table another mode and other views, whether they fit each other or not.
+///
+/// # Safety
+///
+/// The buffer begins with an image.
+pub unsafe fn set_views(table: &mut [u8], mode: u8, view: u32, promised: u32) {
+    library::trial_set_views(table.as_mut_ptr(), table.len(), mode, view, promised)
+}
+
+/// "Promised = v, mode 1."
+///
+/// # Safety
+///
+/// The buffer begins with an image.
+pub unsafe fn promise(table: &mut [u8], view: u32) {
+    library::trial_promise(table.as_mut_ptr(), table.len(), view)
+}
+
+/// Stores a prepare byte and its retry stamp in the row at an index.
+///
+/// # Safety
+///
+/// The buffer begins with an image that has a row at the index; the byte is 8 at most, and the retry stamp "is a stamp
+/// for RETRY and 0 otherwise".
+pub unsafe fn set_prepare(table: &mut [u8], index: usize, prepare: u8, retry: u64) {
+    library::trial_set_prepare(table.as_mut_ptr(), table.len(), index, prepare, retry)
+}
+
+/// Stores an outcome byte in the row at an index.
+///
+/// # Safety
+///
+/// The buffer begins with an image that has a row at the index; the byte is 4 at most.
+pub unsafe fn set_outcome(table: &mut [u8], index: usize, outcome: u8) {
+    library::trial_set_outcome(table.as_mut_ptr(), table.len(), index, outcome)
+}
+
+/// Adds the row that lent bytes begin with, 24 bytes as they would stand in an image; its offset says where in the lent
+/// bytes its body lies.
+///
+/// # Safety
+///
+/// The buffer begins with an image whose stamps rise strictly and which has fewer than 65,536 rows, and it has room for
+/// the longer image, whose length fits in 4 bytes. The table does not hold the row's stamp, and as many of its stamps as
+/// the index says are lower. The row's fields are by the rules, and its body lies inside the lent bytes.
+pub unsafe fn add_row(table: &mut [u8], index: usize, row: &[u8]) {
+    library::trial_add_row(
+        table.as_mut_ptr(),
+        table.len(),
+        index,
+        row.as_ptr(),
+        row.len(),
+    )
+}
+
+/// "The box takes it whole, keeping its own box number": the image that lent bytes begin with.
+///
+/// # Safety
+///
+/// The buffer begins with an image, the lent bytes begin with one, and the buffer has room for that one.
+pub unsafe fn take_image(table: &mut [u8], image: &[u8]) {
+    library::trial_take_image(table.as_mut_ptr(), table.len(), image.as_ptr(), image.len())
+}
