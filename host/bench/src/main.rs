@@ -1,60 +1,95 @@
-//! Validity of an image, by the proved library and by its twin in plain safe Rust, side by side in one run. What counts
-//! are ratios: both sides are built for release and judge the same bytes on the same machine, in turns.
+//! The proved library and its twin in plain safe Rust, side by side in one run: validity of an image, and a row added to
+//! a table. What counts are ratios: both sides are built for release and work on the same bytes on the same machine, in
+//! turns.
 //!
-//! `bench` measures times and prints a table. `bench SIDE ROWS TIMES` only judges a table so many times, on one side, for
-//! a tool that counts its instructions; `tools/bench` does both.
+//! `bench` measures times and prints tables. `bench WORK SIDE ROWS TIMES`, as `bench insert library 511 50`, only does
+//! that work so many times, on one side, for a tool that counts its instructions; `tools/bench` does both.
 
-mod input;
+mod insert;
 mod times;
 mod twin;
+mod valid;
 
-use input::Input;
-use samples::MOST_ROWS;
+use insert::Inserting;
 use std::{env, process};
+use valid::Judging;
 
-/// A side of the comparison: its name, and its way to judge lent bytes.
+/// Work that both sides do on the same bytes.
+pub trait Work {
+    /// The word for it on the command line.
+    const NAME: &'static str;
+    /// The numbers of rows with which it is measured.
+    const SIZES: [usize; 3];
+    /// What is measured, for whoever reads the figures.
+    const ABOUT: &'static str;
+
+    /// The work on a table of so many rows.
+    fn of(rows: usize) -> Self;
+    /// How many bytes each side goes over.
+    fn bytes(&self) -> usize;
+    /// Gets ready what the work is done on so many times. No part of this is measured.
+    fn get_ready(&mut self, times: usize);
+    /// Has one side do it so many times, at most as many as all was got ready for.
+    fn done_by(&mut self, side: Side, times: usize);
+    /// That this side did what it should, every time that all was got ready for.
+    fn assert_done(&self, side: Side);
+}
+
+/// A side of the comparison: its name, its way to judge lent bytes, and its way to add a row to a table.
 #[derive(Clone, Copy)]
 pub struct Side {
     name: &'static str,
     valid_answer: fn(&[u8]) -> u64,
+    add_row: unsafe fn(&mut [u8], usize, &[u8]),
 }
 
 pub const LIBRARY: Side = Side {
     name: "library",
     valid_answer: boundary::valid_answer,
+    add_row: trial::add_row,
 };
 
 pub const TWIN: Side = Side {
     name: "twin",
-    valid_answer: twin::valid_answer,
+    valid_answer: twin::valid::valid_answer,
+    add_row: twin::insert::add_row,
 };
 
 fn main() {
     let words: Vec<String> = env::args().skip(1).collect();
     let words: Vec<&str> = words.iter().map(String::as_str).collect();
     match words[..] {
-        [] => times::print(),
-        [side, rows, times] => one_side(side, number(rows), number(times)),
-        _ => refuse("give no word, or a side, a number of rows and how often to judge"),
+        [] => {
+            times::print::<Judging>();
+            println!();
+            times::print::<Inserting>();
+        }
+        [Judging::NAME, side, rows, times] => one_side::<Judging>(side, rows, times),
+        [Inserting::NAME, side, rows, times] => one_side::<Inserting>(side, rows, times),
+        _ => refuse("give no word, or valid or insert, a side, a number of rows and how often"),
     }
 }
 
-/// Judges a table so many times and does nothing else that depends on how many.
-fn one_side(name: &str, rows: usize, times: usize) {
-    if !(1..=MOST_ROWS).contains(&rows) {
-        refuse("a table to be judged has 1 to 512 rows");
-    }
-    let side = [LIBRARY, TWIN].into_iter().find(|side| side.name == name);
-    match side {
-        Some(side) => Input::of(rows).judged(side, times),
+/// All is got ready for so many times, however often the work is then done.
+const MOST_TIMES: usize = 100;
+
+/// Does the work so many times and nothing else that depends on how many.
+fn one_side<W: Work>(name: &str, rows: &str, times: &str) {
+    let most_rows = W::SIZES[W::SIZES.len() - 1];
+    let rows = number(rows, 1, most_rows);
+    let times = number(times, 0, MOST_TIMES);
+    let mut work = W::of(rows);
+    work.get_ready(MOST_TIMES);
+    match [LIBRARY, TWIN].into_iter().find(|side| side.name == name) {
+        Some(side) => work.done_by(side, times),
         None => refuse("the side is library or twin"),
     }
 }
 
-fn number(word: &str) -> usize {
+fn number(word: &str, least: usize, most: usize) -> usize {
     match word.parse() {
-        Ok(number) => number,
-        Err(_) => refuse(&format!("{} is no number", word)),
+        Ok(number) if (least..=most).contains(&number) => number,
+        _ => refuse(&format!("{} is no number from {} to {}", word, least, most)),
     }
 }
 

@@ -1,61 +1,56 @@
 //! Times of both sides, taken in turns.
 
-use crate::input::Input;
-use crate::{Side, LIBRARY, TWIN};
+use crate::{Side, Work, LIBRARY, TWIN};
 use std::time::Instant;
 
-const SIZES: [usize; 3] = [64, 256, 512];
 const ROUNDS: usize = 101;
-/// So many rows are judged in one round of a side, whatever the size of the table.
-const ROWS_A_ROUND: usize = 64 * 512;
+/// So many rows are worked on in one round of a side, whatever the size of the table: few enough for a processor to keep
+/// all copies of the table at hand.
+const ROWS_A_ROUND: usize = 16 * 512;
 
-/// Nanoseconds for one judgement, in the middle of all rounds.
+/// Nanoseconds for the work once, in the middle of all rounds.
 struct Medians {
     rows: usize,
     library: f64,
     twin: f64,
 }
 
-pub fn print() {
-    println!("Validity of an image, 'sprondilu_valid' of the library against the same walk in safe Rust.");
-    println!("Input: a table by the rules whose rows have 4 reads and 4 writes each, lent whole; both sides judge the");
-    println!(
-        "same bytes, in turns. No buffer was cleared: the call writes nothing. {} rounds, medians.",
-        ROUNDS
-    );
+pub fn print<W: Work>() {
+    println!("{}", W::ABOUT);
+    println!("{} rounds, medians.", ROUNDS);
     println!();
-    println!("rows   bytes   library ns   twin ns   library / twin");
-    let medians: Vec<Medians> = SIZES.iter().map(|rows| measured(*rows)).collect();
+    println!("rows   bytes   library ns   twin ns   library / twin   library bytes / ns");
+    let medians = W::SIZES.map(measured::<W>);
     let least = &medians[0];
     let most = &medians[medians.len() - 1];
     println!();
     println!(
-        "From {} to {} rows, {} times as many: library {:.2} times as long, twin {:.2} times.",
+        "From {} to {} rows, {:.2} times as many: library {:.2} times as long, twin {:.2} times.",
         least.rows,
         most.rows,
-        most.rows / least.rows,
+        most.rows as f64 / least.rows as f64,
         most.library / least.library,
         most.twin / least.twin
     );
 }
 
-fn measured(rows: usize) -> Medians {
-    let mut input = Input::of(rows);
-    let times = ROWS_A_ROUND / rows;
+fn measured<W: Work>(rows: usize) -> Medians {
+    let mut work = W::of(rows);
     let mut library = Vec::with_capacity(ROUNDS);
     let mut twin = Vec::with_capacity(ROUNDS);
     for _ in 0..ROUNDS {
-        library.push(nanoseconds(&mut input, LIBRARY, times));
-        twin.push(nanoseconds(&mut input, TWIN, times));
+        library.push(nanoseconds(&mut work, LIBRARY, ROWS_A_ROUND / rows));
+        twin.push(nanoseconds(&mut work, TWIN, ROWS_A_ROUND / rows));
     }
     let (library, twin) = (median(library), median(twin));
     println!(
-        "{:4} {:7} {:12.0} {:9.0} {:16.2}",
+        "{:4} {:7} {:12.0} {:9.0} {:16.2} {:20.1}",
         rows,
-        input.length(),
+        work.bytes(),
         library,
         twin,
-        library / twin
+        library / twin,
+        work.bytes() as f64 / library
     );
     Medians {
         rows,
@@ -64,10 +59,13 @@ fn measured(rows: usize) -> Medians {
     }
 }
 
-fn nanoseconds(input: &mut Input, side: Side, times: usize) -> f64 {
+fn nanoseconds<W: Work>(work: &mut W, side: Side, times: usize) -> f64 {
+    work.get_ready(times);
     let begun = Instant::now();
-    input.judged(side, times);
-    begun.elapsed().as_nanos() as f64 / times as f64
+    work.done_by(side, times);
+    let passed = begun.elapsed();
+    work.assert_done(side);
+    passed.as_nanos() as f64 / times as f64
 }
 
 fn median(mut times: Vec<f64>) -> f64 {
