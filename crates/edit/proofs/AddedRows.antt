@@ -1,12 +1,12 @@
 -- From a row and a body put in, the offsets laid anew and the header written, to the image with the row in it.
-use mathlib.Core.Path.{_≡_, refl, sym, ap₂, _∙_}
-use mathlib.Core.List.{List, [], _∷_, _++_, append-assoc}
+use mathlib.Core.Path.{_≡_, sym, ap₂, _∙_}
+use mathlib.Core.List.{List, _∷_, _++_, append-assoc}
 use Prim.Native.Nat.{ℕ, _+_, _*_}
 use native.Mathlib.Omega.{arith}
 use lib.ListN.{length, drop, length-append}
 use lib.Seq.{drop-append-add}
 use Rattle.wire.specs.Parts.{replaced}
-use Rattle.wire.proofs.Parts.{replaced-start, replaced-between}
+use Rattle.wire.proofs.Parts.{replaced-start}
 use Rattle.rules.specs.Tables.{Row, Table}
 use Rattle.rules.specs.Messages.{withRows}
 use Rattle.rows.specs.Bytes.{bodyBytes, lengthOf, bodiesBytes, bodiesLength, rowBytes, rowsBytes}
@@ -14,19 +14,26 @@ use Rattle.rows.proofs.Bodies.{length-body}
 use Rattle.rows.proofs.FieldsRead.{length-row}
 use Rattle.rows.proofs.RowsRead.{length-rows, length-bodies}
 use Rattle.table.specs.Headers.{headerBytes}
-use Rattle.table.specs.Images.{Form, bodiesAt, headerOf, image}
+use Rattle.table.specs.Images.{Form, bodiesAt, imageLength, headerOf, image}
 use Rattle.table.proofs.Headers.{length-header}
 use Rattle.table.proofs.Images.{Starts, length-image}
 use Rattle.edit.specs.Parts.{slipped, laid}
 use Rattle.edit.proofs.RowsJoined.{rows-joined, bodies-joined, bodies-length-joined}
-use Rattle.edit.proofs.ChangedParts.{up-to-rows}
+use Rattle.edit.proofs.ChangedParts.{header-over, up-to-rows}
 use Rattle.edit.proofs.Slipped.{slipped-between}
 use Rattle.edit.proofs.LaidRows.{AnyOffsets.one-more, any-rows, any-joined, CountsFit, laid-rows}
 
-module _ (F : Form) (T : Table) (xs ys : List Row) (r : Row) (offset : ℕ) (rest : List ℕ) (starts : Starts F) (stored : F .stored (xs ++ (r ∷ ys)) ≡ F .stored (xs ++ ys)) (fit : CountsFit (xs ++ (r ∷ ys))) where
-  abbrev old : List Row
-  old = xs ++ ys
+-- a row more makes the image longer by its 24 bytes and its body
+pub image-longer : (F : Form) (T : Table) (xs ys : List Row) (r : Row) → imageLength F (withRows T (xs ++ (r ∷ ys))) ≡ imageLength F (withRows T (xs ++ ys)) + 24 + lengthOf (r .body)
+unfolding bodiesLength
+image-longer F T xs ys r =
+    let i = length-append xs ys in
+    let j = length-append xs (r ∷ ys) in
+    let k = bodies-length-joined xs ys in
+    let l = bodies-length-joined xs (r ∷ ys) in
+    omega arith
 
+module _ (F : Form) (T : Table) (xs ys : List Row) (r : Row) (offset : ℕ) (rest : List ℕ) (starts : Starts F) (stored : F .stored (xs ++ (r ∷ ys)) ≡ F .stored (xs ++ ys)) (fit : CountsFit (xs ++ (r ∷ ys))) where
   abbrev new : List Row
   new = xs ++ (r ∷ ys)
 
@@ -79,30 +86,22 @@ module _ (F : Form) (T : Table) (xs ys : List Row) (r : Row) (offset : ℕ) (res
 
   -- with the header written, it is the image
   headed : replaced (front ++ (rowsBytes (bodiesAt F new) new ++ (bodiesBytes new ++ behind))) 0 (headerBytes (headerOf F (withRows T new))) ≡ image F (withRows T new) ++ behind
-  unfolding image
   headed =
       let H : List ℕ = headerBytes (headerOf F (withRows T (xs ++ ys))) in
-      let N : List ℕ = headerBytes (headerOf F (withRows T new)) in
-      let S : List ℕ = F .stored (xs ++ ys) in
+      let S : List ℕ = F .stored new in
       let R : List ℕ = rowsBytes (bodiesAt F new) new in
       let B : List ℕ = bodiesBytes new in
-      let e : length H ≡ length N = length-header (headerOf F (withRows T (xs ++ ys))) ∙ sym (length-header (headerOf F (withRows T new))) in
-      let there : (H ++ S) ++ (R ++ (B ++ behind)) ≡ H ++ (S ++ (R ++ (B ++ behind))) = simp append-assoc in
-      let home : N ++ (S ++ (R ++ (B ++ behind))) ≡ (N ++ (S ++ (R ++ B))) ++ behind = simp append-assoc in
-      rw (stored, there) (replaced-between [] H (S ++ (R ++ (B ++ behind))) N 0 refl e ∙ home)
+      let there : (H ++ S) ++ (R ++ (B ++ behind)) ≡ (H ++ (S ++ (R ++ B))) ++ behind = simp append-assoc in
+      rw (← stored, there) (header-over F (headerOf F (withRows T (xs ++ ys))) (withRows T new) behind)
 
   -- and so is the image put over the old one
   over : replaced (image F (withRows T (xs ++ ys)) ++ rest) 0 (image F (withRows T new)) ≡ image F (withRows T new) ++ behind
-  unfolding bodiesLength
   over =
       let U : List ℕ = image F (withRows T (xs ++ ys)) in
       let W : List ℕ = image F (withRows T new) in
       let u = length-image F (withRows T (xs ++ ys)) starts in
       let v = length-image F (withRows T new) starts in
-      let i = length-append xs ys in
-      let j = length-append xs (r ∷ ys) in
-      let k = bodies-length-joined xs ys in
-      let l = bodies-length-joined xs (r ∷ ys) in
+      let l = image-longer F T xs ys r in
       let n : length W ≡ length U + (24 + lengthOf (r .body)) = omega arith in
       rw (replaced-start (U ++ rest) W, n, drop-append-add U rest (24 + lengthOf (r .body)))
 

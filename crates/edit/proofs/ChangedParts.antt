@@ -18,15 +18,18 @@ use Rattle.table.proofs.Headers.{length-header}
 use Rattle.table.proofs.Images.{Starts}
 use Rattle.edit.proofs.RowsJoined.{rows-joined, bodies-joined, bodies-length-joined}
 
--- another header over the same rows
+-- a table's header in the place of any other, over what stands behind a header in its image
+pub header-over : (F : Form) (h : Header) (T : Table) (rest : List ℕ) → replaced ((headerBytes h ++ (F .stored (T .rows) ++ (rowsBytes (bodiesAt F (T .rows)) (T .rows) ++ bodiesBytes (T .rows)))) ++ rest) 0 (headerBytes (headerOf F T)) ≡ image F T ++ rest
+unfolding image
+header-over F h T rest =
+    let new : List ℕ = headerBytes (headerOf F T) in
+    let behind : List ℕ = F .stored (T .rows) ++ (rowsBytes (bodiesAt F (T .rows)) (T .rows) ++ bodiesBytes (T .rows)) in
+    rw (append-assoc (headerBytes h) behind rest, append-assoc new behind rest) (replaced-between [] (headerBytes h) (behind ++ rest) new 0 refl (length-header h ∙ sym (length-header (headerOf F T))))
+
+-- so another header over the same rows
 pub header-replaced : (F : Form) (T U : Table) (rest : List ℕ) → replaced (image F T ++ rest) 0 (headerBytes (headerOf F (withRows U (T .rows)))) ≡ image F (withRows U (T .rows)) ++ rest
 unfolding image
-header-replaced F T U rest =
-    let old : List ℕ = headerBytes (headerOf F T) in
-    let new : List ℕ = headerBytes (headerOf F (withRows U (T .rows))) in
-    let behind : List ℕ = F .stored (T .rows) ++ (rowsBytes (bodiesAt F (T .rows)) (T .rows) ++ bodiesBytes (T .rows)) in
-    let e : length old ≡ length new = length-header (headerOf F T) ∙ sym (length-header (headerOf F (withRows U (T .rows)))) in
-    rw (append-assoc old behind rest, append-assoc new behind rest) (replaced-between [] old (behind ++ rest) new 0 refl e)
+header-replaced F T U rest = header-over F (headerOf F T) (withRows U (T .rows)) rest
 
 -- the lists of an image laid out, with one in the middle exchanged
 in-the-middle : (H S X R Q Y Z rest : List ℕ) (at : ℕ) → length (H ++ (S ++ X)) ≡ at → length R ≡ length Q → replaced ((H ++ (S ++ ((X ++ (R ++ Y)) ++ Z))) ++ rest) at Q ≡ (H ++ (S ++ ((X ++ (Q ++ Y)) ++ Z))) ++ rest

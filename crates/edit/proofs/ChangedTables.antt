@@ -6,26 +6,20 @@ use mathlib.Core.Option.{none, some}
 use Prim.Native.Nat.{ℕ, _<_, _≤_}
 use native.Mathlib.Omega.{arith}
 use lib.ListN.{length}
-use borrow.Author.Tests.{lt-ltb}
-use Rattle.rules.specs.Tests.{both, either}
-use Rattle.rules.specs.Tables.{Prepare, Outcome, Row, Table, Model, prepareCode, outcomeCode, retryByRule, rowByRule, isView, modeByRule, changingMode, tableByRule}
+use Rattle.rules.specs.Tables.{Prepare, Outcome, Row, Table, Model, prepareCode, outcomeCode, retryByRule, rowByRule, isView, modeByRule, tableByRule}
 use Rattle.rules.specs.Messages.{held, changed, withPrepare, withOutcome, withRows, promising, keepingBox}
-use Rattle.rules.proofs.Answers.{changed-rule, added-rule, with-prepare, with-outcome}
+use Rattle.rules.proofs.Answers.{changed-rule, added-rule, promising-rule, keeping-box-rule, with-prepare, with-outcome}
 use Rattle.rules.proofs.Rows.{length-changed, length-added}
 use Rattle.rules.proofs.Tables.{Regular, table-facts, table-by}
 use Rattle.rows.specs.declared.lookup.Place.the-variants.{Held}
 use Rattle.rows.specs.Places.{placeOf}
 use Rattle.table.specs.Images.{Form}
 use Rattle.table.specs.Parse.{tableAt, parse}
-use Rattle.table.proofs.Images.{Sound, parse-by-rule}
-use Rattle.edit.specs.Changes.{withViews, withPromise, onRow, adding, taking}
+use Rattle.table.proofs.Images.{Sound, parse-by-rule, parse-reads}
+use Rattle.edit.specs.Changes.{withViews, onRow, adding, taking}
 use Rattle.edit.specs.Edited.{edited}
-use Rattle.edit.proofs.EditedBuffers.{edited-parses, parse-holds}
+use Rattle.edit.proofs.EditedBuffers.{edited-parses}
 use Rattle.edit.proofs.Indexes.{changed-at}
-
-changing-views : (view v : ℕ) → view < v → modeByRule changingMode view v ≡ true
-unfolding modeByRule both either
-changing-views view v l = lt-ltb view v l
 
 module _ (F : Form) (M : Model) (s : List ℕ) (T : Table) (sound : Sound F M) (h : parse F M s ≡ some T) where
   regular : Regular T
@@ -36,7 +30,7 @@ module _ (F : Form) (M : Model) (s : List ℕ) (T : Table) (sound : Sound F M) (
 
   changed-parses : (change : Table → Table) → tableByRule M (change T) ≡ true → parse F M (edited F change s) ≡ some (change T)
   changed-parses change k =
-      let e : tableAt F s ≡ T = parse-holds F M s T h .0 in
+      let e : tableAt F s ≡ T = parse-reads F M s T h .0 in
       rw e at (edited-parses F M change s sound (rw e k))
 
   -- mode and views, as the header's rule asks
@@ -49,11 +43,11 @@ module _ (F : Form) (M : Model) (s : List ℕ) (T : Table) (sound : Sound F M) (
   views-parse mode view promised v p m = changed-parses (withViews mode view promised) (views-by-rule mode view promised v p m)
 
   -- a view above the box's own
-  pub promise-parses : (v : ℕ) → isView v ≡ true → T .view < v → parse F M (edited F (withPromise v) s) ≡ some (promising T v)
-  promise-parses v p l = changed-parses (withPromise v) (views-by-rule changingMode (T .view) v (regular .view) p (changing-views (T .view) v l))
+  pub promise-parses : (v : ℕ) → isView v ≡ true → T .view < v → parse F M (edited F (λ T. promising T v) s) ≡ some (promising T v)
+  promise-parses v p l = changed-parses (λ T. promising T v) (table-by M (promising-rule T regular v p l) few)
 
   -- a row's state, at the index of its stamp
-  state-parses : (stamp i : ℕ) (change : Row → Row) → placeOf (T .rows) stamp ≡ Held i → ((r : Row) → change r .stamp ≡ r .stamp) → ((r : Row) → rowByRule r ≡ true → rowByRule (change r) ≡ true) → parse F M (edited F (onRow i change) s) ≡ some (withRows T (changed stamp change (T .rows)))
+  pub state-parses : (stamp i : ℕ) (change : Row → Row) → placeOf (T .rows) stamp ≡ Held i → ((r : Row) → change r .stamp ≡ r .stamp) → ((r : Row) → rowByRule r ≡ true → rowByRule (change r) ≡ true) → parse F M (edited F (onRow i change) s) ≡ some (withRows T (changed stamp change (T .rows)))
   state-parses stamp i change place same keeps =
       let t = regular in
       let l = few in
@@ -75,8 +69,4 @@ module _ (F : Form) (M : Model) (s : List ℕ) (T : Table) (sound : Sound F M) (
 
   -- an image by the rules, of the same group
   pub taken-parses : (I : Table) → tableByRule M I ≡ true → I .n ≡ T .n → parse F M (edited F (taking I) s) ≡ some (keepingBox I (T .box))
-  taken-parses I k e =
-      let (i, l) = table-facts M I k in
-      let b = regular .box in
-      changed-parses (taking I)
-      (table-by M (record { group = i .group; box = rw e b; view = i .view; promised = i .promised; mode = i .mode; start = i .start; rise = i .rise; rows = i .rows }) l)
+  taken-parses I k e = let (i, l) = table-facts M I k in changed-parses (taking I) (table-by M (keeping-box-rule T regular I i e) l)

@@ -1,5 +1,5 @@
 -- A buffer whose table was changed: it holds the changed table, zeros where the old image was longer, and every byte behind both as it was.
-use mathlib.Core.Path.{_≡_, refl, sym}
+use mathlib.Core.Path.{_≡_, refl, sym, _∙_}
 use mathlib.Core.Bool.{true}
 use mathlib.Core.List.{List, [], _++_, append-nil, append-assoc}
 use mathlib.Core.Option.{some}
@@ -7,16 +7,17 @@ use Prim.Native.Nat.{ℕ, _+_, _-_, _≤_}
 use native.Mathlib.Omega.{arith}
 use lib.ListN.{length, drop, replicate, length-append, length-replicate}
 use Rattle.wire.specs.Parts.{part, replaced}
-use Rattle.wire.proofs.Parts.{replaced-start, replaced-between, length-replaced, above-stays}
+use Rattle.wire.specs.Numbers.{AllBytes}
+use Rattle.wire.proofs.Parts.{replaced-over, replaced-start, replaced-between, length-replaced, above-stays}
 use Rattle.wire.proofs.Stands.{Stands, stands-between}
 use Rattle.rules.specs.Tables.{Table, Model, tableByRule}
-use Rattle.rules.proofs.Logic.{both-right}
-use Rattle.rules.proofs.Lists.{provided-some}
+use Rattle.rows.specs.Read.{begins}
+use Rattle.rows.proofs.Begins.{begins-with, begins-stands}
 use Rattle.table.specs.Images.{Form, imageLength, image}
 use Rattle.table.specs.Parse.{tableAt, parse}
-use Rattle.table.proofs.Images.{Starts, Sound, length-image, image-parses}
+use Rattle.table.proofs.Images.{image-among, Starts, Sound, length-image, image-parses}
 use Rattle.edit.specs.Edited.{Holds, edited}
-use Rattle.edit.proofs.Holding.{held-is, held-long}
+use Rattle.edit.proofs.Holding.{holds-is, holds-long}
 
 -- ---- for the proofs of the changes
 
@@ -47,7 +48,7 @@ module _ (F : Form) (change : Table → Table) (s : List ℕ) (starts : Starts F
   length-written = rw (length-append, length-image F after starts, length-replicate)
 
   written-inside : 0 + length written ≤ length s
-  written-inside = let n = length-written in let l = held-long F s starts h in omega arith
+  written-inside = let n = length-written in let l = holds-long F s starts h in omega arith
 
   -- no byte is added
   pub edited-length : length (edited F change s) ≡ length s
@@ -59,13 +60,17 @@ module _ (F : Form) (change : Table → Table) (s : List ℕ) (starts : Starts F
   unfolding edited
   edited-past b l m = let n = length-written in above-stays s 0 written b (omega arith) written-inside
 
-  -- "if the image shrank, the bytes given up are zero"
-  pub edited-given-up : part (edited F change s) (imageLength F after) (imageLength F before - imageLength F after) ≡ replicate (imageLength F before - imageLength F after) 0
-  unfolding edited Stands
-  edited-given-up =
-      let zeros : List ℕ = replicate (imageLength F before - imageLength F after) 0 in
-      let b = stands-between (image F after) zeros (drop (length written) s) (imageLength F after) (length-image F after starts) in
-      rw (replaced-start s written, append-assoc) (rw length-replicate at b)
+-- "if the image shrank, the bytes given up are zero"
+pub edited-given-up : (F : Form) (change : Table → Table) (s : List ℕ) → Starts F →
+    let gone = imageLength F (tableAt F s) - imageLength F (change (tableAt F s)) in
+    part (edited F change s) (imageLength F (change (tableAt F s))) gone ≡ replicate gone 0
+unfolding edited Stands
+edited-given-up F change s starts =
+    let T : Table = tableAt F s in
+    let U : Table = change T in
+    let zeros : List ℕ = replicate (imageLength F T - imageLength F U) 0 in
+    let b = stands-between (image F U) zeros (drop (length (image F U ++ zeros)) s) (imageLength F U) (length-image F U starts) in
+    rw (replaced-start s (image F U ++ zeros), append-assoc) (rw length-replicate at b)
 
 -- the buffer parses to the changed table, if that is by the rules
 pub edited-parses : (F : Form) (M : Model) (change : Table → Table) (s : List ℕ) → Sound F M → tableByRule M (change (tableAt F s)) ≡ true → parse F M (edited F change s) ≡ some (change (tableAt F s))
@@ -79,9 +84,36 @@ unfolding edited
 edited-same F change s h e =
     let T = tableAt F s in
     let z : imageLength F T - imageLength F T ≡ 0 = omega arith in
-    rw (e, z, append-nil, replaced-start) (sym (held-is F s h))
+    rw (e, z, append-nil, replaced-start) (sym (holds-is F s h))
 
--- bytes that parse hold the table that they parse to
-pub parse-holds : (F : Form) (M : Model) (s : List ℕ) (T : Table) → parse F M s ≡ some T → (tableAt F s ≡ T) × Holds F s
-unfolding parse
-parse-holds F M s T h = let (t, e) = provided-some _ (tableAt F s) T h in (e, both-right _ _ t)
+-- only what a change makes of this table counts
+pub edited-as : (F : Form) (change other : Table → Table) (s : List ℕ) → change (tableAt F s) ≡ other (tableAt F s) → edited F change s ≡ edited F other s
+unfolding edited
+edited-as F change other s e = rw e
+
+-- ---- one change after another
+
+-- the buffer holds the changed table, by the rules or not
+pub edited-holds : (F : Form) (change : Table → Table) (s : List ℕ) → Starts F → AllBytes (edited F change s) → (tableAt F (edited F change s) ≡ change (tableAt F s)) × Holds F (edited F change s)
+unfolding edited
+edited-holds F change s starts a =
+    let U : Table = change (tableAt F s) in
+    let e = replaced-start s (image F U ++ replicate (imageLength F (tableAt F s) - imageLength F U) 0) in
+    let t : List ℕ = edited F change s in
+    let b : begins (edited F change s) (image F U) ≡ true = rw (e, append-assoc) (begins-with (image F U) _) in
+    let k = image-among F t U starts a (begins-stands t 0 (image F U) b) in
+    (k, rw k b)
+
+-- two that give nothing up are one
+pub edited-twice : (F : Form) (first second : Table → Table) (s : List ℕ) → Starts F → AllBytes (edited F first s) →
+    imageLength F (tableAt F s) ≤ imageLength F (first (tableAt F s)) → imageLength F (first (tableAt F s)) ≤ imageLength F (second (first (tableAt F s))) →
+    edited F second (edited F first s) ≡ edited F (λ T. second (first T)) s
+edited-twice F first second s starts a l m =
+    let T = tableAt F s in
+    let e = edited-holds F first s starts a .0 in
+    let f = edited-grown F first s l in
+    let g : imageLength F (tableAt F (edited F first s)) ≤ imageLength F (second (tableAt F (edited F first s))) = rw e m in
+    let u = length-image F (first T) starts in
+    let v = length-image F (second (first T)) starts in
+    let w = edited-grown F (λ T. second (first T)) s (omega arith) in
+    edited-grown F second (edited F first s) g ∙ rw (e, f, w) (replaced-over s (image F (first T)) (image F (second (first T))) (omega arith))

@@ -2,6 +2,7 @@
 use mathlib.Core.Path.{_≡_, refl, sym, ap, _∙_}
 use mathlib.Core.Bool.{true, false}
 use mathlib.Core.Logic.{_⊎_, inl, inr}
+use mathlib.Core.Option.{some}
 use mathlib.Core.List.{List, [], _∷_, _++_}
 use Prim.Native.Nat.{ℕ, zero, suc, _+_, _≤_, _<_}
 use native.Mathlib.Omega.{arith}
@@ -9,12 +10,13 @@ use lib.Dec.{eqb, ltb}
 use lib.ListN.{length}
 use borrow.Author.Tests.{ltb-true, eqb-true, ne-eqb}
 use Rattle.rules.specs.Tables.{Row, rising}
-use Rattle.rules.specs.Messages.{changed, added}
+use Rattle.rules.specs.Messages.{held, changed, added}
+use Rattle.rules.proofs.Rows.{changed-held}
 use Rattle.rules.proofs.Logic.{both-left, both-right, cases}
 use Rattle.rows.specs.declared.lookup.Place.{Place}
 use Rattle.rows.specs.declared.lookup.Place.the-variants.{Held, Absent}
 use Rattle.rows.specs.Places.{placeOf}
-use Rattle.rows.proofs.Sought.{sought, place-sought}
+use Rattle.rows.proofs.Sought.{sought, place-sought, not-absent}
 use Rattle.edit.specs.Changes.{atIndex}
 
 -- ---- the row at an index
@@ -48,10 +50,6 @@ none-changed low s change (r ∷ rows) l rise =
     let m : low < r .stamp = ltb-true low (r .stamp) (both-left _ _ rise) in
     rw (ne-eqb (r .stamp) s (λ e. absurd (omega arith)), none-changed (r .stamp) s change rows (omega arith) (both-right _ _ rise))
 
--- a place is held and absent nowhere at once
-not-absent : {i j : ℕ} → Held i ≡ Absent j → ⊥
-not-absent e = let z : _≡_ {A = ℕ} 0 1 = cc in absurd (omega arith)
-
 changed-other : (s : ℕ) (change : Row → Row) (r : Row) (rows : List Row) → eqb (r .stamp) s ≡ false → changed s change (r ∷ rows) ≡ r ∷ changed s change rows
 unfolding changed
 changed-other s change r rows e = rw e
@@ -82,6 +80,10 @@ changed-at rows s i change rise h =
     let (j, e, t) = changed-sought 0 0 i s change rows rise (sym (place-sought rows s rise) ∙ h) in
     let f : i ≡ j = omega arith in
     rw f t
+
+-- the same of a change that is another for other rows
+pub changed-as : (rows : List Row) (s i : ℕ) (by change : Row → Row) (r : Row) → rising 0 rows ≡ true → placeOf rows s ≡ Held i → held rows s ≡ some r → by r ≡ change r → changed s by rows ≡ atIndex i change rows
+changed-as rows s i by change r rise place h e = changed-held 0 s by change rows r rise h e ∙ changed-at rows s i change rise place
 
 -- ---- the index of a new one
 

@@ -1,7 +1,6 @@
 pub mod Holding
 pub mod EditedBuffers
 pub mod RowsJoined
-pub mod RowSteps
 pub mod Indexes
 pub mod ChangedParts
 pub mod EditedParts

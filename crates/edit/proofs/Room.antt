@@ -6,10 +6,12 @@ use mathlib.Core.Option.{some}
 use Prim.Native.Nat.{ℕ, _+_, _*_, _^_, _≤_, _<_}
 use native.Mathlib.Omega.{arith}
 use lib.ListN.{length}
+use borrow.Author.Tests.{leb-true}
 use Rattle.rules.specs.Tables.{Table, Model}
+use Rattle.rules.proofs.Logic.{both-left, both-right}
 use Rattle.rules.proofs.Tables.{table-facts}
 use Rattle.rows.specs.declared.row.RowFields.{RowFields}
-use Rattle.rows.specs.Fields.{fieldsByRule}
+use Rattle.rows.specs.Fields.{codesByRule, fieldsByRule}
 use Rattle.rows.specs.Rows.{sizeOf}
 use Rattle.rows.proofs.Turns.{fields-facts}
 use Rattle.table.specs.declared.header.Header.{Header}
@@ -17,6 +19,14 @@ use Rattle.table.specs.Headers.{headerAt}
 use Rattle.table.specs.Images.{Form, imageLength}
 use Rattle.table.specs.Parse.{parse}
 use Rattle.table.proofs.Images.{Sound, bodies-at-most, parsed, parse-by-rule}
+use Rattle.edit.specs.Changes.{Storable}
+
+-- fields by the rules can be stored
+pub storable : (row : RowFields) → fieldsByRule row ≡ true → Storable row
+unfolding fieldsByRule codesByRule
+storable row h =
+    let codes = both-left _ _ (both-right _ _ h) in
+    (both-right _ _ (both-left _ _ h), leb-true _ _ (both-left _ _ codes), leb-true _ _ (both-left _ _ (both-right _ _ codes)), both-right _ _ (both-right _ _ h))
 
 module _ (F : Form) (M : Model) (s : List ℕ) (T : Table) (sound : Sound F M) (h : parse F M s ≡ some T) where
   pub rows-said : headerAt s .rows ≡ length (T .rows)

@@ -17,13 +17,13 @@ use Rattle.table.specs.Parse.{tableAt}
 use Rattle.table.proofs.Images.{Starts, length-image}
 use Rattle.edit.specs.Changes.{taking}
 use Rattle.edit.specs.Edited.{Holds, edited}
-use Rattle.edit.proofs.Holding.{held-stands, held-header}
+use Rattle.edit.proofs.Holding.{holds-stands, holds-header}
 use Rattle.edit.proofs.ChangedParts.{header-replaced}
 
 -- the part that is taken
-held-part : (F : Form) (s : List ℕ) → Starts F → Holds F s → part s 0 (imageLength F (tableAt F s)) ≡ image F (tableAt F s)
+holds-part : (F : Form) (s : List ℕ) → Starts F → Holds F s → part s 0 (imageLength F (tableAt F s)) ≡ image F (tableAt F s)
 unfolding Stands
-held-part F s starts h = rw (length-image F (tableAt F s) starts) at (held-stands F s h)
+holds-part F s starts h = rw (length-image F (tableAt F s) starts) at (holds-stands F s h)
 
 taken-steps : (F : Form) (s : List ℕ) (I : Table) (box : ℕ) (zeros : List ℕ) → Starts F →
     replaced (replaced (replaced s 0 (image F I)) 0 (headerBytes (headerOf F (keepingBox I box)))) (imageLength F I) zeros ≡ replaced s 0 (image F (keepingBox I box) ++ zeros)
@@ -42,4 +42,4 @@ unfolding edited
 image-edited F s t starts a b h g =
     let T : Table = tableAt F s in
     let I : Table = tableAt F t in
-    rw (held-header F s a h, held-header F t b g, held-part F t starts g) (taken-steps F s I (T .box) (replicate (imageLength F T - imageLength F I) 0) starts)
+    rw (holds-header F s a h, holds-header F t b g, holds-part F t starts g) (taken-steps F s I (T .box) (replicate (imageLength F T - imageLength F I) 0) starts)

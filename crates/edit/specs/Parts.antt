@@ -5,19 +5,8 @@ use Prim.Native.Nat.{ℕ, zero, suc, _+_, _-_, _*_}
 use lib.Dec.{ltb}
 use Rattle.wire.specs.Parts.{part, replaced}
 use Rattle.wire.specs.Numbers.{bytes}
-use Rattle.rows.specs.declared.row.RowFields.{RowFields}
 use Rattle.rows.specs.Fields.{fieldsAt}
 use Rattle.rows.specs.Rows.{sizeOf}
-
--- ---- a row's fields, in two runs
-
--- "stamp 8, retry stamp 8, body offset 4"
-unfoldable pub longFields : RowFields → List ℕ
-longFields f = bytes 8 (f .stamp) ++ (bytes 8 (f .retry) ++ bytes 4 (f .offset))
-
--- "read count, write count, prepare byte, outcome byte"
-unfoldable pub shortFields : RowFields → List ℕ
-shortFields f = bytes 1 (f .reads) ++ (bytes 1 (f .writes) ++ (bytes 1 (f .prepare) ++ bytes 1 (f .outcome)))
 
 -- ---- a row and a body put in between
 
@@ -34,7 +23,7 @@ laid s at (suc n) due = laid (replaced s (at + 16) (bytes 4 due)) (at + 24) n (d
 unfoldable pub bodyPlace : List ℕ → ℕ → ℕ → ℕ → ℕ → ℕ
 bodyPlace s begin rows index end = cond (ltb index rows) (fieldsAt s (begin + 24 * index) .offset) end
 
--- both, of rows that begin there and whose bodies end at `end`
+-- a row and a body put in between, of rows that begin there and whose bodies end at `end`, and all offsets laid anew
 unfoldable pub placed : List ℕ → ℕ → ℕ → ℕ → ℕ → List ℕ → List ℕ → List ℕ
 placed s begin rows end index row body =
     let filled = slipped s (begin + 24 * index) (bodyPlace s begin rows index end) end row body in

@@ -1,5 +1,4 @@
 // A row more, with its body: rows and bodies moved up, the two put in between, and all offsets laid anew.
-use crate::state;
 use rows::row;
 use rows::row::RowFields;
 use table::header;
@@ -8,15 +7,15 @@ ghost use mathlib.Core.Bool.{true};
 ghost use Prim.Native.Nat.{_+_, _*_, _≤_, _<_};
 ghost use lib.ListN.{length};
 ghost use Rattle.rules.specs.Tables.{rising};
-ghost use Rattle.rows.specs.Fields.{fieldsBytes, fieldsByRule};
+ghost use Rattle.rows.specs.Fields.{fieldsBytes};
 ghost use Rattle.rows.specs.Read.{rowOf};
-ghost use Rattle.rows.specs.Rows.{sizeOf, BodyInside, bodyPart};
+ghost use Rattle.rows.specs.Rows.{sizeOf, BodyInside};
 ghost use Rattle.rows.specs.Places.{placeOf};
 ghost use Rattle.rows.specs.declared.lookup.Place.the-variants.{Absent};
 ghost use Rattle.table.specs.Headers.{headerAt};
 ghost use Rattle.table.specs.Images.{formatOne};
 ghost use Rattle.table.specs.Parse.{tableAt};
-ghost use Rattle.edit.specs.Changes.{adding};
+ghost use Rattle.edit.specs.Changes.{Storable, adding};
 ghost use Rattle.edit.specs.Edited.{Holds, edited};
 ghost use Rattle.edit.specs.Parts.{slipped, laid, bodyPlace, placed};
 
@@ -49,7 +48,7 @@ fn slip_in(
     wire::move_part(image, middle, middle + 24 + body.len(), end - middle);
     wire::copy_part(body, image, middle + 24);
     wire::move_part(image, at, at + 24, middle - at);
-    state::write_row(image, begin, index, row);
+    row::write_row(image, begin, index, row);
 }
 
 // Lays the offsets of all rows anew, by their counts: the first body right behind the rows, each other behind the one before.
@@ -88,7 +87,7 @@ fn place_row(
 // Adds a row that the table does not hold, at the index that is its own by its stamp. Its body comes from a lent message, where the row's offset says.
 pub fn add_row(table: &mut [u8], index: usize, row: RowFields, message: &[u8])
     requires { ⌜ Holds formatOne (now table) × (rising 0 (tableAt formatOne (now table) .rows) ≡ true) × (placeOf (tableAt formatOne (now table) .rows) (row .stamp) ≡ Absent index) ⌝ }
-    requires { ⌜ (fieldsByRule row ≡ true) × BodyInside (now message) row ⌝ }
+    requires { ⌜ Storable row × BodyInside (now message) row ⌝ }
     requires { ⌜ (headerAt (now table) .rows < 65536) × (headerAt (now table) .length + 24 + sizeOf row ≤ length (now table)) × (headerAt (now table) .length + 24 + sizeOf row < 4294967296) ⌝ }
     ensures { λ _. ⌜ now (table .exit) ≡ edited formatOne (adding (rowOf (now (message .entry)) row)) (now (table .entry)) ⌝ }
 {

@@ -11,7 +11,7 @@ use Rattle.wire.specs.Parts.{part}
 use Rattle.wire.specs.Numbers.{AllBytes}
 use Rattle.wire.proofs.Numbers.{length-bytes, numberAt-part}
 use Rattle.wire.proofs.Stands.{Stands, stands-nothing, stands-joined, stands-left, stands-right}
-use Rattle.wire.proofs.Fields.{field-read, field-stands}
+use Rattle.wire.proofs.Fields.{field-read, field-stands, stands-bytes, field-fits}
 use Rattle.rules.specs.Stamps.{Access, Body, isRegister, countsByRule, accessesByRule, contentsByRule}
 use Rattle.rules.proofs.Logic.{both-left, both-right}
 use Rattle.rows.specs.declared.row.RowFields.{RowFields}
@@ -51,6 +51,17 @@ accesses-read s at limit low (x ∷ xs) g m h =
     let b = field-read 8 (x .number) s (at + 1) (at + 9) _ (omega arith) (omega arith) (a .1) in
     rw (a .0, b .0, accesses-read s (at + 9) limit (suc (x .register)) xs (both-right _ _ g) m (b .1))
 
+-- so are those that stand among bytes, whatever they say
+accesses-among : (s : List ℕ) (at : ℕ) (xs : List Access) → AllBytes s → Stands s at (accessesBytes xs) → accessesAt s at (length xs) ≡ xs
+unfolding accessesBytes accessesAt accessAt
+accesses-among s at [] a h = refl
+accesses-among s at (x ∷ xs) a h =
+    let k = field-fits 1 (x .register) _ (omega arith) (stands-bytes s at _ a h) in
+    let v = field-fits 8 (x .number) _ (omega arith) (k .1) in
+    let p = field-read 1 (x .register) s at (at + 1) _ (k .0) refl h in
+    let q = field-read 8 (x .number) s (at + 1) (at + 9) _ (v .0) (omega arith) (p .1) in
+    rw (p .0, q .0, accesses-among s (at + 9) xs a (q .1))
+
 -- the accesses in a part of the bytes
 accesses-in-part : (s : List ℕ) (a len at n : ℕ) → a + len ≤ length s → at + 9 * n ≤ len → accessesAt (part s a len) at n ≡ accessesAt s (a + at) n
 unfolding accessesAt accessAt
@@ -89,6 +100,12 @@ body-read s at stamp x g m h =
       accesses-read s at stamp 0 (x .reads) (both-left _ _ g) m (stands-left s at _ _ h),
       accesses-read s (at + 9 * length (x .reads)) (2 ^ 64) 0 (x .writes) (both-right _ _ g) (omega arith) w,
     )
+
+pub body-among : (s : List ℕ) (at : ℕ) (x : Body) → AllBytes s → Stands s at (bodyBytes x) → bodyAt s at (length (x .reads)) (length (x .writes)) ≡ x
+unfolding bodyBytes bodyAt
+body-among s at x a h =
+    let w = rw length-accesses at (stands-right s at (accessesBytes (x .reads)) (accessesBytes (x .writes)) h) in
+    rw (accesses-among s at (x .reads) a (stands-left s at _ _ h), accesses-among s (at + 9 * length (x .reads)) (x .writes) a w)
 
 -- the part of the bytes where a row's body lies is the body's bytes
 pub body-part : (s : List ℕ) (f : RowFields) → AllBytes s → BodyInside s f → bodyPart s f ≡ bodyBytes (rowOf s f .body)

@@ -1,28 +1,28 @@
 -- The fields of a row as bytes: what stands there is read, what is read stands there, and a row and its fields are of each other.
 use mathlib.Core.Path.{_≡_, refl}
 use mathlib.Core.Bool.{true}
-use mathlib.Core.List.{List, _++_}
+use mathlib.Core.List.{List}
 use Prim.Native.Nat.{ℕ, _+_, _^_, _≤_, _<_}
 use native.Mathlib.Omega.{arith}
 use lib.ListN.{length, length-append}
 use borrow.Author.Tests.{ltb-true, leb-true}
-use Rattle.wire.specs.Numbers.{bytes, AllBytes}
+use Rattle.wire.specs.Numbers.{AllBytes}
 use Rattle.wire.proofs.Numbers.{length-bytes, bytes-fit}
 use Rattle.wire.proofs.Stands.{Stands}
 use Rattle.wire.proofs.Fields.{field-read, field-stands, last-read, last-stands, stands-bytes, field-fits}
 use Rattle.rules.specs.Stamps.{isStamp, countsByRule}
-use Rattle.rules.specs.Tables.{Result, Result.OK, Result.ABORT, Result.ABSTAIN, Result.RETRY, Prepare, Prepare.noPrepare, Prepare.tentative, Prepare.final, resultRetry, prepareCode, prepareRetry, outcomeCode, resultByRule, retryByRule, Row, rowByRule}
+use Rattle.rules.specs.Tables.{Result, Result.OK, Result.ABORT, Result.ABSTAIN, Result.RETRY, Prepare, Prepare.noPrepare, Prepare.tentative, Prepare.final, resultRetry, prepareRetry, resultByRule, retryByRule, Row, rowByRule}
 use Rattle.rules.proofs.Logic.{both-left, both-right}
 use Rattle.rules.proofs.Tables.{row-facts}
 use Rattle.rows.specs.declared.row.RowFields.{RowFields}
 use Rattle.rows.specs.Bytes.{rowBytes}
-use Rattle.rows.specs.Fields.{fieldsBytes, fieldsAt, codesByRule, retryByCode}
+use Rattle.rows.specs.Fields.{fieldsAt, fieldsOf, singleFields, fieldsBytes, retryByCode}
 use Rattle.rows.specs.Read.{bodyAt, rowOf}
-use Rattle.rows.proofs.Codes.{prepare-code-limit, outcome-code-limit, prepare-read, outcome-read, coded}
+use Rattle.rows.proofs.Codes.{prepare-code-limit, outcome-code-limit, prepare-read, outcome-read, prepare-numbered, outcome-numbered}
 use Rattle.rows.proofs.Bodies.{length-accessesAt}
 
 pub length-fields : (f : RowFields) → length (fieldsBytes f) ≡ 24
-unfolding fieldsBytes
+unfolding fieldsBytes singleFields
 length-fields f = simp (length-append, length-bytes)
 
 -- every field is a number of its width
@@ -37,7 +37,7 @@ pub record FieldsFit (f : RowFields) : Type 0 where
 
 -- the fields that stand there are read
 pub fields-read : (s : List ℕ) (at : ℕ) (f : RowFields) → FieldsFit f → Stands s at (fieldsBytes f) → fieldsAt s at ≡ f
-unfolding fieldsAt fieldsBytes
+unfolding fieldsAt fieldsBytes singleFields
 fields-read s at f k h =
     let a = field-read 8 (f .stamp) s at (at + 8) _ (k .stamp) refl h in
     let b = field-read 8 (f .retry) s (at + 8) (at + 16) _ (k .retry) (omega arith) (a .1) in
@@ -49,7 +49,7 @@ fields-read s at f k h =
 
 -- fields whose bytes are bytes fit
 pub fields-told : (f : RowFields) → AllBytes (fieldsBytes f) → FieldsFit f
-unfolding fieldsBytes
+unfolding fieldsBytes singleFields
 fields-told f h =
     let a = field-fits 8 (f .stamp) _ (omega arith) h in
     let b = field-fits 8 (f .retry) _ (omega arith) (a .1) in
@@ -65,7 +65,7 @@ fields-among s at f a h = let k = fields-told f (stands-bytes s at (fieldsBytes 
 
 -- the fields that are read stand there
 pub fields-stand : (s : List ℕ) (at : ℕ) → AllBytes s → at + 24 ≤ length s → Stands s at (fieldsBytes (fieldsAt s at))
-unfolding fieldsAt fieldsBytes
+unfolding fieldsAt fieldsBytes singleFields
 fields-stand s at a l =
     field-stands 8 s at (at + 8) _ a (omega arith) refl
     (field-stands 8 s (at + 8) (at + 16) _ a (omega arith) (omega arith)
@@ -76,20 +76,8 @@ fields-stand s at a l =
 
 -- ---- a row and its fields
 
--- the fields of a row whose body stands at offset
-unfoldable pub fieldsOf : ℕ → Row → RowFields
-fieldsOf offset r = record {
-  stamp = r .stamp;
-  retry = prepareRetry (r .prepare);
-  offset = offset;
-  reads = length (r .body .reads);
-  writes = length (r .body .writes);
-  prepare = prepareCode (r .prepare);
-  outcome = outcomeCode (r .outcome);
-}
-
 pub row-bytes : (offset : ℕ) (r : Row) → rowBytes offset r ≡ fieldsBytes (fieldsOf offset r)
-unfolding rowBytes fieldsBytes fieldsOf
+unfolding rowBytes
 row-bytes offset r = refl
 
 pub length-row : (offset : ℕ) (r : Row) → length (rowBytes offset r) ≡ 24
@@ -131,12 +119,12 @@ fields-fit offset r l h =
       outcome = omega arith;
     }
 
--- fields by the rules are those of the row that they say
-pub fields-of-row : (s : List ℕ) (f : RowFields) → codesByRule (f .prepare) (f .outcome) ≡ true → retryByCode (f .prepare) (f .retry) ≡ true → fieldsOf (f .offset) (rowOf s f) ≡ f
+-- fields that have codes are those of the row that they say
+pub fields-of-row : (s : List ℕ) (f : RowFields) → f .prepare ≤ 8 → f .outcome ≤ 4 → retryByCode (f .prepare) (f .retry) ≡ true → fieldsOf (f .offset) (rowOf s f) ≡ f
 unfolding fieldsOf rowOf bodyAt
-fields-of-row s f c q =
-    let k = coded (f .prepare) (f .retry) (f .outcome) c q in
-    rw (k .prepare, k .retry, k .outcome) (simp length-accessesAt)
+fields-of-row s f c o q =
+    let k = prepare-numbered (f .prepare) (f .retry) c q in
+    rw (k .0, k .1, outcome-numbered (f .outcome) o) (simp length-accessesAt)
 
 -- a row is the one that its fields say, if its body is read where they say
 pub row-of-fields : (s : List ℕ) (offset : ℕ) (r : Row) → bodyAt s offset (length (r .body .reads)) (length (r .body .writes)) ≡ r .body → rowOf s (fieldsOf offset r) ≡ r

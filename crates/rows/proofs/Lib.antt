@@ -1,6 +1,7 @@
 pub mod Codes
 pub mod Bodies
 pub mod FieldsRead
+pub mod RowSteps
 pub mod Begins
 pub mod Walks
 pub mod RowsRead

@@ -17,14 +17,14 @@ use Rattle.rules.proofs.Logic.{both-left, both-right, both-true, same-test, eqb
 use Rattle.rules.proofs.Tables.{RowByRule, row-facts, row-by}
 use Rattle.rows.specs.declared.row.RowFields.{RowFields}
 use Rattle.rows.specs.Bytes.{bodyBytes, lengthOf, bodiesBytes, bodiesLength, rowBytes, rowsBytes}
-use Rattle.rows.specs.Fields.{fieldsAt, fieldsByRule}
+use Rattle.rows.specs.Fields.{fieldsAt, fieldsOf, codesByRule, fieldsByRule}
 use Rattle.rows.specs.Read.{bodyAt, rowOf, rowsAt}
 use Rattle.rows.specs.Rows.{sizeOf, BodyInside, placeByRule, bodyByRuleAt, rowByRuleAt, rowsByRuleAt}
 use Rattle.rows.proofs.Walks.{rowsWalk}
 use Rattle.rows.proofs.Codes.{codes-of, retry-of-code, coded}
-use Rattle.rows.proofs.Bodies.{length-accessesAt, length-body, lengthOf-bodyAt, body-stands, body-read}
+use Rattle.rows.proofs.Bodies.{length-accessesAt, length-body, lengthOf-bodyAt, body-stands, body-read, body-among}
 use Rattle.rows.proofs.Begins.{begins-stands, stands-begins}
-use Rattle.rows.proofs.FieldsRead.{fieldsOf, fields-read, fields-stand, row-bytes, length-row, stamp-small, fields-fit, fields-of-row, row-of-fields}
+use Rattle.rows.proofs.FieldsRead.{fields-read, fields-among, fields-stand, row-bytes, length-row, stamp-small, fields-fit, fields-of-row, row-of-fields}
 
 -- ---- lengths
 
@@ -81,14 +81,15 @@ row-said s f end h b =
 
 -- a row that passes where it stands is by the rules, and stands there
 row-sound : (s : List ℕ) (at last due end : ℕ) → AllBytes s → at + 24 ≤ length s → end ≤ length s → rowByRuleAt s (fieldsAt s at) last due end ≡ true → RowStands s at last due end (rowOf s (fieldsAt s at))
-unfolding rowByRuleAt fieldsByRule placeByRule bodyByRuleAt rowOf
+unfolding rowByRuleAt fieldsByRule codesByRule placeByRule bodyByRuleAt rowOf
 row-sound s at last due end a l m h =
     let f = fieldsAt s at in
     let x = both-left _ _ (both-left _ _ h) in
+    let codes = both-left _ _ (both-right _ _ x) in
     let y = both-right _ _ (both-left _ _ h) in
     let o : f .offset ≡ due = eqb-true _ _ (both-left _ _ y) in
     let z : f .offset + sizeOf f ≤ end = leb-true _ _ (both-left _ _ (both-right _ _ h)) in
-    let e : fieldsOf (f .offset) (rowOf s f) ≡ f = fields-of-row s f (both-left _ _ (both-right _ _ x)) (both-right _ _ (both-right _ _ x)) in
+    let e : fieldsOf (f .offset) (rowOf s f) ≡ f = fields-of-row s f (leb-true _ _ (both-left _ _ codes)) (leb-true _ _ (both-left _ _ (both-right _ _ codes))) (both-right _ _ (both-right _ _ x)) in
     record {
       byRule = row-by (row-said s f end x (both-right _ _ h));
       rise = both-right _ _ y;
@@ -235,3 +236,13 @@ rows-walked s begin n end a l m k = same-test _ _ there back
 
     back : rowsByRuleAt s begin n end ≡ true → rowsWalk s begin n 0 (begin + 24 * n) end ≡ true
     back h = rw length-rowsAt at (rows-complete s begin 0 (begin + 24 * n) end (rowsAt s begin n) k (by-rule-stand s begin n end h) .1)
+
+-- rows that stand among bytes with their bodies are read, whatever they say
+pub rows-among : (s : List ℕ) (at due : ℕ) (rows : List Row) → AllBytes s → Stands s at (rowsBytes due rows) → Stands s due (bodiesBytes rows) → rowsAt s at (length rows) ≡ rows
+unfolding rowsBytes bodiesBytes rowsAt
+rows-among s at due [] a h b = refl
+rows-among s at due (r ∷ rows) a h b =
+    let head : fieldsAt s at ≡ fieldsOf due r = fields-among s at (fieldsOf due r) a (rw row-bytes at (stands-left s at (rowBytes due r) _ h)) .1 in
+    let body = body-among s due (r .body) a (stands-left s due (bodyBytes (r .body)) _ b) in
+    let here : rowOf s (fieldsAt s at) ≡ r = rw head (row-of-fields s due r body) in
+    ap₂ _∷_ here (rows-among s (at + 24) (due + lengthOf (r .body)) rows a (rw length-row at (stands-right s at (rowBytes due r) _ h)) (rw length-body at (stands-right s due (bodyBytes (r .body)) _ b)))

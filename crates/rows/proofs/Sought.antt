@@ -129,16 +129,17 @@ sought-end s at n i stamp e = rw e
 
 -- ---- what the place that was found says of the rows
 
+-- no place is held and absent at once
+pub not-absent : {i j : ℕ} → Held i ≡ Absent j → ⊥
+not-absent e = let z : _≡_ {A = ℕ} 0 1 = cc in absurd (omega arith)
+
 pub absent-none : (rows : List Row) (s i : ℕ) → placeOf rows s ≡ Absent i → held rows s ≡ none
 unfolding placeOf
 absent-none rows s i h = go (held rows s) refl
   where
     go : (r : Option Row) → held rows s ≡ r → held rows s ≡ none
     go none e = e
-    go (some r) e =
-        let f : Held (lower rows s) ≡ Absent i = rw e at h in
-        let z : _≡_ {A = ℕ} 0 1 = cc in
-        absurd (omega arith)
+    go (some r) e = absurd (not-absent (rw e at h))
 
 -- the row that was found is one of these n, with so many passed before them
 abbrev FoundAmong : List ℕ → ℕ → ℕ → ℕ → ℕ → ℕ → Type 0
@@ -160,7 +161,7 @@ module _ (s : List ℕ) (at n passed stamp i : ℕ) where
 
 found-among : (s : List ℕ) (at n passed stamp i : ℕ) → sought passed (rowsAt s at n) stamp ≡ Held i → FoundAmong s at n passed stamp i
 unfolding sought rowsAt rowOf
-found-among s at zero passed stamp i h = let z : _≡_ {A = ℕ} 0 1 = cc in absurd (omega arith)
+found-among s at zero passed stamp i h = absurd (not-absent (sym h))
 found-among s at (suc n) passed stamp i h =
     go (cases (eqb (fieldsAt s at .stamp) stamp)) (cases (ltb stamp (fieldsAt s at .stamp))) (λ later. found-among s (at + 24) n (passed + 1) stamp i later)
   where
@@ -172,10 +173,7 @@ found-among s at (suc n) passed stamp i h =
 
     go : (eqb here stamp ≡ true) ⊎ (eqb here stamp ≡ false) → (ltb stamp here ≡ true) ⊎ (ltb stamp here ≡ false) → (rest ≡ Held i → FoundAmong s (at + 24) n (passed + 1) stamp i) → FoundAmong s at (suc n) passed stamp i
     go (inl e) b later = found-first s at n passed stamp i e (rw e at h)
-    go (inr e) (inl b) later =
-        let f : Absent passed ≡ Held i = rw (e, b) at h in
-        let z : _≡_ {A = ℕ} 0 1 = cc in
-        absurd (omega arith)
+    go (inr e) (inl b) later = absurd (not-absent (sym (rw (e, b) at h)))
     go (inr e) (inr b) later = found-later s at n passed stamp i e (later (rw (e, b) at h))
 
 pub held-row : (s : List ℕ) (begin n stamp i : ℕ) → rising 0 (rowsAt s begin n) ≡ true → placeOf (rowsAt s begin n) stamp ≡ Held i →

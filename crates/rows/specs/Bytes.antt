@@ -4,7 +4,8 @@ use Prim.Native.Nat.{ℕ, _+_, _*_}
 use lib.ListN.{length}
 use Rattle.wire.specs.Numbers.{bytes}
 use Rattle.rules.specs.Stamps.{Access, Body}
-use Rattle.rules.specs.Tables.{Row, prepareCode, prepareRetry, outcomeCode}
+use Rattle.rules.specs.Tables.{Row}
+use Rattle.rows.specs.Fields.{fieldsOf, fieldsBytes}
 
 -- ---- bodies
 
@@ -38,14 +39,7 @@ bodiesLength (r ∷ rs) = lengthOf (r .body) + bodiesLength rs
 
 -- "Rows, 24 bytes each, .. : stamp 8, retry stamp 8, body offset 4, read count, write count, prepare byte, outcome byte."
 unfoldable pub rowBytes : ℕ → Row → List ℕ
-rowBytes offset r =
-    bytes 8 (r .stamp)
-    ++ (bytes 8 (prepareRetry (r .prepare))
-    ++ (bytes 4 offset
-    ++ (bytes 1 (length (r .body .reads))
-    ++ (bytes 1 (length (r .body .writes))
-    ++ (bytes 1 (prepareCode (r .prepare))
-    ++ bytes 1 (outcomeCode (r .outcome)))))))
+rowBytes offset r = fieldsBytes (fieldsOf offset r)
 
 -- rows whose bodies stand one after the other from offset on
 unfoldable pub rowsBytes : ℕ → List Row → List ℕ

@@ -3,10 +3,11 @@ use mathlib.Core.Bool.{Bool, cond}
 use mathlib.Core.List.{List, _++_}
 use Prim.Native.Nat.{ℕ, _+_, _-_}
 use lib.Dec.{eqb, ltb, leb}
+use lib.ListN.{length}
 use Rattle.wire.specs.Numbers.{bytes, numberAt}
 use Rattle.rules.specs.Tests.{both, either}
 use Rattle.rules.specs.Stamps.{isStamp, countsByRule}
-use Rattle.rules.specs.Tables.{Result, Result.OK, Result.ABORT, Result.ABSTAIN, Result.RETRY, Prepare, Prepare.noPrepare, Prepare.tentative, Prepare.final, Verdict, Verdict.commit, Verdict.abort, Outcome, Outcome.noOutcome, Outcome.noted, Outcome.done}
+use Rattle.rules.specs.Tables.{Result, Result.OK, Result.ABORT, Result.ABSTAIN, Result.RETRY, Prepare, Prepare.noPrepare, Prepare.tentative, Prepare.final, Verdict, Verdict.commit, Verdict.abort, Outcome, Outcome.noOutcome, Outcome.noted, Outcome.done, prepareCode, prepareRetry, outcomeCode, Row}
 use Rattle.rows.specs.declared.row.RowFields.{RowFields}
 
 -- "stamp 8, retry stamp 8, body offset 4, read count, write count, prepare byte, outcome byte"
@@ -21,12 +22,27 @@ fieldsAt s at = record {
   outcome = numberAt s (at + 23) 1;
 }
 
--- the same as bytes
+-- the fields of a row whose body stands at offset
+unfoldable pub fieldsOf : ℕ → Row → RowFields
+fieldsOf offset r = record {
+  stamp = r .stamp;
+  retry = prepareRetry (r .prepare);
+  offset = offset;
+  reads = length (r .body .reads);
+  writes = length (r .body .writes);
+  prepare = prepareCode (r .prepare);
+  outcome = outcomeCode (r .outcome);
+}
+
+-- ---- fields as bytes
+
+-- "read count, write count, prepare byte, outcome byte"
+unfoldable pub singleFields : RowFields → List ℕ
+singleFields f = bytes 1 (f .reads) ++ (bytes 1 (f .writes) ++ (bytes 1 (f .prepare) ++ bytes 1 (f .outcome)))
+
+-- "stamp 8, retry stamp 8, body offset 4", and the four single bytes
 unfoldable pub fieldsBytes : RowFields → List ℕ
-fieldsBytes f =
-    bytes 8 (f .stamp)
-    ++ (bytes 8 (f .retry)
-    ++ (bytes 4 (f .offset) ++ (bytes 1 (f .reads) ++ (bytes 1 (f .writes) ++ (bytes 1 (f .prepare) ++ bytes 1 (f .outcome))))))
+fieldsBytes f = bytes 8 (f .stamp) ++ (bytes 8 (f .retry) ++ (bytes 4 (f .offset) ++ singleFields f))
 
 -- ---- a row's fields with its state changed
 

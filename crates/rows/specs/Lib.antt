@@ -1,5 +1,5 @@
-pub mod Bytes
 pub mod Fields
+pub mod Bytes
 pub mod Read
 pub mod Rows
 pub mod Places

@@ -1,13 +1,14 @@
-// The rows of an image: each by its index, with its body where it lies, and the tests of its fields, one small function each.
+// The rows of an image: each read and written by its index, with its body where it lies, and the tests of its fields, one small function each.
 use crate::body;
 ghost use mathlib.Core.Path.{_≡_};
 ghost use Prim.Native.Nat.{_+_, _*_, _≤_, _<_};
 ghost use lib.Dec.{ltb, leb};
 ghost use lib.ListN.{length};
+ghost use Rattle.wire.specs.Parts.{replaced};
 ghost use Rattle.rules.specs.Tests.{both};
 ghost use Rattle.rules.specs.Stamps.{isStamp, countsByRule};
 ghost use Rattle.rows.specs.Bytes.{bodyLength};
-ghost use Rattle.rows.specs.Fields.{fieldsAt, withPrepareByte, withOutcomeByte, codesByRule, retryByCode, fieldsByRule};
+ghost use Rattle.rows.specs.Fields.{fieldsAt, singleFields, fieldsBytes, withPrepareByte, withOutcomeByte, codesByRule, retryByCode, fieldsByRule};
 ghost use Rattle.rows.specs.Rows.{BodyInside, bodyPart, placeByRule};
 
 // The fields of a row, in the order in which they stand.
@@ -55,6 +56,29 @@ pub fn row_at(image: &[u8], begin: usize, index: usize) -> RowFields
         prepare: wire::u8_at(image, at + 22),
         outcome: wire::u8_at(image, at + 23),
     }
+}
+
+// The last four fields have a byte each.
+fn write_single_bytes(image: &mut [u8], at: usize, row: RowFields)
+    requires { ⌜ at + 24 ≤ length (now image) ⌝ }
+    ensures { λ _. ⌜ now (image .exit) ≡ replaced (now (image .entry)) (at + 20) (singleFields row) ⌝ }
+{
+    wire::put_u8(image, at + 20, row.reads);
+    wire::put_u8(image, at + 21, row.writes);
+    wire::put_u8(image, at + 22, row.prepare);
+    wire::put_u8(image, at + 23, row.outcome);
+}
+
+// Writes the row at an index of an image whose rows begin there. Whoever writes a whole row writes it here.
+pub fn write_row(image: &mut [u8], begin: usize, index: usize, row: RowFields)
+    requires { ⌜ begin + 24 * index + 24 ≤ length (now image) ⌝ }
+    ensures { λ _. ⌜ now (image .exit) ≡ replaced (now (image .entry)) (begin + 24 * index) (fieldsBytes row) ⌝ }
+{
+    let at = begin + 24 * index;
+    wire::put_u64(image, at, row.stamp);
+    wire::put_u64(image, at + 8, row.retry);
+    wire::put_u32(image, at + 16, row.offset);
+    write_single_bytes(image, at, row);
 }
 
 // How many bytes a body with these counts has, by the rules or not. The bound is there for callers that add many of them.

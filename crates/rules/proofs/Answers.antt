@@ -74,6 +74,33 @@ module _ (T : Table) (t : Regular T) where
       let low = stamp-positive (r .stamp) (row-facts r k .stamp) in
       with-rows (added r (T .rows)) (omega (arith, t .start)) (rising-added r 0 (T .rows) low new (t .rise)) (every-added r (T .rows) k (t .rows))
 
+  -- a later view is promised
+  pub promising-rule : (v : ℕ) → isView v ≡ true → T .view < v → Regular (promising T v)
+  unfolding modeByRule
+  promising-rule v m l = record {
+    group = t .group;
+    box = t .box;
+    view = t .view;
+    promised = m;
+    mode = either-second _ _ (both-true refl (lt-ltb (T .view) v l));
+    start = t .start;
+    rise = t .rise;
+    rows = t .rows;
+  }
+
+  -- another table of the group is taken
+  pub keeping-box-rule : (I : Table) → Regular I → I .n ≡ T .n → Regular (keepingBox I (T .box))
+  keeping-box-rule I i e = record {
+    group = i .group;
+    box = rw e (t .box);
+    view = i .view;
+    promised = i .promised;
+    mode = i .mode;
+    start = i .start;
+    rise = i .rise;
+    rows = i .rows;
+  }
+
 -- ---- what messages do to a row keeps its rule
 
 pub with-prepare : (p : Prepare) (r : Row) → 0 < prepareCode p → retryByRule p ≡ true → rowByRule r ≡ true → rowByRule (withPrepare p r) ≡ true
@@ -148,10 +175,6 @@ module _ (M : Model) (room : Room) (check : Check) (checks : CheckByRule check) 
       go (some r) e = changed-rule T t s _ (λ q. refl) (noted-row v)
       go none e = added-rule T t _ (new-row s x noPrepare (noted v) m (omega (arith, verdict-counts v)) refl) e
 
-  changing-by-rule : (view v : ℕ) → view < v → modeByRule changingMode view v ≡ true
-  unfolding modeByRule
-  changing-by-rule view v l = either-second _ _ (both-true refl (lt-ltb view v l))
-
   view-promised : (mode view promised : ℕ) → modeByRule mode view promised ≡ true → view ≤ promised
   unfolding modeByRule
   view-promised mode view promised h = go (either-cases (both (eqb mode normalMode) (eqb promised view)) (both (eqb mode changingMode) (ltb view promised)) h)
@@ -165,34 +188,13 @@ module _ (M : Model) (room : Room) (check : Check) (checks : CheckByRule check) 
   after-5 v m n =
       let l = leb-false v (T .promised) n in
       let k = view-promised (T .mode) (T .view) (T .promised) (t .mode) in
-      record {
-        group = t .group;
-        box = t .box;
-        view = t .view;
-        promised = m;
-        mode = changing-by-rule (T .view) v (omega arith);
-        start = t .start;
-        rise = t .rise;
-        rows = t .rows;
-      }
+      promising-rule T t v m (omega arith)
 
   after-6 : (v : ℕ) (I : Table) → tableByRule M I ≡ true → startsView (T .n) v I ≡ true → Regular (keepingBox I (T .box)) × (I .n ≡ T .n)
   unfolding startsView
   after-6 v I m k =
-      let i = table-facts M I m .0 in
-      let e = eqb-true (I .n) (T .n) (both-left _ _ (both-right _ _ (both-right _ _ (both-right _ _ k)))) in (
-        record {
-          group = i .group;
-          box = rw e (t .box);
-          view = i .view;
-          promised = i .promised;
-          mode = i .mode;
-          start = i .start;
-          rise = i .rise;
-          rows = i .rows;
-        },
-        e,
-      )
+      let e = eqb-true (I .n) (T .n) (both-left _ _ (both-right _ _ (both-right _ _ (both-right _ _ k)))) in
+      (keeping-box-rule T t I (table-facts M I m .0) e, e)
 
   -- by the rules again, of the same group and the same box
   abbrev pub Kept : Table → Type 0

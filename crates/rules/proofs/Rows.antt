@@ -143,6 +143,21 @@ module _ (s : ℕ) (change : Row → Row) where
         go (inl e) below = let d′ : eqb (r .stamp) t ≡ false = rw e d in rw (eq-eqb (r .stamp) s e, keeps r, d′) below
         go (inr e) below = rw (e, below) refl
 
+-- only what a change makes of that stamp's row counts
+changed-alike : (s : ℕ) (f g : Row → Row) (rows : List Row) → ((q : Row) → q ∈ rows → q .stamp ≡ s → f q ≡ g q) → changed s f rows ≡ changed s g rows
+unfolding changed
+changed-alike s f g [] h = refl
+changed-alike s f g (r ∷ rs) h = go (same? (r .stamp) s) (changed-alike s f g rs (λ q m e. h q (List·Memᴰ·tail m) e))
+  where
+    go : (r .stamp ≡ s) ⊎ (eqb (r .stamp) s ≡ false) → changed s f rs ≡ changed s g rs → changed s f (r ∷ rs) ≡ changed s g (r ∷ rs)
+    go (inl e) below = rw (eq-eqb (r .stamp) s e, h r (List·Memᴰ·head refl) e, below)
+    go (inr e) below = rw (e, below)
+
+pub changed-held : (low s : ℕ) (f g : Row → Row) (rows : List Row) (r : Row) → rising low rows ≡ true → held rows s ≡ some r → f r ≡ g r → changed s f rows ≡ changed s g rows
+changed-held low s f g rows r rise h e =
+    let (m, k) = held-from rows s r h in
+    changed-alike s f g rows (λ q n i. let z : q ≡ r = stamp-once low rows rise q r n m (i ∙ sym k) in ap f z ∙ e ∙ sym (ap g z))
+
 -- ---- one row more
 
 pub length-added : (r : Row) (rows : List Row) → length (added r rows) ≡ suc (length rows)

@@ -9,7 +9,7 @@ use native.Mathlib.Omega.{arith}
 use lib.Dec.{eqb, ltb}
 use lib.ListN.{length, take, drop, length-append}
 use borrow.Author.Tests.{ltb-true, leb-true, eqb-true}
-use Rattle.wire.specs.Numbers.{numberAt}
+use Rattle.wire.specs.Numbers.{numberAt, AllBytes}
 use Rattle.wire.proofs.Stands.{Stands, stands-inside, stands-left, stands-right}
 use Rattle.rules.specs.Tests.{both, every, provided}
 use Rattle.rules.specs.Groups.{isGroup}
@@ -22,13 +22,13 @@ use Rattle.rules.proofs.Tables.{row-facts, table-facts}
 use Rattle.rows.specs.Bytes.{bodiesBytes, bodiesLength, rowsBytes}
 use Rattle.rows.specs.Read.{rowsAt, begins}
 use Rattle.rows.specs.Rows.{RowsInside}
-use Rattle.rows.proofs.RowsRead.{length-rows, length-bodies, RowsStand, rows-complete, bodies-inside}
+use Rattle.rows.proofs.RowsRead.{length-rows, length-bodies, RowsStand, rows-complete, bodies-inside, rows-among}
 use Rattle.rows.proofs.Begins.{begins-stands, begins-is, begins-with}
 use Rattle.table.specs.declared.header.Header.{Header}
 use Rattle.table.specs.Headers.{headerBytes, headerAt}
 use Rattle.table.specs.Images.{Form, formatOne, bodiesAt, imageLength, headerOf, image}
 use Rattle.table.specs.Parse.{tableAt, parse}
-use Rattle.table.proofs.Headers.{length-header, HeaderFits, header-read}
+use Rattle.table.proofs.Headers.{length-header, HeaderFits, header-read, header-among}
 
 -- the header and what is stored behind it reach to the rows
 abbrev pub Starts : Form → Type 0
@@ -168,7 +168,23 @@ table-read : (F : Form) (s : List ℕ) (T : Table) → Parsed F s T → tableAt 
 unfolding tableAt
 table-read F s T p = rw (p .header, p .rows)
 
+-- of any table whose image stands among bytes, by the rules or not
+pub image-among : (F : Form) (s : List ℕ) (T : Table) → Starts F → AllBytes s → Stands s 0 (image F T) → tableAt F s ≡ T
+unfolding tableAt image
+image-among F s T starts a w =
+    let due : ℕ = bodiesAt F (T .rows) in
+    let h : headerAt s ≡ headerOf F T = header-among s (headerOf F T) a (stands-left s 0 _ _ w) in
+    let b = image-behind F s T starts w in
+    let heads = stands-left s (F .begin) (rowsBytes due (T .rows)) (bodiesBytes (T .rows)) b in
+    let tails = rw length-rows at (stands-right s (F .begin) (rowsBytes due (T .rows)) (bodiesBytes (T .rows)) b) in
+    rw (h, rows-among s (F .begin) due (T .rows) a heads tails)
+
 -- ---- the table that bytes begin with
+
+-- it is the one read off them, and they begin with its image
+pub parse-reads : (F : Form) (M : Model) (s : List ℕ) (T : Table) → parse F M s ≡ some T → (tableAt F s ≡ T) × (begins s (image F (tableAt F s)) ≡ true)
+unfolding parse
+parse-reads F M s T h = let (t, e) = provided-some _ (tableAt F s) T h in (e, both-right _ _ t)
 
 -- a parse that gives a table read that table, and passed both its tests
 pub parse-facts : (F : Form) (M : Model) (s : List ℕ) (T : Table) → parse F M s ≡ some T → (tableByRule M T ≡ true) × (begins s (image F T) ≡ true)

@@ -6,8 +6,8 @@ ghost use mathlib.Core.Bool.{true};
 ghost use Prim.Native.Nat.{_+_, _≤_, _<_};
 ghost use lib.ListN.{length};
 ghost use Rattle.rules.specs.Tables.{rising};
-ghost use Rattle.rules.specs.Messages.{withPrepare, withOutcome};
-ghost use Rattle.rows.specs.Fields.{fieldsAt, prepareNumbered, outcomeNumbered, retryByCode, fieldsByRule};
+ghost use Rattle.rules.specs.Messages.{withPrepare, withOutcome, promising};
+ghost use Rattle.rows.specs.Fields.{fieldsAt, prepareNumbered, outcomeNumbered, retryByCode};
 ghost use Rattle.rows.specs.Read.{rowOf};
 ghost use Rattle.rows.specs.Rows.{sizeOf, BodyInside};
 ghost use Rattle.rows.specs.Places.{placeOf};
@@ -15,7 +15,7 @@ ghost use Rattle.rows.specs.declared.lookup.Place.the-variants.{Absent};
 ghost use Rattle.table.specs.Headers.{headerAt};
 ghost use Rattle.table.specs.Images.{formatOne};
 ghost use Rattle.table.specs.Parse.{tableAt};
-ghost use Rattle.edit.specs.Changes.{withViews, withPromise, onRow, adding, taking};
+ghost use Rattle.edit.specs.Changes.{withViews, onRow, Storable, adding, taking};
 ghost use Rattle.edit.specs.Edited.{Holds, edited};
 
 #[no_mangle]
@@ -29,7 +29,7 @@ pub extern "C" fn trial_set_views(table: &mut [u8], mode: u8, view: u32, promise
 #[no_mangle]
 pub extern "C" fn trial_promise(table: &mut [u8], view: u32)
     requires { ⌜ Holds formatOne (now table) ⌝ }
-    ensures { λ _. ⌜ now (table .exit) ≡ edited formatOne (withPromise view) (now (table .entry)) ⌝ }
+    ensures { λ _. ⌜ now (table .exit) ≡ edited formatOne (λ T. promising T view) (now (table .entry)) ⌝ }
 {
     edit::views::promise(table, view)
 }
@@ -54,7 +54,7 @@ pub extern "C" fn trial_set_outcome(table: &mut [u8], index: usize, outcome: u8)
 #[no_mangle]
 pub extern "C" fn trial_add_row(table: &mut [u8], index: usize, row: &[u8])
     requires { ⌜ Holds formatOne (now table) × (rising 0 (tableAt formatOne (now table) .rows) ≡ true) × (placeOf (tableAt formatOne (now table) .rows) (fieldsAt (now row) 0 .stamp) ≡ Absent index) ⌝ }
-    requires { ⌜ (24 ≤ length (now row)) × (fieldsByRule (fieldsAt (now row) 0) ≡ true) × BodyInside (now row) (fieldsAt (now row) 0) ⌝ }
+    requires { ⌜ (24 ≤ length (now row)) × Storable (fieldsAt (now row) 0) × BodyInside (now row) (fieldsAt (now row) 0) ⌝ }
     requires { ⌜ (headerAt (now table) .rows < 65536) × (headerAt (now table) .length + 24 + sizeOf (fieldsAt (now row) 0) ≤ length (now table)) × (headerAt (now table) .length + 24 + sizeOf (fieldsAt (now row) 0) < 4294967296) ⌝ }
     ensures { λ _. ⌜ now (table .exit) ≡ edited formatOne (adding (rowOf (now (row .entry)) (fieldsAt (now (row .entry)) 0))) (now (table .entry)) ⌝ }
 {

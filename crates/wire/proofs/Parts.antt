@@ -92,6 +92,18 @@ replaced-between p o q ws at e f =
     rw (← append-assoc) (drop-at (p ++ o) q (at + length ws) (simp length-append (omega arith))) in
     rw (take-at p (o ++ q) at e, d)
 
+-- at the start, a longer list over a shorter one
+pub replaced-over : (s xs ys : List ℕ) → length xs ≤ length ys → replaced (replaced s 0 xs) 0 ys ≡ replaced s 0 ys
+replaced-over s xs ys l =
+    let more : ℕ = length ys - length xs in
+    let d : length xs + (length ys - length xs) ≡ length ys = omega arith in
+    let e : drop (length ys) (xs ++ drop (length xs) s) ≡ drop (length ys) s =
+    ap (λ (k : ℕ). drop k (xs ++ drop (length xs) s)) (sym d)
+    ∙ drop-append-add xs (drop (length xs) s) more
+    ∙ drop-drop more (length xs) s
+    ∙ ap (λ (k : ℕ). drop k s) d in
+    rw (replaced-start s xs, replaced-start (xs ++ drop (length xs) s) ys, e, replaced-start s ys)
+
 -- ---- one element more, as a loop writes it
 
 drop-set-same : (s : List ℕ) (j b : ℕ) → j < length s → drop j (set s j b) ≡ b ∷ drop (suc j) s

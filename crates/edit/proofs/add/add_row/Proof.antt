@@ -16,7 +16,7 @@ use Rattle.edit.proofs.Holding.{one-starts}
 use Rattle.edit.proofs.add.add_row.Statement.{statement}
 use Rattle.edit.proofs.add.add_row.Tie as tie
 
--- what is asked, said of the two lists
+-- the table is bytes
 all : (k : tie.After-slice-known) → AllBytes (now (k .before .args .table))
 all k = all-of (now (k .before .args .table)) (λ i. k .slice-known .given i .fits)
 

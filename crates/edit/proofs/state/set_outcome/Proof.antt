@@ -8,12 +8,12 @@ use denote.Ref.{now}
 use Rattle.wire.proofs.Numbers.{all-of}
 use Rattle.table.specs.Images.{formatOne}
 use Rattle.edit.proofs.EditedParts.{outcome-edited}
-use Rattle.edit.proofs.Holding.{one-starts, held-row-inside}
+use Rattle.edit.proofs.Holding.{one-starts, holds-row-inside}
 use Rattle.edit.proofs.state.set_outcome.Statement.{statement}
 use Rattle.edit.proofs.state.set_outcome.Tie as tie
 
 inside : (p : tie.Start) → 24 + 24 * p .args .index + 24 ≤ length (now (p .args .table))
-inside p = let q = p .pre in held-row-inside formatOne (now (p .args .table)) (p .args .index) one-starts (q .0) (q .1)
+inside p = let q = p .pre in holds-row-inside formatOne (now (p .args .table)) (p .args .index) one-starts (q .0) (q .1)
 
 row-at-requires : tie.Need-row-at-requires
 row-at-requires c κs = inside (c .before .before)

@@ -9,13 +9,13 @@ use denote.Ref.{now}
 use Rattle.wire.proofs.Numbers.{all-of}
 use Rattle.table.specs.Images.{formatOne}
 use Rattle.table.specs.Headers.{headerAt}
-use Rattle.edit.proofs.Holding.{one-starts, held-least, held-header, held-long}
+use Rattle.edit.proofs.Holding.{one-starts, holds-least, holds-header, holds-long}
 use Rattle.edit.proofs.Taken.{image-edited}
 use Rattle.edit.proofs.take.take_image.Statement.{statement}
 use Rattle.edit.proofs.take.take_image.Tie as tie
 
 room : (p : tie.Start) → (24 ≤ length (now (p .args .table))) × (24 ≤ length (now (p .args .image)))
-room p = let q = p .pre in (held-least formatOne (now (p .args .table)) one-starts (q .0), held-least formatOne (now (p .args .image)) one-starts (q .1))
+room p = let q = p .pre in (holds-least formatOne (now (p .args .table)) one-starts (q .0), holds-least formatOne (now (p .args .image)) one-starts (q .1))
 
 -- the image taken lies inside the lent bytes, and has room in the table; the old one lies inside the table
 ends : (k : tie.After-shared-slice-known) → let p = k .before .before in (headerAt (now (p .args .image)) .length ≤ length (now (p .args .image))) × (headerAt (now (p .args .table)) .length ≤ length (now (p .args .table)))
@@ -24,9 +24,9 @@ ends k =
     let q = p .pre in
     let s = now (p .args .table) in
     let t = now (p .args .image) in
-    let e = held-header formatOne s (all-of s (λ i. k .before .slice-known .given i .fits)) (q .0) in
-    let f = held-header formatOne t (all-of t (λ i. k .shared-slice-known .given i .fits)) (q .1) in
-    rw (e, f) (held-long formatOne t one-starts (q .1), held-long formatOne s one-starts (q .0))
+    let e = holds-header formatOne s (all-of s (λ i. k .before .slice-known .given i .fits)) (q .0) in
+    let f = holds-header formatOne t (all-of t (λ i. k .shared-slice-known .given i .fits)) (q .1) in
+    rw (e, f) (holds-long formatOne t one-starts (q .1), holds-long formatOne s one-starts (q .0))
 
 read-requires : tie.Need-read-requires
 read-requires c κs = room (c .before .before .before) .0

@@ -3,12 +3,12 @@ use borrow.Author.Needs.{needs}
 use denote.Ref.{now}
 use Rattle.table.specs.Images.{formatOne}
 use Rattle.edit.proofs.EditedParts.{promise-edited}
-use Rattle.edit.proofs.Holding.{one-starts, held-least}
+use Rattle.edit.proofs.Holding.{one-starts, holds-least}
 use Rattle.edit.proofs.views.promise.Statement.{statement}
 use Rattle.edit.proofs.views.promise.Tie as tie
 
 read-requires : tie.Need-read-requires
-read-requires c κs = let p = c .before .before in held-least formatOne (now (p .args .table)) one-starts (p .pre)
+read-requires c κs = let p = c .before .before in holds-least formatOne (now (p .args .table)) one-starts (p .pre)
 
 set-views-requires : tie.Need-set-views-requires
 set-views-requires c κs = search needs

@@ -6,12 +6,12 @@ use Rattle.wire.proofs.Numbers.{all-of}
 use Rattle.table.specs.Images.{formatOne}
 use Rattle.edit.specs.Changes.{withViews}
 use Rattle.edit.proofs.EditedParts.{header-edited}
-use Rattle.edit.proofs.Holding.{one-starts, held-least, held-header}
+use Rattle.edit.proofs.Holding.{one-starts, holds-least, holds-header}
 use Rattle.edit.proofs.views.set_views.Statement.{statement}
 use Rattle.edit.proofs.views.set_views.Tie as tie
 
 read-requires : tie.Need-read-requires
-read-requires c κs = let p = c .before .before in held-least formatOne (now (p .args .table)) one-starts (p .pre)
+read-requires c κs = let p = c .before .before in holds-least formatOne (now (p .args .table)) one-starts (p .pre)
 
 with-mode-requires : tie.Need-with-mode-requires
 with-mode-requires c κs = search needs
@@ -23,7 +23,7 @@ with-promised-requires : tie.Need-with-promised-requires
 with-promised-requires c κs = search needs
 
 write-requires : tie.Need-write-requires
-write-requires c κs = let p = c .before .before .before .before .before .before .before in held-least formatOne (now (p .args .table)) one-starts (p .pre)
+write-requires c κs = let p = c .before .before .before .before .before .before .before in holds-least formatOne (now (p .args .table)) one-starts (p .pre)
 
 same-length : tie.Need-same-length
 same-length c = search needs
@@ -33,7 +33,7 @@ returns c =
     let k = c .before .before .before .before .before .before .before .before .before in
     let p = k .before in
     let s = now (p .args .table) in
-    let e = held-header formatOne s (all-of s (λ i. k .slice-known .given i .fits)) (p .pre) in
+    let e = holds-header formatOne s (all-of s (λ i. k .slice-known .given i .fits)) (p .pre) in
     rw (c .before .before .write .ensures, c .before .before .before .with-promised .ensures, c .before .before .before .before .with-view .ensures, c .before .before .before .before .before .with-mode .ensures, c .before .before .before .before .before .before .before .read .ensures, e)
     (header-edited formatOne (withViews (p .args .mode) (p .args .view) (p .args .promised)) s one-starts (p .pre) refl)
 

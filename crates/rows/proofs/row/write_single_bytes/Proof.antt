@@ -1,9 +1,9 @@
 -- Four writes side by side are one.
 use borrow.Author.Needs.{needs}
 use denote.Ref.{now}
-use Rattle.edit.proofs.RowSteps.{short-steps}
-use Rattle.edit.proofs.state.write_single_bytes.Statement.{statement}
-use Rattle.edit.proofs.state.write_single_bytes.Tie as tie
+use Rattle.rows.proofs.RowSteps.{single-steps}
+use Rattle.rows.proofs.row.write_single_bytes.Statement.{statement}
+use Rattle.rows.proofs.row.write_single_bytes.Tie as tie
 
 add-put-u8 : tie.Need-add-put-u8
 add-put-u8 c = search needs
@@ -40,7 +40,7 @@ returns c =
       c .before .before .before .before .before .before .put-u83 .ensures,
       c .before .before .before .before .before .before .before .before .before .before .put-u82 .ensures,
       c .before .before .before .before .before .before .before .before .before .before .before .before .before .before .put-u8 .ensures,
-    ) (short-steps (now (p .args .image)) (p .args .at) (p .args .row) (p .pre))
+    ) (single-steps (now (p .args .image)) (p .args .at) (p .args .row) (p .pre))
 
 pub write-single-bytes-spec : {M : Type 1} → statement M
 write-single-bytes-spec =
