@@ -130,11 +130,11 @@ module _ (F : Form) (s m : List ℕ) (row : RowFields) (index : ℕ) (starts : S
       replaced (placed s (F .begin) (headerAt s .rows) (headerAt s .length) index (fieldsBytes row) (bodyPart m row)) 0 (headerBytes (headers.withRows (headerAt s) (headerAt s .rows + 1) (headerAt s .length + 24 + sizeOf row)))
       ≡ edited F (adding (rowOf m row)) s
   unfolding placed
-  row-edited b byRule inside stored =
+  row-edited b fit inside stored =
       let xs : List Row = goes .before in
       let ys : List Row = goes .behind in
       let rest : List ℕ = drop (length (image F T)) s in
       let k : F .stored (xs ++ (r ∷ ys)) ≡ F .stored (xs ++ ys) = ap (F .stored) (sym (goes .added)) ∙ stored ∙ ap (F .stored) (goes .is) in
-      let whole = rw (← goes .is, ← goes .added, goes .index, ← holds-is F s h, new-row m row byRule, ← body-part m row b inside) at (row-added F T xs ys r (row .offset) rest starts k (counts byRule)) in
+      let whole = rw (← goes .is, ← goes .added, goes .index, ← holds-is F s h, new-row m row fit, ← body-part m row b inside) at (row-added F T xs ys r (row .offset) rest starts k (counts fit)) in
       let grown : imageLength F T ≤ imageLength F (adding r T) = let e = longer in omega arith in
       rw (header-after, body-goes F s index xs ys starts a h (goes .is) (goes .index), holds-header F s a h, edited-grown F (adding r) s grown) whole

@@ -85,7 +85,8 @@ pub unsafe fn set_outcome(table: &mut [u8], index: usize, outcome: u8) {
 ///
 /// The buffer begins with an image whose stamps rise strictly and which has fewer than 65,536 rows, and it has room for
 /// the longer image, whose length fits in 4 bytes. The table does not hold the row's stamp, and as many of its stamps as
-/// the index says are lower. The row's fields are by the rules, and its body lies inside the lent bytes.
+/// the index says are lower. The row's counts are by the rules, its prepare byte is 8 at most and its outcome byte 4, its
+/// retry stamp goes with its prepare byte, and its body lies inside the lent bytes.
 pub unsafe fn add_row(table: &mut [u8], index: usize, row: &[u8]) {
     library::trial_add_row(
         table.as_mut_ptr(),

@@ -3,7 +3,7 @@
 mod common;
 
 use common::{lengths, read, some_rows, tables, Change, Lent};
-use samples::table::ROW_LENGTH;
+use samples::table::{HEADER_LENGTH, ROW_LENGTH};
 use samples::{random, Access, Dice, Row, Table, Tally, MOST_ROWS, TABLE_BYTES};
 
 /// The table without one of its rows, and that row: so a row that is added can have any stamp that a table has.
@@ -79,6 +79,33 @@ fn a_body_may_lie_in_the_row_itself() {
             Lent::holding(&mut dice, before, table.length()).after(&change);
         }
     }
+}
+
+/// A merge at work has rows that hold nothing yet. The second program has no word for them, so their codes are taken out
+/// of its image by hand.
+#[test]
+fn a_row_that_holds_nothing_yet_is_added_all_the_same() {
+    let mut dice = Dice::seeded(6);
+    for rows in [1, 2, 3, 100, MOST_ROWS] {
+        for table in tables(&mut dice, rows) {
+            let index = dice.index(rows);
+            let (before, row) = taken_out(&table, index);
+            let before = read(&before);
+            let mut change = Change::adding(&mut dice, &before, &row);
+            if let Change::Row { lent, .. } = &mut change {
+                without_codes(lent);
+            }
+            let mut image = change.by_second_program(&before).image();
+            without_codes(&mut image[HEADER_LENGTH + ROW_LENGTH * index..]);
+            Lent::holding(&mut dice, before, table.length()).after_with(&change, &image);
+        }
+    }
+}
+
+/// Takes retry stamp, prepare byte and outcome byte out of the row that bytes begin with.
+fn without_codes(row: &mut [u8]) {
+    row[8..16].fill(0);
+    row[22..24].fill(0);
 }
 
 /// Fills a buffer that has just the room for all rows, one row after the other in this order.
