@@ -8,25 +8,14 @@ use Rattle.wire.specs.Parts.{replaced}
 use Rattle.wire.specs.Numbers.{bytes}
 use Rattle.wire.proofs.Parts.{replaced-joined}
 use Rattle.wire.proofs.Numbers.{length-bytes}
+use Rattle.wire.proofs.Fields.{single-bytes}
 use Rattle.rows.specs.declared.row.RowFields.{RowFields}
 use Rattle.rows.specs.Fields.{singleFields, fieldsBytes}
 
 module _ (s : List ℕ) (at : ℕ) (f : RowFields) (l : at + 24 ≤ length s) where
   pub single-steps : replaced (replaced (replaced (replaced s (at + 20) (bytes 1 (f .reads))) (at + 21) (bytes 1 (f .writes))) (at + 22) (bytes 1 (f .prepare))) (at + 23) (bytes 1 (f .outcome)) ≡ replaced s (at + 20) (singleFields f)
   unfolding singleFields
-  single-steps =
-      let a : List ℕ = bytes 1 (f .reads) in
-      let b : List ℕ = a ++ bytes 1 (f .writes) in
-      let d : List ℕ = b ++ bytes 1 (f .prepare) in
-      let x : at + 20 + length a ≡ at + 21 = rw length-bytes (omega arith) in
-      let y : at + 20 + length b ≡ at + 22 = simp (length-append, length-bytes) (omega arith) in
-      let z : at + 20 + length d ≡ at + 23 = simp (length-append, length-bytes) (omega arith) in
-      rw (
-        replaced-joined s (at + 20) (at + 21) a (bytes 1 (f .writes)) (omega arith) x,
-        replaced-joined s (at + 20) (at + 22) b (bytes 1 (f .prepare)) (omega arith) y,
-        replaced-joined s (at + 20) (at + 23) d (bytes 1 (f .outcome)) (omega arith) z,
-      )
-      (simp append-assoc)
+  single-steps = single-bytes s (at + 20) (at + 21) (at + 22) (at + 23) (f .reads) (f .writes) (f .prepare) (f .outcome) (omega arith) (omega arith) (omega arith) (omega arith)
 
   pub row-steps : replaced (replaced (replaced (replaced s at (bytes 8 (f .stamp))) (at + 8) (bytes 8 (f .retry))) (at + 16) (bytes 4 (f .offset))) (at + 20) (singleFields f) ≡ replaced s at (fieldsBytes f)
   unfolding fieldsBytes

@@ -12,7 +12,7 @@ use Rattle.wire.specs.Numbers.{bytes, AllBytes}
 use Rattle.wire.proofs.Parts.{replaced-joined}
 use Rattle.wire.proofs.Numbers.{length-bytes, bytes-fit, all-joined}
 use Rattle.wire.proofs.Stands.{Stands, stands-left, stands-right, stands-joined}
-use Rattle.wire.proofs.Fields.{field-read, field-stands, last-read, last-stands, stands-bytes, field-fits}
+use Rattle.wire.proofs.Fields.{field-read, field-stands, last-read, last-stands, stands-bytes, field-fits, single-bytes}
 use Rattle.rules.proofs.Logic.{both-left, both-right}
 use Rattle.table.specs.declared.header.Header.{Header}
 use Rattle.table.specs.Headers.{singleBytes, fourByteFields, headerBytes, headerAt, sizesByRule, headerByRuleAt}
@@ -103,16 +103,7 @@ header-stands s a l =
 
 pub single-steps : (s : List ℕ) (h : Header) → 24 ≤ length s → replaced (replaced (replaced (replaced s 0 (bytes 1 (h .format))) 1 (bytes 1 (h .boxnumber))) 2 (bytes 1 (h .n))) 3 (bytes 1 (h .mode)) ≡ replaced s 0 (singleBytes h)
 unfolding singleBytes
-single-steps s h l =
-    let a : List ℕ = bytes 1 (h .format) in
-    let b : List ℕ = a ++ bytes 1 (h .boxnumber) in
-    let c : List ℕ = b ++ bytes 1 (h .n) in
-    rw (
-      replaced-joined s 0 1 a (bytes 1 (h .boxnumber)) (omega arith) (simp length-bytes),
-      replaced-joined s 0 2 b (bytes 1 (h .n)) (omega arith) (simp (length-append, length-bytes)),
-      replaced-joined s 0 3 c (bytes 1 (h .mode)) (omega arith) (simp (length-append, length-bytes)),
-    )
-    (simp append-assoc)
+single-steps s h l = single-bytes s 0 1 2 3 (h .format) (h .boxnumber) (h .n) (h .mode) (omega arith) refl refl refl
 
 pub four-byte-steps : (s : List ℕ) (h : Header) → 24 ≤ length s → replaced (replaced (replaced (replaced (replaced s 4 (bytes 4 (h .rows))) 8 (bytes 4 (h .view))) 12 (bytes 4 (h .promised))) 16 (bytes 4 (h .start))) 20 (bytes 4 (h .length)) ≡ replaced s 4 (fourByteFields h)
 unfolding fourByteFields

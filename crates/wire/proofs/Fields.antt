@@ -1,12 +1,12 @@
 -- A run of fields, each a number of its width: one step of reading what stands there, and one of knowing that what is read stands there.
 -- The place of the next field is an argument with an equation, so that no sum of places has to be brought into one shape.
 use mathlib.Core.Path.{_≡_, sym, ap, _∙_}
-use mathlib.Core.List.{List, _++_}
+use mathlib.Core.List.{List, _++_, append-assoc}
 use Prim.Native.Nat.{ℕ, _+_, _^_, _≤_, _<_}
-use lib.ListN.{length}
-use Rattle.wire.specs.Parts.{part}
+use lib.ListN.{length, length-append}
+use Rattle.wire.specs.Parts.{part, replaced}
 use Rattle.wire.specs.Numbers.{number, bytes, numberAt, AllBytes}
-use Rattle.wire.proofs.Parts.{length-part}
+use Rattle.wire.proofs.Parts.{length-part, replaced-joined}
 use Rattle.wire.proofs.Numbers.{length-bytes, number-bytes, bytes-number, bytes-fit, all-part, all-joined}
 use Rattle.wire.proofs.Stands.{Stands, stands-left, stands-right, stands-joined}
 
@@ -44,3 +44,16 @@ stands-bytes s at ws a h = rw h at (all-part s at (length ws) a)
 -- a field among bytes fits its width, and the rest is bytes
 pub field-fits : (width x : ℕ) (ws : List ℕ) → 0 < width → AllBytes (bytes width x ++ ws) → (x < 256 ^ width) × AllBytes ws
 field-fits width x ws p h = let (first, others) = all-joined (bytes width x) ws h in (bytes-fit width x p first, others)
+
+-- four single bytes written one after the other; the places as in the code that writes them
+pub single-bytes : (s : List ℕ) (at second third fourth a b c d : ℕ) → at ≤ length s → at + 1 ≡ second → at + 2 ≡ third → at + 3 ≡ fourth →
+    replaced (replaced (replaced (replaced s at (bytes 1 a)) second (bytes 1 b)) third (bytes 1 c)) fourth (bytes 1 d) ≡ replaced s at (bytes 1 a ++ (bytes 1 b ++ (bytes 1 c ++ bytes 1 d)))
+single-bytes s at second third fourth a b c d l e f g =
+    let x : List ℕ = bytes 1 a ++ bytes 1 b in
+    let y : List ℕ = x ++ bytes 1 c in
+    rw (
+      replaced-joined s at second (bytes 1 a) (bytes 1 b) l (rw length-bytes e),
+      replaced-joined s at third x (bytes 1 c) l (simp (length-append, length-bytes) f),
+      replaced-joined s at fourth y (bytes 1 d) l (simp (length-append, length-bytes) g),
+    )
+    (simp append-assoc)
