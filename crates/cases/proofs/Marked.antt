@@ -11,7 +11,7 @@ use Rattle.rules.specs.Check.{committed, prepared, overwrites, ruleA, ruleB, ru
 use Rattle.rules.specs.Merge.{used, withStamp, withStamps, stamps, rowsOf, mergedOutcome, finalOf, isAgreed, agreedOf, standing, uncheckedRow, uncheckedRows, toCheck, isSettled, checkedAt, checkedInTurn, mergedRows, mergedTable, areWrong, twoBodies, contradictory, mergeCircumstances, mergeNumber, merge}
 use Rattle.wire.specs.Numbers.{bytes}
 use Rattle.table.specs.Headers.{singleBytes, fourByteFields, headerBytes}
-use Rattle.rows.specs.Fields.{fieldsOf, fieldsBytes, singleFields}
+use Rattle.rows.specs.Fields.{fieldsOf, fieldsBytes}
 use Rattle.rows.specs.Bytes.{accessesBytes, bodyBytes, bodiesBytes, bodiesLength, rowBytes, rowsBytes}
 use Rattle.table.specs.Images.{image}
 use Rattle.rows.specs.Read.{begins}
@@ -20,7 +20,7 @@ use Rattle.cases.specs.Marked.{marked}
 use Rattle.cases.specs.Beside.{Counts.c, Counts.p, Counts.n, countsAs, all, beside}
 
 computed : (every holds marked ≡ true) × (every holds beside ≡ true)
-unfolding marked beside holds both either any every count those greatest somePair twice firstOf allOf sameAccesses sameBody sameResult somethingHeld applies first number held changed committed prepared overwrites ruleA ruleB ruleC retryStamp check used withStamp withStamps stamps rowsOf mergedOutcome finalOf isAgreed agreedOf standing uncheckedRow uncheckedRows toCheck isSettled checkedAt checkedInTurn mergedRows mergedTable areWrong twoBodies contradictory mergeCircumstances mergeNumber merge freshTable image headerBytes singleBytes fourByteFields rowsBytes rowBytes fieldsOf fieldsBytes singleFields bodiesBytes bodiesLength bodyBytes accessesBytes bytes begins
+unfolding marked beside holds both either any every count those greatest somePair twice firstOf allOf sameAccesses sameBody sameResult somethingHeld applies first number held changed committed prepared overwrites ruleA ruleB ruleC retryStamp check used withStamp withStamps stamps rowsOf mergedOutcome finalOf isAgreed agreedOf standing uncheckedRow uncheckedRows toCheck isSettled checkedAt checkedInTurn mergedRows mergedTable areWrong twoBodies contradictory mergeCircumstances mergeNumber merge freshTable image headerBytes singleBytes fourByteFields rowsBytes rowBytes fieldsOf fieldsBytes bodiesBytes bodiesLength bodyBytes accessesBytes bytes begins
 computed = (refl, refl)
 
 -- the single statement: every marked case holds

@@ -12,7 +12,7 @@ use Rattle.wire.proofs.Stands.{stands-right, stands-between}
 use Rattle.wire.proofs.Fields.{field-read}
 use Rattle.rules.specs.Tables.{Row, prepareCode, prepareRetry, outcomeCode}
 use Rattle.rows.specs.Bytes.{lengthOf, rowBytes, rowsBytes}
-use Rattle.rows.specs.Fields.{fieldsAt, fieldsOf, singleFields, fieldsBytes}
+use Rattle.rows.specs.Fields.{fieldsAt, fieldsOf, fieldsBytes}
 use Rattle.rows.specs.Rows.{sizeOf}
 use Rattle.rows.proofs.FieldsRead.{row-bytes, length-row, fields-told}
 use Rattle.edit.specs.Parts.{laid}
@@ -52,7 +52,7 @@ counts-joined (x ∷ xs) ys r h a b = (h .0, h .1, counts-joined xs ys r (h .2) 
 
 module _ (p q : List ℕ) (at offset : ℕ) (r : Row) (e : length p ≡ at) where
   row-laid : (due : ℕ) → replaced (p ++ (rowBytes offset r ++ q)) (at + 16) (bytes 4 due) ≡ p ++ (rowBytes due r ++ q)
-  unfolding rowBytes fieldsBytes singleFields fieldsOf
+  unfolding rowBytes fieldsBytes fieldsOf
   row-laid due =
       let front : List ℕ = bytes 8 (r .stamp) ++ bytes 8 (prepareRetry (r .prepare)) in
       let back : List ℕ = bytes 1 (length (r .body .reads)) ++ (bytes 1 (length (r .body .writes)) ++ (bytes 1 (prepareCode (r .prepare)) ++ bytes 1 (outcomeCode (r .outcome)))) in
@@ -62,7 +62,7 @@ module _ (p q : List ℕ) (at offset : ℕ) (r : Row) (e : length p ≡ at) wher
       rw there (replaced-between (p ++ front) (bytes 4 offset) (back ++ q) (bytes 4 due) (at + 16) n (length-bytes 4 offset ∙ sym (length-bytes 4 due)) ∙ home)
 
   row-size : length (r .body .reads) < 256 → length (r .body .writes) < 256 → sizeOf (fieldsAt (p ++ (rowBytes offset r ++ q)) at) ≡ lengthOf (r .body)
-  unfolding rowBytes fieldsBytes singleFields fieldsOf fieldsAt
+  unfolding rowBytes fieldsBytes fieldsOf fieldsAt
   row-size a b =
       let s : List ℕ = p ++ (rowBytes offset r ++ q) in
       let h = stands-between p (rowBytes offset r) q at e in

@@ -16,13 +16,13 @@ use Rattle.rules.proofs.Logic.{both-left, both-right}
 use Rattle.rules.proofs.Tables.{row-facts}
 use Rattle.rows.specs.declared.row.RowFields.{RowFields}
 use Rattle.rows.specs.Bytes.{rowBytes}
-use Rattle.rows.specs.Fields.{fieldsAt, fieldsOf, singleFields, fieldsBytes, retryByCode}
+use Rattle.rows.specs.Fields.{fieldsAt, fieldsOf, fieldsBytes, retryByCode}
 use Rattle.rows.specs.Read.{bodyAt, rowOf}
 use Rattle.rows.proofs.Codes.{prepare-code-limit, outcome-code-limit, prepare-read, outcome-read, prepare-numbered, outcome-numbered}
 use Rattle.rows.proofs.Bodies.{length-accessesAt}
 
 pub length-fields : (f : RowFields) → length (fieldsBytes f) ≡ 24
-unfolding fieldsBytes singleFields
+unfolding fieldsBytes
 length-fields f = simp (length-append, length-bytes)
 
 -- every field is a number of its width
@@ -37,7 +37,7 @@ pub record FieldsFit (f : RowFields) : Type 0 where
 
 -- the fields that stand there are read
 pub fields-read : (s : List ℕ) (at : ℕ) (f : RowFields) → FieldsFit f → Stands s at (fieldsBytes f) → fieldsAt s at ≡ f
-unfolding fieldsAt fieldsBytes singleFields
+unfolding fieldsAt fieldsBytes
 fields-read s at f k h =
     let a = field-read 8 (f .stamp) s at (at + 8) _ (k .stamp) refl h in
     let b = field-read 8 (f .retry) s (at + 8) (at + 16) _ (k .retry) (omega arith) (a .1) in
@@ -49,7 +49,7 @@ fields-read s at f k h =
 
 -- fields whose bytes are bytes fit
 pub fields-told : (f : RowFields) → AllBytes (fieldsBytes f) → FieldsFit f
-unfolding fieldsBytes singleFields
+unfolding fieldsBytes
 fields-told f h =
     let a = field-fits 8 (f .stamp) _ (omega arith) h in
     let b = field-fits 8 (f .retry) _ (omega arith) (a .1) in
@@ -65,7 +65,7 @@ fields-among s at f a h = let k = fields-told f (stands-bytes s at (fieldsBytes 
 
 -- the fields that are read stand there
 pub fields-stand : (s : List ℕ) (at : ℕ) → AllBytes s → at + 24 ≤ length s → Stands s at (fieldsBytes (fieldsAt s at))
-unfolding fieldsAt fieldsBytes singleFields
+unfolding fieldsAt fieldsBytes
 fields-stand s at a l =
     field-stands 8 s at (at + 8) _ a (omega arith) refl
     (field-stands 8 s (at + 8) (at + 16) _ a (omega arith) (omega arith)

@@ -34,15 +34,12 @@ fieldsOf offset r = record {
   outcome = outcomeCode (r .outcome);
 }
 
--- ---- fields as bytes
-
--- "read count, write count, prepare byte, outcome byte"
-unfoldable pub singleFields : RowFields → List ℕ
-singleFields f = bytes 1 (f .reads) ++ (bytes 1 (f .writes) ++ (bytes 1 (f .prepare) ++ bytes 1 (f .outcome)))
-
--- "stamp 8, retry stamp 8, body offset 4", and the four single bytes
+-- "stamp 8, retry stamp 8, body offset 4, read count, write count, prepare byte, outcome byte", as bytes
 unfoldable pub fieldsBytes : RowFields → List ℕ
-fieldsBytes f = bytes 8 (f .stamp) ++ (bytes 8 (f .retry) ++ (bytes 4 (f .offset) ++ singleFields f))
+fieldsBytes f =
+    bytes 8 (f .stamp)
+    ++ (bytes 8 (f .retry)
+    ++ (bytes 4 (f .offset) ++ (bytes 1 (f .reads) ++ (bytes 1 (f .writes) ++ (bytes 1 (f .prepare) ++ bytes 1 (f .outcome))))))
 
 -- ---- a row's fields with its state changed
 

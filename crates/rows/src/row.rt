@@ -8,7 +8,7 @@ ghost use Rattle.wire.specs.Parts.{replaced};
 ghost use Rattle.rules.specs.Tests.{both};
 ghost use Rattle.rules.specs.Stamps.{isStamp, countsByRule};
 ghost use Rattle.rows.specs.Bytes.{bodyLength};
-ghost use Rattle.rows.specs.Fields.{fieldsAt, singleFields, fieldsBytes, withPrepareByte, withOutcomeByte, codesByRule, retryByCode, fieldsByRule};
+ghost use Rattle.rows.specs.Fields.{fieldsAt, fieldsBytes, withPrepareByte, withOutcomeByte, codesByRule, retryByCode, fieldsByRule};
 ghost use Rattle.rows.specs.Rows.{BodyInside, bodyPart, placeByRule};
 
 // The fields of a row, in the order in which they stand.
@@ -58,17 +58,6 @@ pub fn row_at(image: &[u8], begin: usize, index: usize) -> RowFields
     }
 }
 
-// The last four fields have a byte each.
-fn write_single_bytes(image: &mut [u8], at: usize, row: RowFields)
-    requires { ⌜ at + 24 ≤ length (now image) ⌝ }
-    ensures { λ _. ⌜ now (image .exit) ≡ replaced (now (image .entry)) (at + 20) (singleFields row) ⌝ }
-{
-    wire::put_u8(image, at + 20, row.reads);
-    wire::put_u8(image, at + 21, row.writes);
-    wire::put_u8(image, at + 22, row.prepare);
-    wire::put_u8(image, at + 23, row.outcome);
-}
-
 // Writes the row at an index of an image whose rows begin there. Whoever writes a whole row writes it here.
 pub fn write_row(image: &mut [u8], begin: usize, index: usize, row: RowFields)
     requires { ⌜ begin + 24 * index + 24 ≤ length (now image) ⌝ }
@@ -78,7 +67,14 @@ pub fn write_row(image: &mut [u8], begin: usize, index: usize, row: RowFields)
     wire::put_u64(image, at, row.stamp);
     wire::put_u64(image, at + 8, row.retry);
     wire::put_u32(image, at + 16, row.offset);
-    write_single_bytes(image, at, row);
+    wire::put_four_u8(
+        image,
+        at + 20,
+        row.reads,
+        row.writes,
+        row.prepare,
+        row.outcome,
+    );
 }
 
 // How many bytes a body with these counts has, by the rules or not. The bound is there for callers that add many of them.

@@ -12,7 +12,7 @@ use Rattle.wire.specs.Numbers.{bytes, AllBytes}
 use Rattle.wire.proofs.Parts.{replaced-joined}
 use Rattle.wire.proofs.Numbers.{length-bytes, bytes-fit, all-joined}
 use Rattle.wire.proofs.Stands.{Stands, stands-left, stands-right, stands-joined}
-use Rattle.wire.proofs.Fields.{field-read, field-stands, last-read, last-stands, stands-bytes, field-fits, single-bytes}
+use Rattle.wire.proofs.Fields.{field-read, field-stands, last-read, last-stands, stands-bytes, field-fits}
 use Rattle.rules.proofs.Logic.{both-left, both-right}
 use Rattle.table.specs.declared.header.Header.{Header}
 use Rattle.table.specs.Headers.{singleBytes, fourByteFields, headerBytes, headerAt, sizesByRule, headerByRuleAt}
@@ -101,10 +101,6 @@ header-stands s a l =
 
 -- ---- its numbers put one after the other
 
-pub single-steps : (s : List ℕ) (h : Header) → 24 ≤ length s → replaced (replaced (replaced (replaced s 0 (bytes 1 (h .format))) 1 (bytes 1 (h .boxnumber))) 2 (bytes 1 (h .n))) 3 (bytes 1 (h .mode)) ≡ replaced s 0 (singleBytes h)
-unfolding singleBytes
-single-steps s h l = single-bytes s 0 1 2 3 (h .format) (h .boxnumber) (h .n) (h .mode) (omega arith) refl refl refl
-
 pub four-byte-steps : (s : List ℕ) (h : Header) → 24 ≤ length s → replaced (replaced (replaced (replaced (replaced s 4 (bytes 4 (h .rows))) 8 (bytes 4 (h .view))) 12 (bytes 4 (h .promised))) 16 (bytes 4 (h .start))) 20 (bytes 4 (h .length)) ≡ replaced s 4 (fourByteFields h)
 unfolding fourByteFields
 four-byte-steps s h l =
@@ -120,8 +116,10 @@ four-byte-steps s h l =
     )
     (simp append-assoc)
 
-pub header-steps : (s : List ℕ) (h : Header) → 24 ≤ length s → replaced (replaced s 0 (singleBytes h)) 4 (fourByteFields h) ≡ replaced s 0 (headerBytes h)
-unfolding headerBytes
+pub header-steps : (s : List ℕ) (h : Header) → 24 ≤ length s →
+    let single = bytes 1 (h .format) ++ (bytes 1 (h .boxnumber) ++ (bytes 1 (h .n) ++ bytes 1 (h .mode))) in
+    replaced (replaced s 0 single) 4 (fourByteFields h) ≡ replaced s 0 (headerBytes h)
+unfolding headerBytes singleBytes
 header-steps s h l = replaced-joined s 0 4 (singleBytes h) (fourByteFields h) (omega arith) (rw (length-single h))
 
 -- what a header that was passed says of the lengths

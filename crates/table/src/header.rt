@@ -7,7 +7,7 @@ ghost use Rattle.wire.specs.Parts.{replaced};
 ghost use Rattle.rules.specs.Tests.{both};
 ghost use Rattle.rules.specs.Groups.{isGroup};
 ghost use Rattle.rules.specs.Tables.{modeByRule, freshTable};
-ghost use Rattle.table.specs.Headers.{singleBytes, fourByteFields, headerBytes, headerAt, withView, withPromised, withMode, withRows, withBox, sizesByRule, headerByRuleAt};
+ghost use Rattle.table.specs.Headers.{fourByteFields, headerBytes, headerAt, withView, withPromised, withMode, withRows, withBox, sizesByRule, headerByRuleAt};
 ghost use Rattle.table.specs.Images.{headerOf, formatOne};
 
 // How many bytes a header has.
@@ -103,18 +103,7 @@ pub fn read(s: &[u8]) -> Header
     }
 }
 
-// The first four fields have a byte each.
-fn write_single_bytes(s: &mut [u8], h: Header)
-    requires { ⌜ 24 ≤ length (now s) ⌝ }
-    ensures { λ _. ⌜ now (s .exit) ≡ replaced (now (s .entry)) 0 (singleBytes h) ⌝ }
-{
-    wire::put_u8(s, 0, h.format);
-    wire::put_u8(s, 1, h.boxnumber);
-    wire::put_u8(s, 2, h.n);
-    wire::put_u8(s, 3, h.mode);
-}
-
-// The other five have four bytes each.
+// The last five fields have four bytes each.
 fn write_four_byte_fields(s: &mut [u8], h: Header)
     requires { ⌜ 24 ≤ length (now s) ⌝ }
     ensures { λ _. ⌜ now (s .exit) ≡ replaced (now (s .entry)) 4 (fourByteFields h) ⌝ }
@@ -131,7 +120,7 @@ pub fn write(s: &mut [u8], h: Header)
     requires { ⌜ 24 ≤ length (now s) ⌝ }
     ensures { λ _. ⌜ now (s .exit) ≡ replaced (now (s .entry)) 0 (headerBytes h) ⌝ }
 {
-    write_single_bytes(s, h);
+    wire::put_four_u8(s, 0, h.format, h.boxnumber, h.n, h.mode);
     write_four_byte_fields(s, h);
 }
 

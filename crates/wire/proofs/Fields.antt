@@ -45,15 +45,15 @@ stands-bytes s at ws a h = rw h at (all-part s at (length ws) a)
 pub field-fits : (width x : ℕ) (ws : List ℕ) → 0 < width → AllBytes (bytes width x ++ ws) → (x < 256 ^ width) × AllBytes ws
 field-fits width x ws p h = let (first, others) = all-joined (bytes width x) ws h in (bytes-fit width x p first, others)
 
--- four single bytes written one after the other; the places as in the code that writes them
-pub single-bytes : (s : List ℕ) (at second third fourth a b c d : ℕ) → at ≤ length s → at + 1 ≡ second → at + 2 ≡ third → at + 3 ≡ fourth →
-    replaced (replaced (replaced (replaced s at (bytes 1 a)) second (bytes 1 b)) third (bytes 1 c)) fourth (bytes 1 d) ≡ replaced s at (bytes 1 a ++ (bytes 1 b ++ (bytes 1 c ++ bytes 1 d)))
-single-bytes s at second third fourth a b c d l e f g =
+-- four single bytes written one after the other
+pub four-bytes : (s : List ℕ) (at a b c d : ℕ) → at ≤ length s →
+    replaced (replaced (replaced (replaced s at (bytes 1 a)) (at + 1) (bytes 1 b)) (at + 2) (bytes 1 c)) (at + 3) (bytes 1 d) ≡ replaced s at (bytes 1 a ++ (bytes 1 b ++ (bytes 1 c ++ bytes 1 d)))
+four-bytes s at a b c d l =
     let x : List ℕ = bytes 1 a ++ bytes 1 b in
     let y : List ℕ = x ++ bytes 1 c in
     rw (
-      replaced-joined s at second (bytes 1 a) (bytes 1 b) l (rw length-bytes e),
-      replaced-joined s at third x (bytes 1 c) l (simp (length-append, length-bytes) f),
-      replaced-joined s at fourth y (bytes 1 d) l (simp (length-append, length-bytes) g),
+      replaced-joined s at (at + 1) (bytes 1 a) (bytes 1 b) l (simp length-bytes),
+      replaced-joined s at (at + 2) x (bytes 1 c) l (simp (length-append, length-bytes)),
+      replaced-joined s at (at + 3) y (bytes 1 d) l (simp (length-append, length-bytes)),
     )
     (simp append-assoc)

@@ -3,6 +3,7 @@
 // Nothing here knows what the bytes are for. Whoever writes says by `replaced` which bytes took the place of which; all others stay.
 // A number is read and written by one function for every width, so that its proof is one proof.
 ghost use mathlib.Core.Path.{_≡_};
+ghost use mathlib.Core.List.{_++_};
 ghost use Prim.Native.Nat.{_+_, _≤_, _<_, _^_};
 ghost use lib.ListN.{length, replicate};
 ghost use Rattle.wire.specs.Parts.{part, replaced};
@@ -103,6 +104,17 @@ pub fn put_u64(s: &mut [u8], at: usize, x: u64)
     ensures { λ _. ⌜ now (s .exit) ≡ replaced (now (s .entry)) at (bytes 8 x) ⌝ }
 {
     put_number(s, at, 8, x)
+}
+
+// Four numbers of a byte each, side by side.
+pub fn put_four_u8(s: &mut [u8], at: usize, a: u8, b: u8, c: u8, d: u8)
+    requires { ⌜ at + 4 ≤ length (now s) ⌝ }
+    ensures { λ _. ⌜ now (s .exit) ≡ replaced (now (s .entry)) at (bytes 1 a ++ (bytes 1 b ++ (bytes 1 c ++ bytes 1 d))) ⌝ }
+{
+    put_u8(s, at, a);
+    put_u8(s, at + 1, b);
+    put_u8(s, at + 2, c);
+    put_u8(s, at + 3, d);
 }
 
 // Copies a lent part, whole, into another slice from `at`.

@@ -27,8 +27,11 @@ add-put-u32 c = search needs
 put-u32-requires : tie.Need-put-u32-requires
 put-u32-requires c κs = search needs
 
-write-single-bytes-requires : tie.Need-write-single-bytes-requires
-write-single-bytes-requires c κs = search needs
+add-put-four-u8 : tie.Need-add-put-four-u8
+add-put-four-u8 c = search needs
+
+put-four-u8-requires : tie.Need-put-four-u8-requires
+put-four-u8-requires c κs = search needs
 
 same-length : tie.Need-same-length
 same-length c = search needs
@@ -38,7 +41,7 @@ returns c =
     let p = c .before .before .before .before .before .before .before .before .before .before .before .before .before .before .before .before .before in
     let a = p .args in
     rw (
-      c .before .before .write-single-bytes .ensures,
+      c .before .before .put-four-u8 .ensures,
       c .before .before .before .before .before .before .put-u32 .ensures,
       c .before .before .before .before .before .before .before .before .before .before .put-u642 .ensures,
       c .before .before .before .before .before .before .before .before .before .before .before .before .before .before .put-u64 .ensures,
@@ -55,6 +58,7 @@ write-row-spec =
     put-u64-requires-2
     add-put-u32
     put-u32-requires
-    write-single-bytes-requires
+    add-put-four-u8
+    put-four-u8-requires
     same-length
     returns)

@@ -5,8 +5,8 @@ use Rattle.table.proofs.Headers.{header-steps}
 use Rattle.table.proofs.header.write.Statement.{statement}
 use Rattle.table.proofs.header.write.Tie as tie
 
-write-single-bytes-requires : tie.Need-write-single-bytes-requires
-write-single-bytes-requires c κs = search needs
+put-four-u8-requires : tie.Need-put-four-u8-requires
+put-four-u8-requires c κs = search needs
 
 write-four-byte-fields-requires : tie.Need-write-four-byte-fields-requires
 write-four-byte-fields-requires c κs = search needs
@@ -19,8 +19,8 @@ returns c =
     let p = c .before .before .before .before .before .before .before .before .before in
     rw (
       c .before .before .write-four-byte-fields .ensures,
-      c .before .before .before .before .before .before .write-single-bytes .ensures,
+      c .before .before .before .before .before .before .put-four-u8 .ensures,
     ) (header-steps (now (p .args .s)) (p .args .h) (p .pre))
 
 pub write-spec : {M : Type 1} → statement M
-write-spec = tie.close (tie.spec write-single-bytes-requires write-four-byte-fields-requires same-length returns)
+write-spec = tie.close (tie.spec put-four-u8-requires write-four-byte-fields-requires same-length returns)
