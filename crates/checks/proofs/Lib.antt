@@ -1,0 +1,4 @@
+pub mod Steps
+pub mod Registers
+pub mod StateBytes
+pub mod Rounds

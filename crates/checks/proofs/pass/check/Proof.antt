@@ -1,0 +1,74 @@
+-- The rows from i on were passed: the running answers are what they say.
+use mathlib.Core.Path.{_≡_, sym, ap, _∙_}
+use Prim.Native.Nat.{_+_, _-_, _*_, _≤_}
+use native.Mathlib.Omega.{arith}
+use denote.Ref.{now}
+use Rattle.rows.specs.Read.{bodyAt, rowsAt}
+use Rattle.checks.specs.declared.pass.Seen.{Seen}
+use Rattle.checks.specs.Given.{checkedAs}
+use Rattle.checks.specs.Passed.{seenOf, answerOf}
+use Rattle.checks.proofs.Steps.{rows-step, rows-none, rows-all}
+use Rattle.checks.proofs.Rounds.{seen-step, seen-none, answer-check}
+use Rattle.checks.proofs.pass.check.Statement.{statement}
+use Rattle.checks.proofs.pass.check.Tie as tie
+
+abbrev Inv-loop : tie.InvT-loop
+Inv-loop image begin rows stamp body reads writes seen₀ i₀ seen i = (i ≤ rows) × (seen ≡ seenOf stamp (bodyAt body 0 reads writes) (rowsAt image (begin + 24 * i) (rows - i)))
+
+abbrev μ-loop : tie.MeasureT-loop
+μ-loop image begin rows stamp body reads writes seen₀ i₀ seen i = i
+
+loop-holds : tie.Need-loop-holds Inv-loop μ-loop
+loop-holds c =
+    let a = c .before .before .args in
+    (omega arith, sym (ap (seenOf _ _) (rows-none (now (a .image)) _ (a .rows)) ∙ seen-none _ _))
+
+sub-i : tie.Need-sub-i Inv-loop μ-loop
+sub-i c = omega arith
+
+row-at-requires : tie.Need-row-at-requires Inv-loop μ-loop
+row-at-requires c κs = omega (arith, c .before .before .before .before .pre .0 .0)
+
+with-row-requires : tie.Need-with-row-requires Inv-loop μ-loop
+with-row-requires c κs =
+    let p = c .before .before .before .before .before in
+    (rw (c .row-at .ensures) (p .pre .0 .1 (c .before .before .loop .i - 1) (omega arith)), p .pre .1)
+
+loop-less : tie.Need-loop-less Inv-loop μ-loop
+loop-less c = omega arith
+
+loop-again : tie.Need-loop-again Inv-loop μ-loop
+loop-again c =
+    let l = c .before .before .before in
+    let a = l .before .before .before .args in
+    let x = bodyAt (now (a .body)) 0 (a .reads) (a .writes) in
+    let step = rows-step (now (a .image)) (a .begin) (a .rows) (l .loop .i) (c .before .before .loop-test .taken) (l .loop .inv .0) in
+    (omega arith, c .with-row .ensures ∙ rw (c .before .row-at .ensures, l .loop .inv .1) (sym (ap (seenOf (a .stamp) x) step ∙ seen-step (a .stamp) x _ _)))
+
+answer-requires : tie.Need-answer-requires Inv-loop μ-loop
+answer-requires c κs = tt
+
+returns : tie.Need-returns Inv-loop μ-loop
+returns c =
+    let l = c .before .before in
+    let a = l .before .before .before .args in
+    let x = bodyAt (now (a .body)) 0 (a .reads) (a .writes) in
+    let all = rows-all (now (a .image)) (a .begin) (a .rows) (l .loop .i) (omega arith) in
+    c .answer .ensures
+    ∙ ap (λ (seen : Seen). checkedAs (answerOf seen)) (l .loop .inv .1 ∙ ap (seenOf (a .stamp) x) all)
+    ∙ ap checkedAs (answer-check (a .stamp) x (rowsAt (now (a .image)) (a .begin) (a .rows)))
+
+pub check-spec : {M : Type 1} → statement M
+check-spec =
+    tie.close
+    (tie.spec
+    Inv-loop
+    μ-loop
+    loop-holds
+    sub-i
+    row-at-requires
+    with-row-requires
+    loop-less
+    loop-again
+    answer-requires
+    returns)

@@ -1,0 +1,3 @@
+pub mod Sought
+pub mod Given
+pub mod Passed

@@ -1,0 +1,57 @@
+// Whether two transactions clash: one read a register at a version, and the other writes it between that version and the reader's stamp.
+use crate::accesses;
+use crate::accesses::Write;
+ghost use mathlib.Core.Path.{_≡_};
+ghost use Prim.Native.Nat.{_+_, _*_, _≤_, _<_};
+ghost use lib.ListN.{length};
+ghost use Rattle.rules.specs.Check.{overwrites, clash};
+ghost use Rattle.rows.specs.Read.{accessesAt, bodyAt};
+
+// Whether one of the reads of a body is of a version below `w` and of a register that a transaction at `w` writes; the reader's stamp `s` is above.
+fn overwrites(
+    w: u64,
+    writer: &[u8],
+    from: usize,
+    writes: usize,
+    s: u64,
+    reader: &[u8],
+    reads: usize,
+) -> bool
+    requires { ⌜ (9 * (from + writes) ≤ length (now writer)) × (9 * reads ≤ length (now reader)) × (w < s) ⌝ }
+    ensures { λ r. ⌜ r ≡ overwrites w (accessesAt (now (writer .entry)) (9 * from) writes) s (accessesAt (now (reader .entry)) 0 reads) ⌝ }
+{
+    let mut i: usize = 0;
+    while i < reads {
+        let read = rows::body::access_at(reader, i);
+        if read.number < w {
+            let Write::Missing = accesses::write_to(writer, from, writes, read.register) else {
+                return true;
+            };
+        }
+        i += 1;
+    }
+    false
+}
+
+// Whether a transaction clashes with another one. Only the one with the greater stamp can have read too early, so one side is looked at.
+pub fn clashes(
+    stamp: u64,
+    body: &[u8],
+    reads: usize,
+    writes: usize,
+    other: u64,
+    held: &[u8],
+    read: usize,
+    wrote: usize,
+) -> bool
+    requires { ⌜ (9 * (reads + writes) ≤ length (now body)) × (9 * (read + wrote) ≤ length (now held)) ⌝ }
+    ensures { λ r. ⌜ r ≡ clash stamp (bodyAt (now (body .entry)) 0 reads writes) other (bodyAt (now (held .entry)) 0 read wrote) ⌝ }
+{
+    if other < stamp {
+        return overwrites(other, held, read, wrote, stamp, body, reads);
+    }
+    if stamp < other {
+        return overwrites(stamp, body, reads, writes, other, held, read);
+    }
+    false
+}

@@ -1,0 +1,149 @@
+// The check: one pass over the rows of a lent image, from the last to the first, with three running answers.
+use crate::clashes;
+use rows::row;
+use rows::row::RowFields;
+ghost use mathlib.Core.Path.{_≡_};
+ghost use Prim.Native.Nat.{_+_, _*_, _≤_};
+ghost use lib.Dec.{eqb};
+ghost use lib.ListN.{length};
+ghost use Rattle.rules.specs.Check.{check};
+ghost use Rattle.rows.specs.Read.{rowOf, rowsAt, bodyAt};
+ghost use Rattle.rows.specs.Rows.{BodyInside, RowsInside};
+ghost use Rattle.checks.specs.Given.{checkedAs};
+ghost use Rattle.checks.specs.Passed.{acceptedBytes, withClash, rowClashes, seenWith, answerOf};
+
+// The check's result as a row has it: its code and its retry stamp.
+pub struct Checked {
+    pub code: u8,
+    pub retry: u64,
+}
+
+// What the rows passed say: whether A holds of one, the greatest stamp that B holds of or 0, whether C holds of one.
+pub struct Seen {
+    pub abort: bool,
+    pub retry: u64,
+    pub abstain: bool,
+}
+
+// Whether a row is committed or prepared. Of the others no rule speaks, and their bodies aren't looked at.
+fn accepted(prepare: u8, outcome: u8) -> bool
+    ensures { λ r. ⌜ r ≡ acceptedBytes prepare outcome ⌝ }
+{
+    if outcome == 3 {
+        return true;
+    }
+    if 2 < outcome {
+        return false;
+    }
+    prepare == 1 || prepare == 5
+}
+
+// Whether a row is accepted and clashes with the transaction.
+fn row_clashes(
+    image: &[u8],
+    row: RowFields,
+    stamp: u64,
+    body: &[u8],
+    reads: usize,
+    writes: usize,
+) -> bool
+    requires { ⌜ BodyInside (now image) row × (9 * (reads + writes) ≤ length (now body)) ⌝ }
+    ensures { λ r. ⌜ r ≡ rowClashes stamp (bodyAt (now (body .entry)) 0 reads writes) (rowOf (now (image .entry)) row) ⌝ }
+{
+    if accepted(row.prepare, row.outcome) {
+        return clashes::clashes(
+            stamp,
+            body,
+            reads,
+            writes,
+            row.stamp,
+            row::body_of(image, row),
+            row.reads as usize,
+            row.writes as usize,
+        );
+    }
+    false
+}
+
+// One more accepted row clashes. A committed one below the stamp wrote what was read too early: A. One above read too early what is written: B.
+fn with_clash(mut seen: Seen, other: u64, outcome: u8, stamp: u64) -> Seen
+    ensures { λ r. ⌜ r ≡ withClash (eqb outcome 3) other stamp seen ⌝ }
+{
+    if outcome != 3 {
+        seen.abstain = true;
+        return seen;
+    }
+    if other < stamp {
+        seen.abort = true;
+        return seen;
+    }
+    if seen.retry < other {
+        seen.retry = other;
+    }
+    seen
+}
+
+// One more row.
+fn with_row(
+    seen: Seen,
+    image: &[u8],
+    row: RowFields,
+    stamp: u64,
+    body: &[u8],
+    reads: usize,
+    writes: usize,
+) -> Seen
+    requires { ⌜ BodyInside (now image) row × (9 * (reads + writes) ≤ length (now body)) ⌝ }
+    ensures { λ r. ⌜ r ≡ seenWith stamp (bodyAt (now (body .entry)) 0 reads writes) (rowOf (now (image .entry)) row) seen ⌝ }
+{
+    if row_clashes(image, row, stamp, body, reads, writes) {
+        return with_clash(seen, row.stamp, row.outcome, stamp);
+    }
+    seen
+}
+
+// What all rows together say: A comes first, then B, then C.
+fn answer(seen: Seen) -> Checked
+    ensures { λ r. ⌜ r ≡ checkedAs (answerOf seen) ⌝ }
+{
+    if seen.abort {
+        return Checked { code: 2, retry: 0 };
+    }
+    if 0 < seen.retry {
+        return Checked {
+            code: 4,
+            retry: seen.retry,
+        };
+    }
+    if seen.abstain {
+        return Checked { code: 3, retry: 0 };
+    }
+    Checked { code: 1, retry: 0 }
+}
+
+// What the check says of a transaction at a stamp whose body is lent: a part of the table or of a message.
+pub fn check(
+    image: &[u8],
+    begin: usize,
+    rows: usize,
+    stamp: u64,
+    body: &[u8],
+    reads: usize,
+    writes: usize,
+) -> Checked
+    requires { ⌜ RowsInside (now image) begin rows × (9 * (reads + writes) ≤ length (now body)) ⌝ }
+    ensures { λ r. ⌜ r ≡ checkedAs (check (rowsAt (now (image .entry)) begin rows) stamp (bodyAt (now (body .entry)) 0 reads writes)) ⌝ }
+{
+    let mut seen = Seen {
+        abort: false,
+        retry: 0,
+        abstain: false,
+    };
+    let mut i = rows;
+    while 0 < i {
+        i -= 1;
+        let row = row::row_at(image, begin, i);
+        seen = with_row(seen, image, row, stamp, body, reads, writes);
+    }
+    answer(seen)
+}
