@@ -1,0 +1,3 @@
+pub mod Messages
+pub mod Read
+pub mod Begun

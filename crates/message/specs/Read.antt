@@ -1,0 +1,36 @@
+-- What reading a message gives.
+use mathlib.Core.List.{List}
+use mathlib.Core.Option.{Option, none, some}
+use Prim.Native.Nat.{ℕ}
+use lib.ListN.{drop}
+use Rattle.rules.specs.Tests.{provided}
+use Rattle.rules.specs.Tables.{Model}
+use Rattle.rules.specs.Messages as rules
+use Rattle.rules.specs.Messages.{Message.proposePrepare, Message.finalisePrepare, Message.proposeOutcome, Message.finaliseOutcome, Message.changeView, Message.startView, Message.readRegister}
+use Rattle.rules.specs.Circumstances.{messageByRule}
+use Rattle.rows.specs.Fields.{resultNumbered, verdictNumbered}
+use Rattle.rows.specs.Read.{bodyAt}
+use Rattle.table.specs.Images.{Form}
+use Rattle.table.specs.Parse.{tableAt}
+use Rattle.message.specs.declared.kinds.Message.{Message}
+use Rattle.message.specs.declared.kinds.Message.the-variants.{ProposePrepare, FinalisePrepare, ProposeOutcome, FinaliseOutcome, ChangeView, StartView, ReadRegister, Bad}
+use Rattle.message.specs.Messages.{messageAt}
+
+-- the message of `rules` that an answer of the reader stands for, with the body or the image that lies in the message's bytes
+abbrev pub meant : Form → List ℕ → Message → Option rules.Message
+meant F s (ProposePrepare stamp reads writes) = some (proposePrepare stamp (bodyAt s 11 reads writes))
+meant F s (FinalisePrepare stamp view code retry) = some (finalisePrepare stamp view (resultNumbered code retry))
+meant F s (ProposeOutcome stamp code reads writes) = some (proposeOutcome stamp (verdictNumbered code) (bodyAt s 12 reads writes))
+meant F s (FinaliseOutcome stamp view code) = some (finaliseOutcome stamp view (verdictNumbered code))
+meant F s (ChangeView view) = some (changeView view)
+meant F s (StartView view) = some (startView view (tableAt F (drop 5 s)))
+meant F s (ReadRegister stamp register) = some (readRegister stamp register)
+meant F s Bad = none
+
+-- a message that keeps the rules of a group of n, or none: what is left is "bad message"
+abbrev pub lawful : Model → ℕ → Option rules.Message → Option rules.Message
+lawful M n none = none
+lawful M n (some m) = provided (messageByRule M n m) m
+
+unfoldable pub messageTo : Form → Model → ℕ → List ℕ → Option rules.Message
+messageTo F M n s = lawful M n (messageAt F s)
