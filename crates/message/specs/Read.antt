@@ -1,4 +1,6 @@
 -- What reading a message gives.
+use mathlib.Core.Path.{_≡_}
+use mathlib.Core.Bool.{true}
 use mathlib.Core.List.{List}
 use mathlib.Core.Option.{Option, none, some}
 use Prim.Native.Nat.{ℕ}
@@ -14,7 +16,7 @@ use Rattle.table.specs.Images.{Form}
 use Rattle.table.specs.Parse.{tableAt}
 use Rattle.message.specs.declared.kinds.Message.{Message}
 use Rattle.message.specs.declared.kinds.Message.the-variants.{ProposePrepare, FinalisePrepare, ProposeOutcome, FinaliseOutcome, ChangeView, StartView, ReadRegister, Bad}
-use Rattle.message.specs.Messages.{messageAt}
+use Rattle.message.specs.Messages.{resultByCode, verdictByCode, messageAt}
 
 -- the message of `rules` that an answer of the reader stands for, with the body or the image that lies in the message's bytes
 abbrev pub meant : Form → List ℕ → Message → Option rules.Message
@@ -34,3 +36,14 @@ lawful M n (some m) = provided (messageByRule M n m) m
 
 unfoldable pub messageTo : Form → Model → ℕ → List ℕ → Option rules.Message
 messageTo F M n s = lawful M n (messageAt F s)
+
+-- the codes that are handed on are codes of the list: "result 1 to 4, retry stamp (by the rows' rule)", "1 commit or 2 abort"
+abbrev pub Coded : Message → Type 0
+Coded (ProposePrepare stamp reads writes) = Unit {0}
+Coded (FinalisePrepare stamp view code retry) = resultByCode code retry ≡ true
+Coded (ProposeOutcome stamp code reads writes) = verdictByCode code ≡ true
+Coded (FinaliseOutcome stamp view code) = verdictByCode code ≡ true
+Coded (ChangeView view) = Unit {0}
+Coded (StartView view) = Unit {0}
+Coded (ReadRegister stamp register) = Unit {0}
+Coded Bad = Unit {0}

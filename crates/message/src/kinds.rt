@@ -8,7 +8,7 @@ ghost use Rattle.rules.specs.Tables as rules;
 ghost use Rattle.table.specs.Images.{formatOne};
 ghost use Rattle.table.specs.Models.{modelOf};
 ghost use Rattle.message.specs.Messages.{prepareProposal, prepareFinal, outcomeProposal, outcomeFinal, viewChange, viewStart, registerRead};
-ghost use Rattle.message.specs.Read.{meant, lawful, messageTo};
+ghost use Rattle.message.specs.Read.{meant, lawful, messageTo, Coded};
 
 // A message that keeps every rule, by its fields. A body lies behind the counts, at 11 or 12; an image at 5.
 pub enum Message {
@@ -50,6 +50,7 @@ pub enum Message {
 // Kind 1, propose prepare. Bytes before the body are read only where they are there.
 fn prepare_proposal(message: &[u8]) -> Message
     ensures { λ r. ⌜ ((M : rules.Model) (n : ℕ) → meant formatOne (now (message .entry)) r ≡ lawful M n (prepareProposal (now (message .entry)))) ⌝ }
+    ensures { λ r. ⌜ Coded r ⌝ }
 {
     if message.len() < 11 {
         return Message::Bad;
@@ -70,6 +71,7 @@ fn prepare_proposal(message: &[u8]) -> Message
 // Kind 2, finalise prepare. Any view of four bytes is one.
 fn prepare_final(message: &[u8]) -> Message
     ensures { λ r. ⌜ ((M : rules.Model) (n : ℕ) → meant formatOne (now (message .entry)) r ≡ lawful M n (prepareFinal (now (message .entry)))) ⌝ }
+    ensures { λ r. ⌜ Coded r ⌝ }
 {
     if message.len() != 22 {
         return Message::Bad;
@@ -92,6 +94,7 @@ fn prepare_final(message: &[u8]) -> Message
 // Kind 3, propose outcome.
 fn outcome_proposal(message: &[u8]) -> Message
     ensures { λ r. ⌜ ((M : rules.Model) (n : ℕ) → meant formatOne (now (message .entry)) r ≡ lawful M n (outcomeProposal (now (message .entry)))) ⌝ }
+    ensures { λ r. ⌜ Coded r ⌝ }
 {
     if message.len() < 12 {
         return Message::Bad;
@@ -114,6 +117,7 @@ fn outcome_proposal(message: &[u8]) -> Message
 // Kind 4, finalise outcome.
 fn outcome_final(message: &[u8]) -> Message
     ensures { λ r. ⌜ ((M : rules.Model) (n : ℕ) → meant formatOne (now (message .entry)) r ≡ lawful M n (outcomeFinal (now (message .entry)))) ⌝ }
+    ensures { λ r. ⌜ Coded r ⌝ }
 {
     if message.len() != 14 {
         return Message::Bad;
@@ -134,6 +138,7 @@ fn outcome_final(message: &[u8]) -> Message
 // Kind 5, change view: four bytes are always a view.
 fn view_change(message: &[u8]) -> Message
     ensures { λ r. ⌜ ((M : rules.Model) (n : ℕ) → meant formatOne (now (message .entry)) r ≡ lawful M n (viewChange (now (message .entry)))) ⌝ }
+    ensures { λ r. ⌜ Coded r ⌝ }
 {
     if message.len() != 5 {
         return Message::Bad;
@@ -147,6 +152,7 @@ fn view_change(message: &[u8]) -> Message
 fn view_start(message: &[u8], n: u8, model: Model) -> Message
     requires { ⌜ 0 < n ⌝ }
     ensures { λ r. ⌜ meant formatOne (now (message .entry)) r ≡ lawful (modelOf model) n (viewStart formatOne (now (message .entry))) ⌝ }
+    ensures { λ r. ⌜ Coded r ⌝ }
 {
     if message.len() < 5 {
         return Message::Bad;
@@ -161,6 +167,7 @@ fn view_start(message: &[u8], n: u8, model: Model) -> Message
 // Kind 7, read.
 fn register_read(message: &[u8]) -> Message
     ensures { λ r. ⌜ ((M : rules.Model) (n : ℕ) → meant formatOne (now (message .entry)) r ≡ lawful M n (registerRead (now (message .entry)))) ⌝ }
+    ensures { λ r. ⌜ Coded r ⌝ }
 {
     if message.len() != 10 {
         return Message::Bad;
@@ -180,6 +187,7 @@ fn register_read(message: &[u8]) -> Message
 pub fn read(message: &[u8], n: u8, model: Model) -> Message
     requires { ⌜ 0 < n ⌝ }
     ensures { λ r. ⌜ meant formatOne (now (message .entry)) r ≡ messageTo formatOne (modelOf model) n (now (message .entry)) ⌝ }
+    ensures { λ r. ⌜ Coded r ⌝ }
 {
     if message.len() < 1 {
         return Message::Bad;

@@ -5,6 +5,7 @@ pub mod Reordered
 pub mod Same
 pub mod Groups
 pub mod Numbers
+pub mod NumberExactly
 pub mod Check
 pub mod Rows
 pub mod Tables

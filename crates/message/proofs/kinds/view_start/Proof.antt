@@ -16,7 +16,7 @@ use Rattle.message.proofs.kinds.view_start.Statement.{statement}
 use Rattle.message.proofs.kinds.view_start.Tie as tie
 
 returns : tie.Need-returns
-returns c = rw (short-start _ _ _ (c .if1 .taken))
+returns c = (rw (short-start _ _ _ (c .if1 .taken)), tt)
 
 u32-at-requires : tie.Need-u32-at-requires
 u32-at-requires c κs = search needs
@@ -44,10 +44,10 @@ told c =
     started-view _ _ s _ _ (all-of s (λ i. c .before .before .before .before .shared-slice-known .given i .fits)) l (c .before .before .u32-at .ensures) (c .valid .ensures)
 
 returns-2 : tie.Need-returns-2
-returns-2 c = rw (told (c .before), c .if2 .taken)
+returns-2 c = (rw (told (c .before), c .if2 .taken), tt)
 
 returns-3 : tie.Need-returns-3
-returns-3 c = rw (told (c .before), c .if2 .left)
+returns-3 c = (rw (told (c .before), c .if2 .left), tt)
 
 pub view-start-spec : {M : Type 1} → statement M
 view-start-spec =

@@ -1,0 +1,52 @@
+-- The answer call: any bytes in its three buffers, to the number, the table buffer and the reply buffer after it.
+use mathlib.Core.Bool.{true, cond}
+use mathlib.Core.List.{List, [], _∷_}
+use mathlib.Core.Option.{Option, none, some}
+use Prim.Native.Nat.{ℕ}
+use lib.Dec.{eqb}
+use lib.ListN.{length}
+use Rattle.wire.specs.Parts.{replaced}
+use Rattle.rules.specs.Tests.{either}
+use Rattle.rules.specs.Tables.{Model, Table}
+use Rattle.rules.specs.Numbers.{Number.smallBuffer, Number.badTable, Number.badMessage, Circumstance, number}
+use Rattle.rules.specs.Messages.{Message, tableAfter}
+use Rattle.rules.specs.Circumstances.{tooSmall, replyTooSmall, belowLimit, circumstances}
+use Rattle.rules.specs.Answers as rules
+use Rattle.rules.specs.Check.{check}
+use Rattle.table.specs.Images.{formatOne}
+use Rattle.table.specs.Parse.{parse}
+use Rattle.edit.specs.Edited.{edited}
+use Rattle.message.specs.Messages.{messageAt}
+use Rattle.transact.specs.Replies.{replyAs, replyBytes}
+
+-- 2, "bad table", and 3, "bad message": bytes that are no table, or no message, have nothing else to be refused for
+abbrev pub callCircumstances : Model → Option Table → Option Message → List Circumstance
+callCircumstances M none m = (badTable, true) ∷ []
+callCircumstances M (some T) none = (badMessage, true) ∷ []
+callCircumstances M (some T) (some m) = circumstances M belowLimit T m
+
+-- 1, "small buffer": "table or output buffer (not a merge's run) below 49,176, or reply buffer below 24"
+unfoldable pub callNumber : Model → List ℕ → List ℕ → List ℕ → ℕ
+callNumber M table message reply =
+    number ((smallBuffer, either (tooSmall M (length table)) (replyTooSmall (length reply))) ∷ callCircumstances M (parse formatOne M table) (messageAt formatOne message))
+
+-- the table after a message that is taken
+abbrev pub changeBy : Option Message → Table → Table
+changeBy none T = T
+changeBy (some m) T = tableAfter check T m
+
+-- "Refusals keep the table"
+unfoldable pub callTable : Model → List ℕ → List ℕ → List ℕ → List ℕ
+callTable M table message reply = cond (eqb (callNumber M table message reply) 0) (edited formatOne (changeBy (messageAt formatOne message)) table) table
+
+-- a reply to what was taken, or "the number in byte 0 and 23 zero bytes"
+abbrev pub replyTo : ℕ → Option Table → Option Message → rules.Reply
+replyTo k none m = rules.refusal k
+replyTo k (some T) none = rules.refusal k
+replyTo k (some T) (some m) = cond (eqb k 0) (rules.replyFrom (tableAfter check T m) m) (rules.refusal k)
+
+-- "except number 1, which writes nothing. Bytes of a reply buffer past 24 never change."
+unfoldable pub callReply : Model → List ℕ → List ℕ → List ℕ → List ℕ
+callReply M table message reply =
+    let k = callNumber M table message reply in
+    cond (eqb k 1) reply (replaced reply 0 (replyBytes (replyAs (replyTo k (parse formatOne M table) (messageAt formatOne message)))))

@@ -1,0 +1,53 @@
+// The answer call: any bytes in all three buffers.
+use transact::reply;
+use transact::reply::Reply;
+use crate::serve;
+use table::header;
+use table::image;
+use table::image::Found;
+use table::model::Model;
+ghost use mathlib.Core.Path.{_≡_};
+ghost use Prim.Native.Nat.{_+_, _*_, _≤_};
+ghost use lib.ListN.{length};
+ghost use Rattle.rules.specs.Tables.{valley};
+ghost use Rattle.table.specs.Images.{formatOne};
+ghost use Rattle.table.specs.Parse.{parse};
+ghost use Rattle.transact.specs.Served.{limited};
+ghost use Rattle.answer.specs.Heard.{heardReply, heardBuffer};
+ghost use Rattle.answer.specs.Calls.{callNumber, callTable, callReply};
+
+// The reply to any bytes of a message, by the table of at most `limit` rows that a buffer begins with, or by none.
+fn respond(table: &mut [u8], message: &[u8], limit: u16) -> Reply
+    requires { ⌜ (limit ≤ 512) × (24 + 96 * limit ≤ length (now table)) ⌝ }
+    ensures { λ r. ⌜ r ≡ heardReply (limited limit) (now (message .entry)) (parse formatOne (limited limit) (now (table .entry))) ⌝ }
+    ensures { λ _. ⌜ now (table .exit) ≡ heardBuffer (limited limit) (now (message .entry)) (now (table .entry)) (parse formatOne (limited limit) (now (table .entry))) ⌝ }
+{
+    let model = Model {
+        limit,
+        least: 24 + 96 * limit as usize,
+    };
+    let Found::Image { length: _ } = image::find(table, model) else {
+        return Reply::refusal(2);
+    };
+    let n = header::read(table).n;
+    let asked = message::kinds::read(message, n, model);
+    serve::serve(table, message, asked, limit)
+}
+
+// A box's answer: the number; the table and the reply are left in their buffers.
+pub fn answer(table: &mut [u8], message: &[u8], reply: &mut [u8]) -> u8
+    ensures { λ r. ⌜ r ≡ callNumber valley (now (table .entry)) (now (message .entry)) (now (reply .entry)) ⌝ }
+    ensures { λ _. ⌜ now (table .exit) ≡ callTable valley (now (table .entry)) (now (message .entry)) (now (reply .entry)) ⌝ }
+    ensures { λ _. ⌜ now (reply .exit) ≡ callReply valley (now (table .entry)) (now (message .entry)) (now (reply .entry)) ⌝ }
+{
+    let model = Model::valley();
+    if table.len() < model.least {
+        return 1;
+    }
+    if reply.len() < reply::LENGTH {
+        return 1;
+    }
+    let said = respond(table, message, model.limit);
+    reply::write(reply, said);
+    said.number
+}

@@ -1,0 +1,53 @@
+// A message that was read, handed to the function of its kind.
+use transact::outcome;
+use transact::prepare;
+use crate::read;
+use transact::reply::Reply;
+use crate::views;
+use message::kinds::Message;
+ghost use mathlib.Core.Path.{_≡_};
+ghost use Prim.Native.Nat.{_+_, _*_, _≤_};
+ghost use lib.ListN.{length};
+ghost use Rattle.rules.specs.Tables.{valley};
+ghost use Rattle.table.specs.Headers.{headerAt};
+ghost use Rattle.table.specs.Images.{formatOne};
+ghost use Rattle.message.specs.Read.{meant, messageTo, Coded};
+ghost use Rattle.transact.specs.Served.{limited, Lawful};
+ghost use Rattle.answer.specs.Heard.{answerReply, answerBuffer};
+
+// The answer to one of the seven messages, or to none.
+pub fn serve(table: &mut [u8], message: &[u8], asked: Message, limit: u16) -> Reply
+    requires { ⌜ Lawful valley (now table) × (limit ≤ 512) × (24 + 96 * limit ≤ length (now table)) ⌝ }
+    requires { ⌜ (meant formatOne (now message) asked ≡ messageTo formatOne (limited limit) (headerAt (now table) .n) (now message)) × Coded asked ⌝ }
+    ensures { λ r. ⌜ r ≡ answerReply (limited limit) (meant formatOne (now (message .entry)) asked) (now (table .entry)) ⌝ }
+    ensures { λ _. ⌜ now (table .exit) ≡ answerBuffer (limited limit) (meant formatOne (now (message .entry)) asked) (now (table .entry)) ⌝ }
+{
+    match asked {
+        Message::ProposePrepare {
+            stamp,
+            reads,
+            writes,
+        } => prepare::propose_prepare(table, message, stamp, reads, writes, limit),
+        Message::FinalisePrepare {
+            stamp,
+            view,
+            result,
+            retry,
+        } => prepare::finalise_prepare(table, stamp, view, result, retry),
+        Message::ProposeOutcome {
+            stamp,
+            verdict,
+            reads,
+            writes,
+        } => outcome::propose_outcome(table, message, stamp, verdict, reads, writes, limit),
+        Message::FinaliseOutcome {
+            stamp,
+            view,
+            verdict,
+        } => outcome::finalise_outcome(table, stamp, view, verdict),
+        Message::ChangeView { view } => views::change_view(table, view),
+        Message::StartView { view } => views::start_view(table, &message[5..], view),
+        Message::ReadRegister { stamp, register } => read::read_register(table, stamp, register),
+        Message::Bad => Reply::refusal(3),
+    }
+}

@@ -1,0 +1,10 @@
+pub mod ReplySteps
+pub mod Serving
+pub mod HeldRows
+pub mod BodiesAlike
+pub mod SoughtRows
+pub mod CodesMeant
+pub mod Finalised
+pub mod Proposals
+pub mod NewRows
+pub mod Proposed

@@ -1,0 +1,159 @@
+-- What a message finds, by what the header says and where its stamp stands.
+use mathlib.Core.Path.{_≡_, refl, sym, ap, _∙_}
+use mathlib.Core.Bool.{Bool, true, false, not}
+use mathlib.Core.List.{List}
+use mathlib.Core.Option.{none, some}
+use Prim.Native.Nat.{ℕ, _+_, _*_, _≤_}
+use lib.Dec.{ltb}
+use lib.ListN.{length}
+use borrow.Author.Tests.{eq-eqb, ne-eqb}
+use Rattle.wire.specs.Numbers.{AllBytes}
+use Rattle.rules.specs.Groups.{fOf}
+use Rattle.rules.specs.Tables.{Row, Model, valley, rising}
+use Rattle.rules.specs.Circumstances.{belowLimit, isChanging, forOtherView, heldWithOtherBody, newButFull}
+use Rattle.rules.specs.Tests.{both}
+use Rattle.rules.specs.Stamps.{Body, sameBody}
+use Rattle.rules.specs.Messages.{held}
+use Rattle.rules.proofs.Same.{same-body}
+use Rattle.rows.specs.declared.lookup.Place.{Place}
+use Rattle.rows.specs.declared.lookup.Place.the-variants.{Held, Absent}
+use Rattle.rows.specs.declared.row.RowFields.{RowFields}
+use Rattle.rows.specs.Fields.{fieldsAt}
+use Rattle.rows.proofs.Sought.{absent-none}
+use Rattle.rows.proofs.Bodies.{length-accessesAt}
+use Rattle.rows.specs.Places.{placeOf}
+use Rattle.rows.specs.Read.{rowsAt, begins, bodyAt, rowOf}
+use Rattle.rows.specs.Rows.{RowsInside, BodyInside, bodyPart}
+use Rattle.table.specs.declared.header.Header.{Header}
+use Rattle.table.specs.Headers.{headerAt}
+use Rattle.table.specs.Images.{formatOne}
+use Rattle.table.specs.Parse.{tableAt}
+use Rattle.table.proofs.Images.{Sound, Parsed, parsed, valley-sound}
+use Rattle.edit.proofs.Holding.{holds-rows, holds-rows-at}
+use Rattle.transact.specs.Served.{Lawful, limited}
+use Rattle.transact.specs.declared.seek.Proposal.the-variants as propose
+use Rattle.transact.specs.declared.seek.Finding.the-variants.{Refused}
+use Rattle.transact.specs.Sought.{rowOrUnknown, toFinalise, toPropose}
+use Rattle.transact.proofs.HeldRows.{held-here, index-here}
+use Rattle.transact.proofs.BodiesAlike.{bodies-alike}
+
+not-true : (b : Bool) → (b ≡ true → ⊥) → b ≡ false
+not-true true n = absurd (n refl)
+not-true false n = refl
+
+-- ---- the header's words
+
+module _ (s : List ℕ) where
+  pub said-changing : headerAt s .mode ≡ 1 → isChanging (tableAt formatOne s) ≡ true
+  unfolding isChanging tableAt
+  said-changing e = eq-eqb _ _ e
+
+  pub said-normal : (headerAt s .mode ≡ 1 → ⊥) → isChanging (tableAt formatOne s) ≡ false
+  unfolding isChanging tableAt
+  said-normal n = ne-eqb _ _ n
+
+  pub said-other-view : (v : ℕ) → (v ≡ headerAt s .view → ⊥) → forOtherView (tableAt formatOne s) v ≡ true
+  unfolding forOtherView tableAt
+  said-other-view v n = rw (ne-eqb _ _ n)
+
+  pub said-view : (v : ℕ) → v ≡ headerAt s .view → forOtherView (tableAt formatOne s) v ≡ false
+  unfolding forOtherView tableAt
+  said-view v e = rw (eq-eqb _ _ e)
+
+-- ---- rows that can be walked
+
+module _ (M : Model) (s : List ℕ) (sound : Sound formatOne M) (lawful : Lawful M s) where
+  read-off : Parsed formatOne s (tableAt formatOne s)
+  read-off = parsed formatOne M s (tableAt formatOne s) sound lawful
+
+  pub rows-inside : RowsInside s 24 (headerAt s .rows)
+  rows-inside = rw (holds-rows formatOne s) at (read-off .inside)
+
+  pub rows-rise : rising 0 (rowsAt s 24 (headerAt s .rows)) ≡ true
+  rows-rise = rw (holds-rows-at formatOne s) at (read-off .rise)
+
+  pub can-be-sought : (24 + 24 * headerAt s .rows ≤ length s) × (rising 0 (rowsAt s 24 (headerAt s .rows)) ≡ true)
+  can-be-sought = (rows-inside .0, rows-rise)
+
+-- ---- messages 2 and 4
+
+module _ (s : List ℕ) (stamp v : ℕ) where
+  pub finalise-changing : headerAt s .mode ≡ 1 → Refused 4 ≡ toFinalise (tableAt formatOne s) stamp v
+  unfolding toFinalise
+  finalise-changing e = rw (said-changing s e)
+
+  pub finalise-other-view : (headerAt s .mode ≡ 1 → ⊥) → (v ≡ headerAt s .view → ⊥) → Refused 9 ≡ toFinalise (tableAt formatOne s) stamp v
+  unfolding toFinalise
+  finalise-other-view normal other = rw (said-normal s normal, said-other-view s v other)
+
+  pub finalise-place : (headerAt s .mode ≡ 1 → ⊥) → v ≡ headerAt s .view → (place : Place) → place ≡ placeOf (rowsAt s 24 (headerAt s .rows)) stamp → rowOrUnknown place ≡ toFinalise (tableAt formatOne s) stamp v
+  unfolding toFinalise
+  finalise-place normal same place e = rw (said-normal s normal, said-view s v same) (ap rowOrUnknown (rw (← holds-rows-at formatOne s) at e))
+
+-- ---- messages 1 and 3
+
+pub room-is : (limit : ℕ) (h : Header) → ltb (h .rows) limit ≡ belowLimit limit (fOf (h .n)) (h .start) (h .rows)
+unfolding belowLimit
+room-is limit h = refl
+
+module _ (s : List ℕ) (stamp limit : ℕ) (x : Body) where
+  pub propose-changing : headerAt s .mode ≡ 1 → propose.Against 4 ≡ toPropose (limited limit) (tableAt formatOne s) stamp x
+  unfolding toPropose
+  propose-changing e = rw (said-changing s e)
+
+  module _ (normal : headerAt s .mode ≡ 1 → ⊥) where
+    pub propose-other : heldWithOtherBody (tableAt formatOne s) stamp x ≡ true → propose.Against 5 ≡ toPropose (limited limit) (tableAt formatOne s) stamp x
+    unfolding toPropose
+    propose-other other = rw (said-normal s normal, other)
+
+    pub propose-held : (i : ℕ) (r : Row) → placeOf (tableAt formatOne s .rows) stamp ≡ Held i → held (tableAt formatOne s .rows) stamp ≡ some r → heldWithOtherBody (tableAt formatOne s) stamp x ≡ false →
+        propose.Held i ≡ toPropose (limited limit) (tableAt formatOne s) stamp x
+    unfolding toPropose newButFull both
+    propose-held i r place there same = rw (said-normal s normal, same, there, place)
+
+    module _ (i : ℕ) (place : placeOf (tableAt formatOne s .rows) stamp ≡ Absent i) where
+      absent : held (tableAt formatOne s .rows) stamp ≡ none
+      absent = absent-none (tableAt formatOne s .rows) stamp i place
+
+      not-other : heldWithOtherBody (tableAt formatOne s) stamp x ≡ false
+      unfolding heldWithOtherBody
+      not-other = rw absent
+
+      room-told : belowLimit limit (fOf (headerAt s .n)) (headerAt s .start) (headerAt s .rows) ≡ belowLimit limit (fOf (tableAt formatOne s .n)) (tableAt formatOne s .start) (length (tableAt formatOne s .rows))
+      unfolding belowLimit
+      room-told = rw (holds-rows formatOne s)
+
+      pub propose-new : belowLimit limit (fOf (headerAt s .n)) (headerAt s .start) (headerAt s .rows) ≡ true → propose.New i ≡ toPropose (limited limit) (tableAt formatOne s) stamp x
+      unfolding toPropose newButFull both
+      propose-new room = let e = sym room-told ∙ room in rw (said-normal s normal, not-other, absent, e, place)
+
+      pub propose-full : belowLimit limit (fOf (headerAt s .n)) (headerAt s .start) (headerAt s .rows) ≡ false → propose.Against 7 ≡ toPropose (limited limit) (tableAt formatOne s) stamp x
+      unfolding toPropose newButFull both
+      propose-full room = let e = sym room-told ∙ room in rw (said-normal s normal, not-other, absent, e)
+
+-- the row that is held has another body, or not
+module _ (s m : List ℕ) (i : ℕ) (g : RowFields) (bytes : AllBytes s) (given : AllBytes m) (lawful : Lawful valley s) (place : placeOf (tableAt formatOne s .rows) (g .stamp) ≡ Held i) (inside : BodyInside m g) where
+  abbrev f : RowFields
+  f = fieldsAt s (24 + 24 * i)
+
+  other-is : heldWithOtherBody (tableAt formatOne s) (g .stamp) (bodyAt m (g .offset) (g .reads) (g .writes)) ≡ not (sameBody (bodyAt m (g .offset) (g .reads) (g .writes)) (bodyAt s (f .offset) (f .reads) (f .writes)))
+  unfolding heldWithOtherBody rowOf
+  other-is = rw (held-here valley s (g .stamp) i bytes lawful place)
+
+  pub body-inside-here : BodyInside s (fieldsAt s (24 + 24 * i))
+  body-inside-here = rows-inside valley s valley-sound lawful .1 i (index-here valley s (g .stamp) i bytes lawful place)
+
+  pub same-counts : fieldsAt s (24 + 24 * i) .reads ≡ g .reads → fieldsAt s (24 + 24 * i) .writes ≡ g .writes →
+      heldWithOtherBody (tableAt formatOne s) (g .stamp) (bodyAt m (g .offset) (g .reads) (g .writes)) ≡ not (begins (bodyPart s (fieldsAt s (24 + 24 * i))) (bodyPart m g))
+  same-counts r w = other-is ∙ rw (bodies-alike s m f g bytes given body-inside-here inside r w)
+
+  other-counts : (sameBody (bodyAt m (g .offset) (g .reads) (g .writes)) (bodyAt s (f .offset) (f .reads) (f .writes)) ≡ true → ⊥) → heldWithOtherBody (tableAt formatOne s) (g .stamp) (bodyAt m (g .offset) (g .reads) (g .writes)) ≡ true
+  other-counts n = other-is ∙ rw (not-true _ n)
+
+  pub other-reads : (fieldsAt s (24 + 24 * i) .reads ≡ g .reads → ⊥) → heldWithOtherBody (tableAt formatOne s) (g .stamp) (bodyAt m (g .offset) (g .reads) (g .writes)) ≡ true
+  unfolding bodyAt
+  other-reads n = other-counts (λ e. n (sym (sym (length-accessesAt m (g .offset) (g .reads)) ∙ ap (λ (b : Body). length (b .reads)) (same-body _ _ e) ∙ length-accessesAt s (f .offset) (f .reads))))
+
+  pub other-writes : (fieldsAt s (24 + 24 * i) .writes ≡ g .writes → ⊥) → heldWithOtherBody (tableAt formatOne s) (g .stamp) (bodyAt m (g .offset) (g .reads) (g .writes)) ≡ true
+  unfolding bodyAt
+  other-writes n = other-counts (λ e. n (sym (sym (length-accessesAt m _ (g .writes)) ∙ ap (λ (b : Body). length (b .writes)) (same-body _ _ e) ∙ length-accessesAt s _ (f .writes))))

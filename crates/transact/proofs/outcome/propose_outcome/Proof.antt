@@ -1,0 +1,106 @@
+-- Refused by what was found, noted in the row that is held, or in a new one.
+use mathlib.Core.Path.{refl, sym, _∙_}
+use native.Mathlib.Omega.{arith}
+use denote.Ref.{now}
+use borrow.Author.Needs.{needs}
+use Rattle.rules.specs.Tables.{valley}
+use Rattle.rows.proofs.Sought.{absent-none}
+use Rattle.rows.specs.Read.{bodyAt}
+use Rattle.table.specs.Images.{formatOne}
+use Rattle.table.specs.Parse.{tableAt}
+use Rattle.transact.specs.Served.{limited}
+use Rattle.transact.proofs.CodesMeant.{verdict-range}
+use Rattle.transact.proofs.HeldRows.{lawful-regular}
+use Rattle.transact.proofs.NewRows.{room-for-row, no-retry}
+use Rattle.transact.proofs.Proposals.{held-clear, new-clear, room-found}
+use Rattle.transact.proofs.Proposed.{outcome-proposal-refused, note-new-taken}
+use Rattle.transact.proofs.Serving.{lawful-holds}
+use Rattle.transact.proofs.outcome.propose_outcome.Reads as reads
+use Rattle.transact.proofs.outcome.propose_outcome.Statement.{statement}
+use Rattle.transact.proofs.outcome.propose_outcome.Tie as tie
+
+row-to-propose-requires : tie.Need-row-to-propose-requires
+row-to-propose-requires c κs = let p = (c .before .before .before) in (p .pre .0 .0, p .pre .1 .3)
+
+enum-known-proposal : tie.Need-enum-known-proposal
+enum-known-proposal c = search needs
+
+refusal-requires : tie.Need-refusal-requires
+refusal-requires c κs = search needs
+
+enum-known-proposal-2 : tie.Need-enum-known-proposal-2
+enum-known-proposal-2 c = search needs
+
+note-held-requires : tie.Need-note-held-requires
+note-held-requires c κs = let p = (c .before .before .before .before .before .before .before .before) in
+    let s = now (p .args .table) in
+    let x = bodyAt (now (p .args .message)) 12 (p .args .reads) (p .args .writes) in
+    let M = limited (p .args .limit) in
+    let T = tableAt formatOne s in
+    (p .pre .0 .0, held-clear M T (p .args .stamp) x _ (sym ((c .before .before .before .before) .row-to-propose .ensures) ∙ (c .before .before) .proposal2 .given .1) .1, p .pre .1 .0)
+
+enum-known-proposal-3 : tie.Need-enum-known-proposal-3
+enum-known-proposal-3 c = search needs
+
+add-new-requires : tie.Need-add-new-requires
+add-new-requires c κs = let p = (c .before .before .before .before .before .before .before .before) in
+    let s = now (p .args .table) in
+    let x = bodyAt (now (p .args .message)) 12 (p .args .reads) (p .args .writes) in
+    let M = limited (p .args .limit) in
+    let T = tableAt formatOne s in
+    let found = (sym ((c .before .before .before .before) .row-to-propose .ensures) ∙ (c .before .before) .proposal3 .given .1) in
+    let clear = new-clear M T (p .args .stamp) x _ found in
+    let unheld = absent-none (T .rows) (p .args .stamp) _ (clear .1) in
+    let room = room-for-row s (p .args .limit) (record { stamp = p .args .stamp; retry = 0; offset = 12; reads = p .args .reads; writes = p .args .writes; prepare = 0; outcome = p .args .verdict }) (p .pre .0 .0) (p .pre .0 .1) (p .pre .0 .2) (p .pre .1 .1) (p .pre .1 .2) (let (low, high) = verdict-range (p .args .verdict) (p .pre .1 .0) in omega arith) (room-found M T (p .args .stamp) unheld (clear .0 .2)) in
+    ((lawful-holds valley s (p .pre .0 .0), lawful-regular valley s (p .pre .0 .0) .0 .rise, clear .1), (((p .pre .1 .2, omega arith, (let (low, high) = verdict-range (p .args .verdict) (p .pre .1 .0) in omega arith), no-retry), p .pre .1 .3), room))
+
+same-length : tie.Need-same-length
+same-length c = search needs
+
+returns : tie.Need-returns
+returns c = let p = (c .before .before .before .before .before .before .before .before) in
+    let s = now (p .args .table) in
+    let x = bodyAt (now (p .args .message)) 12 (p .args .reads) (p .args .writes) in
+    let M = limited (p .args .limit) in
+    let T = tableAt formatOne s in
+    rw (c .refusal .ensures) (outcome-proposal-refused M s (p .args .stamp) (p .args .verdict) x (p .pre .0 .0) _ (sym ((c .before .before .before .before) .row-to-propose .ensures) ∙ (c .before .before) .proposal .given .1))
+
+same-length-2 : tie.Need-same-length-2
+same-length-2 c = search needs
+
+returns-2 : tie.Need-returns-2
+returns-2 c = let p = (c .before .before .before .before .before .before .before .before .before .before .before) in
+    let s = now (p .args .table) in
+    let x = bodyAt (now (p .args .message)) 12 (p .args .reads) (p .args .writes) in
+    let M = limited (p .args .limit) in
+    let T = tableAt formatOne s in
+    (c .before .before) .note-held .ensures M x (sym ((c .before .before .before .before .before .before .before) .row-to-propose .ensures) ∙ (c .before .before .before .before .before) .proposal2 .given .1)
+
+same-length-3 : tie.Need-same-length-3
+same-length-3 c = search needs
+
+returns-3 : tie.Need-returns-3
+returns-3 c = let p = (c .before .before .before .before .before .before .before .before .before .before .before) in
+    let s = now (p .args .table) in
+    let x = bodyAt (now (p .args .message)) 12 (p .args .reads) (p .args .writes) in
+    let M = limited (p .args .limit) in
+    let T = tableAt formatOne s in
+    rw ((c .before .before) .add-new .ensures .0, (c .before .before) .add-new .ensures .1) (note-new-taken M s (p .args .stamp) (p .args .verdict) x (p .pre .0 .0) _ (now (p .args .message)) (record { stamp = p .args .stamp; retry = 0; offset = 12; reads = p .args .reads; writes = p .args .writes; prepare = 0; outcome = p .args .verdict }) (p .pre .1 .0) (sym ((c .before .before .before .before .before .before .before) .row-to-propose .ensures) ∙ (c .before .before .before .before .before) .proposal3 .given .1) refl refl refl refl)
+
+pub propose-outcome-spec : {M : Type 1} → statement M
+propose-outcome-spec =
+    tie.close
+    (tie.spec
+    row-to-propose-requires
+    enum-known-proposal
+    refusal-requires
+    enum-known-proposal-2
+    note-held-requires
+    enum-known-proposal-3
+    add-new-requires
+    same-length
+    returns
+    same-length-2
+    returns-2
+    same-length-3
+    returns-3)

@@ -1,0 +1,3 @@
+pub mod Replies
+pub mod Served
+pub mod Sought

@@ -1,0 +1,140 @@
+// The row that a message is about, or the number for which it is refused before a row's state is looked at.
+use rows::lookup;
+use rows::lookup::Place;
+use rows::row;
+use rows::row::RowFields;
+use table::header;
+use table::header::Header;
+ghost use mathlib.Core.Path.{_≡_};
+ghost use mathlib.Core.Bool.{cond};
+ghost use Prim.Native.Nat.{_≤_};
+ghost use lib.ListN.{length};
+ghost use Rattle.rules.specs.Groups.{fOf};
+ghost use Rattle.rules.specs.Tables.{valley};
+ghost use Rattle.rules.specs.Circumstances.{belowLimit, heldWithOtherBody};
+ghost use Rattle.rows.specs.Places.{placeOf};
+ghost use Rattle.rows.specs.Read.{begins, bodyAt};
+ghost use Rattle.rows.specs.Rows.{BodyInside, bodyPart};
+ghost use Rattle.rows.specs.declared.lookup.Place.the-variants.{Held};
+ghost use Rattle.table.specs.Images.{formatOne};
+ghost use Rattle.table.specs.Parse.{tableAt};
+ghost use Rattle.transact.specs.Served.{limited, Lawful};
+ghost use Rattle.transact.specs.Sought.{toFinalise, toPropose};
+
+// What is found for a message that finalises.
+pub enum Finding {
+    Known { index: usize },
+    Refused { number: u8 },
+}
+
+// What is found for a message that proposes: the stamp's row, or the index that its row would have.
+pub enum Proposal {
+    Held { index: usize },
+    New { index: usize },
+    Against { number: u8 },
+}
+
+// Messages 2 and 4: the row of the stamp, in a box that is in that view.
+pub fn row_to_finalise(table: &[u8], stamp: u64, view: u32) -> Finding
+    requires { ⌜ Lawful valley (now table) ⌝ }
+    ensures { λ r. ⌜ r ≡ toFinalise (tableAt formatOne (now (table .entry))) stamp view ⌝ }
+{
+    let h = header::read(table);
+    if h.mode == 1 {
+        return Finding::Refused { number: 4 };
+    }
+    if view != h.view {
+        return Finding::Refused { number: 9 };
+    }
+    let Place::Held { row: index } = lookup::find(table, header::LENGTH, h.rows as usize, stamp)
+    else {
+        return Finding::Refused { number: 8 };
+    };
+    Finding::Known { index }
+}
+
+// A body that is needed for an answer: the table's if the stamp is known, else the message's.
+pub fn needed_body<'a>(table: &'a [u8], message: &'a [u8], known: bool, row: RowFields) -> &'a [u8]
+    requires { ⌜ BodyInside (cond known (now table) (now message)) row ⌝ }
+    ensures { λ r. ⌜ now r ≡ bodyPart (cond known (now (table .entry)) (now (message .entry))) row ⌝ }
+{
+    if known {
+        return row::body_of(table, row);
+    }
+    row::body_of(message, row)
+}
+
+// Whether two parts of the same length hold the same bytes.
+fn same_bytes(a: &[u8], b: &[u8]) -> bool
+    requires { ⌜ length (now a) ≡ length (now b) ⌝ }
+    ensures { λ r. ⌜ r ≡ begins (now (a .entry)) (now (b .entry)) ⌝ }
+{
+    let n = b.len();
+    let mut i: usize = 0;
+    while i < n {
+        if a[i] != b[i] {
+            return false;
+        }
+        i += 1;
+    }
+    true
+}
+
+// Whether the row at an index holds its stamp with another body than a message has. A body split otherwise into reads and writes is another.
+fn other_body<'a>(table: &'a [u8], message: &'a [u8], index: usize, given: RowFields) -> bool
+    requires { ⌜ Lawful valley (now table) × (placeOf (tableAt formatOne (now table) .rows) (given .stamp) ≡ Held index) × BodyInside (now message) given ⌝ }
+    ensures { λ r. ⌜ r ≡ heldWithOtherBody (tableAt formatOne (now (table .entry))) (given .stamp) (bodyAt (now (message .entry)) (given .offset) (given .reads) (given .writes)) ⌝ }
+{
+    let held = row::row_at(table, header::LENGTH, index);
+    if held.reads != given.reads {
+        return true;
+    }
+    if held.writes != given.writes {
+        return true;
+    }
+    if same_bytes(
+        needed_body(table, message, true, held),
+        row::body_of(message, given),
+    ) {
+        return false;
+    }
+    true
+}
+
+// Whether one more row has room. This is asked here and nowhere else.
+fn has_room(h: Header, limit: u16) -> bool
+    ensures { λ r. ⌜ r ≡ belowLimit limit (fOf (h .n)) (h .start) (h .rows) ⌝ }
+{
+    h.rows < limit as u32
+}
+
+// Messages 1 and 3: the row of the stamp, if it is held with this body, or the place of a new one, if there is room.
+pub fn row_to_propose<'a>(
+    table: &'a [u8],
+    message: &'a [u8],
+    given: RowFields,
+    limit: u16,
+) -> Proposal
+    requires { ⌜ Lawful valley (now table) × BodyInside (now message) given ⌝ }
+    ensures { λ r. ⌜ r ≡ toPropose (limited limit) (tableAt formatOne (now (table .entry))) (given .stamp) (bodyAt (now (message .entry)) (given .offset) (given .reads) (given .writes)) ⌝ }
+{
+    let h = header::read(table);
+    if h.mode == 1 {
+        return Proposal::Against { number: 4 };
+    }
+    let place = lookup::find(table, header::LENGTH, h.rows as usize, given.stamp);
+    match place {
+        Place::Held { row: index } => {
+            if other_body(table, message, index, given) {
+                return Proposal::Against { number: 5 };
+            }
+            Proposal::Held { index }
+        }
+        Place::Absent { row: index } => {
+            if has_room(h, limit) {
+                return Proposal::New { index };
+            }
+            Proposal::Against { number: 7 }
+        }
+    }
+}
