@@ -62,6 +62,9 @@ _Static_assert(sizeof(size_t) == 8, "libsprondilu.a takes lengths of 64 bits");
 /* The least length of a table buffer, in bytes: as long as the image of 512 rows with the longest bodies. */
 #define SPRONDILU_TABLE_BYTES 49176
 
+/* The length of a reply, in bytes, and the least length of a reply buffer. */
+#define SPRONDILU_REPLY_BYTES 24
+
 /*
  * Writes the fresh table of box `box` of a group of `n` boxes at the start of a table buffer.
  *
@@ -86,6 +89,31 @@ uint64_t sprondilu_valid(const uint8_t *bytes, size_t bytes_len);
 
 /* The image's length in an answer of sprondilu_valid whose number is SPRONDILU_DONE. */
 #define SPRONDILU_LENGTH_OF(answer) ((answer) >> 16)
+
+/*
+ * A box's answer to one message: the table in its buffer becomes what 01 makes of it, and the reply is written at the
+ * start of the reply buffer. A message may be any bytes that arrived, of any length, also none.
+ *
+ * Returns the first of these that applies, and SPRONDILU_DONE if none does:
+ *   SPRONDILU_SMALL_BUFFER   table_len is below SPRONDILU_TABLE_BYTES, or reply_len below SPRONDILU_REPLY_BYTES
+ *   SPRONDILU_BAD_TABLE      the table buffer does not begin with an image: nothing is answered from it
+ *   SPRONDILU_BAD_MESSAGE    the message is none of the seven kinds by every rule, to its exact length: drop it
+ *   SPRONDILU_CHANGING       messages 1 to 4 and 7, while the box is between two views
+ *   SPRONDILU_OTHER_VIEW     messages 2 and 4, for a view that is not the box's
+ *   SPRONDILU_OLD_VIEW       messages 5 and 6, for a view that the box has left behind or promised to leave
+ *   SPRONDILU_UNKNOWN        messages 2 and 4: what they finalise is not in the table
+ *   SPRONDILU_OTHER_BODY     messages 1 and 3: the stamp is held with another body
+ *   SPRONDILU_CONTRADICTION  messages 2 to 4: another final result or the opposite outcome is held
+ *   SPRONDILU_FULL           messages 1 and 3: the stamp is new and 512 rows are held
+ *
+ * SPRONDILU_SMALL_BUFFER: no byte of either buffer has changed, so there is no reply to send.
+ * Otherwise the first 24 bytes of the reply buffer are the reply, to be sent back as they are, and no other byte of that
+ * buffer has changed. Refused, the reply is the number and 23 zero bytes, and no byte of the table buffer has changed.
+ * Done, the table buffer begins with the image of the changed table. If that is shorter than the image before, the bytes
+ * given up are zero; bytes past the longer of the two have not changed. The message never changes.
+ */
+uint8_t sprondilu_answer(uint8_t *table, size_t table_len, const uint8_t *message, size_t message_len, uint8_t *reply,
+                         size_t reply_len);
 
 #ifdef __cplusplus
 }

@@ -5,6 +5,14 @@ mod library {
     extern "C" {
         pub fn sprondilu_fresh(table: *mut u8, table_len: usize, n: u8, box_number: u8) -> u8;
         pub fn sprondilu_valid(bytes: *const u8, bytes_len: usize) -> u64;
+        pub fn sprondilu_answer(
+            table: *mut u8,
+            table_len: usize,
+            message: *const u8,
+            message_len: usize,
+            reply: *mut u8,
+            reply_len: usize,
+        ) -> u8;
     }
 }
 
@@ -26,5 +34,20 @@ pub fn valid(bytes: &[u8]) -> Result<usize, u8> {
     match (answer & 0xff) as u8 {
         0 => Ok((answer >> 16) as usize),
         number => Err(number),
+    }
+}
+
+/// A box's answer to one message: the table changed, the reply written; returns the number.
+pub fn answer(table: &mut [u8], message: &[u8], reply: &mut [u8]) -> u8 {
+    // Slices are valid for their lengths; nobody else has those that are written, so none overlap.
+    unsafe {
+        library::sprondilu_answer(
+            table.as_mut_ptr(),
+            table.len(),
+            message.as_ptr(),
+            message.len(),
+            reply.as_mut_ptr(),
+            reply.len(),
+        )
     }
 }

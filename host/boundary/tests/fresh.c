@@ -1,5 +1,6 @@
 /*
- * The worked example of the C boundary: a fresh table in a lent buffer, the image in it, and every refusal.
+ * The worked example of the C boundary: a fresh table in a lent buffer, the image in it, the paper's message answered by
+ * that box, and refusals of each call.
  * It prints what the calls answered; whoever runs it compares that with the paper.
  */
 #include "sprondilu.h"
@@ -13,11 +14,18 @@ _Static_assert(_Generic(&sprondilu_fresh, uint8_t (*)(uint8_t *, size_t, uint8_t
                "sprondilu_fresh has another type");
 _Static_assert(_Generic(&sprondilu_valid, uint64_t (*)(const uint8_t *, size_t): 1, default: 0),
                "sprondilu_valid has another type");
+_Static_assert(_Generic(&sprondilu_answer,
+                        uint8_t (*)(uint8_t *, size_t, const uint8_t *, size_t, uint8_t *, size_t): 1, default: 0),
+               "sprondilu_answer has another type");
 
 /* What stands in the buffer before a call, so that every byte written is seen. */
 #define DIRT 0xee
 
 static uint8_t table[SPRONDILU_TABLE_BYTES];
+static uint8_t reply[SPRONDILU_REPLY_BYTES + 1];
+
+/* The paper's message 1: stamp 65,537 and one write, register 5, value 7. A byte follows it that is no part of it. */
+static const uint8_t message[21] = {1, 0, 0, 0, 0, 0, 1, 0, 1, 0, 1, 5, 0, 0, 0, 0, 0, 0, 0, 7, 0};
 
 /* How many bytes of the buffer, from its start, a call may have changed: all behind them are as they were. */
 static size_t bytes_changed(void)
@@ -47,21 +55,36 @@ static void valid(const char *what, const uint8_t *bytes, size_t length)
     }
 }
 
-static void print_image(size_t length)
+static void print_bytes(const uint8_t *bytes, size_t length)
 {
     for (size_t place = 0; place < length; place++) {
-        printf("%02x%s", (unsigned int)table[place], place + 1 < length ? " " : "\n");
+        printf("%02x%s", (unsigned int)bytes[place], place + 1 < length ? " " : "\n");
     }
 }
 
-/* The table as it stands after the paper's message 1: stamp 65,537 and one write, register 5, value 7. */
-static void put_worked_row(void)
+/* The reply buffer is printed whole: a byte more than a reply has, so that it is seen to stay. */
+static void answer(const char *what, size_t table_len, size_t message_len, size_t reply_len)
 {
-    static const uint8_t row[33] = {0, 0, 0, 0, 0, 1, 0, 1, 0, 0, 0, 0, 0, 0, 0, 0, 0,
-                                    0, 0, 48, 0, 1, 1, 0, 5, 0, 0, 0, 0, 0, 0, 0, 7};
-    table[7] = 1;
-    table[23] = 57;
-    memcpy(table + 24, row, sizeof row);
+    memset(reply, DIRT, sizeof reply);
+    unsigned int number = sprondilu_answer(table, table_len, message, message_len, reply, reply_len);
+    printf("answer, %s: number %u, reply\n", what, number);
+    print_bytes(reply, sizeof reply);
+}
+
+/* The paper's message, to its length and otherwise, in buffers that are long enough and in others. */
+static void answer_all(void)
+{
+    answer("a table buffer too short", sizeof table - 1, 20, sizeof reply);
+    answer("a reply buffer too short", sizeof table, 20, SPRONDILU_REPLY_BYTES - 1);
+    answer("no message", sizeof table, 0, sizeof reply);
+    answer("a byte too many", sizeof table, 21, sizeof reply);
+    valid("after refusals", table, sizeof table);
+    answer("the message of the paper", sizeof table, 20, sizeof reply);
+    valid("with the row of the paper", table, sizeof table);
+    print_bytes(table, bytes_changed());
+    table[39] = 1;
+    valid("with a retry stamp for OK", table, sizeof table);
+    answer("with a retry stamp for OK", sizeof table, 20, SPRONDILU_REPLY_BYTES);
 }
 
 int main(void)
@@ -74,14 +97,10 @@ int main(void)
     valid("no image yet", table, sizeof table);
     valid("a null pointer", NULL, 0);
     fresh("box 0 of 3", table, sizeof table, 3, 0);
-    print_image(bytes_changed());
+    print_bytes(table, bytes_changed());
     valid("the fresh table", table, sizeof table);
     valid("its image alone", table, 24);
     valid("a byte too short", table, 23);
-    put_worked_row();
-    valid("with the row of the paper", table, sizeof table);
-    table[39] = 1;
-    valid("with a retry stamp for OK", table, sizeof table);
-    print_image(bytes_changed());
+    answer_all();
     return 0;
 }

@@ -6,7 +6,7 @@ use std::path::{Path, PathBuf};
 use std::process::{Command, Output};
 use std::{env, fs};
 
-/// What `fresh.c` has to print; the two images are those of the paper, the second with a retry stamp put in.
+/// What `fresh.c` has to print; the two images are those of the paper, and so is the reply.
 const PRINTED: &str = "\
 fresh, a null pointer: number 1, 0 bytes changed
 fresh, a byte too short: number 1, 0 bytes changed
@@ -20,11 +20,24 @@ fresh, box 0 of 3: number 0, 24 bytes changed
 valid, the fresh table: an image of 24 bytes
 valid, its image alone: an image of 24 bytes
 valid, a byte too short: number 2, answer 2
+answer, a table buffer too short: number 1, reply
+ee ee ee ee ee ee ee ee ee ee ee ee ee ee ee ee ee ee ee ee ee ee ee ee ee
+answer, a reply buffer too short: number 1, reply
+ee ee ee ee ee ee ee ee ee ee ee ee ee ee ee ee ee ee ee ee ee ee ee ee ee
+answer, no message: number 3, reply
+03 00 00 00 00 00 00 00 00 00 00 00 00 00 00 00 00 00 00 00 00 00 00 00 ee
+answer, a byte too many: number 3, reply
+03 00 00 00 00 00 00 00 00 00 00 00 00 00 00 00 00 00 00 00 00 00 00 00 ee
+valid, after refusals: an image of 24 bytes
+answer, the message of the paper: number 0, reply
+00 01 00 01 00 00 00 00 00 00 00 00 00 01 00 01 00 00 00 00 00 00 00 00 ee
 valid, with the row of the paper: an image of 57 bytes
-valid, with a retry stamp for OK: number 2, answer 2
 01 00 03 00 00 00 00 01 00 00 00 00 00 00 00 00 00 00 00 00 00 00 00 39 \
-00 00 00 00 00 01 00 01 00 00 00 00 00 00 00 01 00 00 00 30 00 01 01 00 \
+00 00 00 00 00 01 00 01 00 00 00 00 00 00 00 00 00 00 00 30 00 01 01 00 \
 05 00 00 00 00 00 00 00 07
+valid, with a retry stamp for OK: number 2, answer 2
+answer, with a retry stamp for OK: number 2, reply
+02 00 00 00 00 00 00 00 00 00 00 00 00 00 00 00 00 00 00 00 00 00 00 00 ee
 ";
 
 const WARNINGS: [&str; 6] = [
@@ -83,7 +96,8 @@ fn a_c_program_gets_what_the_paper_says() {
 const CPP: &str = "#include \"sprondilu.h\"\n\
     int main() {\n\
     return SPRONDILU_NUMBER_OF(sprondilu_valid(nullptr, 0)) == SPRONDILU_BAD_TABLE\n\
-    && sprondilu_fresh(nullptr, 0, 3, 0) == SPRONDILU_SMALL_BUFFER ? 0 : 1;\n\
+    && sprondilu_fresh(nullptr, 0, 3, 0) == SPRONDILU_SMALL_BUFFER\n\
+    && sprondilu_answer(nullptr, 0, nullptr, 0, nullptr, 0) == SPRONDILU_SMALL_BUFFER ? 0 : 1;\n\
     }\n";
 
 #[test]

@@ -1,23 +1,28 @@
 //! A row added as the proved library adds it: the same parts moved in the same order, and all offsets laid anew.
 
-use super::{u32_at, ACCESS_LENGTH, HEADER_LENGTH, ROW_LENGTH};
+use super::{put_u32, u32_at, ACCESS_LENGTH, HEADER_LENGTH, ROW_LENGTH};
 
 /// Adds the row that lent bytes begin with, at an index; its offset says where in the lent bytes its body lies.
 pub fn add_row(table: &mut [u8], index: usize, row: &[u8]) {
-    let rows = u32_at(table, 4) as usize;
-    let end = u32_at(table, 20) as usize;
     let body_from = u32_at(row, 16) as usize;
     let body = &row[body_from..body_from + body_length(row)];
+    add(table, index, &row[..ROW_LENGTH], body);
+}
+
+/// Adds a row with its body at an index, whatever offset the row has.
+pub(super) fn add(table: &mut [u8], index: usize, row: &[u8], body: &[u8]) {
+    let rows = u32_at(table, 4) as usize;
+    let end = u32_at(table, 20) as usize;
     let at = HEADER_LENGTH + ROW_LENGTH * index;
     let middle = if index < rows {
         u32_at(table, at + 16) as usize
     } else {
         end
     };
-    slip_in(table, at, middle, end, &row[..ROW_LENGTH], body);
+    slip_in(table, at, middle, end, row, body);
     lay_offsets(table, rows + 1);
-    put_u32(table, 4, rows + 1);
-    put_u32(table, 20, end + ROW_LENGTH + body.len());
+    put_u32(table, 4, rows as u32 + 1);
+    put_u32(table, 20, (end + ROW_LENGTH + body.len()) as u32);
 }
 
 /// Puts a row in at `at` and a body in at `middle`, from the end down.
@@ -33,17 +38,13 @@ fn lay_offsets(table: &mut [u8], rows: usize) {
     let bodies = HEADER_LENGTH + ROW_LENGTH * rows;
     let mut due = bodies;
     for row in table[HEADER_LENGTH..bodies].chunks_exact_mut(ROW_LENGTH) {
-        put_u32(row, 16, due);
+        put_u32(row, 16, due as u32);
         due += body_length(row);
     }
 }
 
 fn body_length(row: &[u8]) -> usize {
     ACCESS_LENGTH * (usize::from(row[20]) + usize::from(row[21]))
-}
-
-fn put_u32(bytes: &mut [u8], at: usize, number: usize) {
-    bytes[at..at + 4].copy_from_slice(&(number as u32).to_be_bytes());
 }
 
 #[cfg(test)]

@@ -2,7 +2,7 @@
 
 use super::{u32_at, u64_at, ACCESS_LENGTH, HEADER_LENGTH, ROW_LENGTH};
 
-const MOST_ROWS: u32 = 512;
+pub(super) const MOST_ROWS: u32 = 512;
 const BAD_TABLE: u64 = 2;
 
 /// The answer as the library codes it: the image's length from bit 16 on, or the number of a bad table.
@@ -13,20 +13,20 @@ pub fn valid_answer(bytes: &[u8]) -> u64 {
     }
 }
 
-struct Header {
+pub(super) struct Header {
     format: u8,
-    box_number: u8,
-    n: u8,
-    mode: u8,
-    rows: u32,
-    view: u32,
-    promised: u32,
-    start_rows: u32,
-    length: u32,
+    pub(super) box_number: u8,
+    pub(super) n: u8,
+    pub(super) mode: u8,
+    pub(super) rows: u32,
+    pub(super) view: u32,
+    pub(super) promised: u32,
+    pub(super) start_rows: u32,
+    pub(super) length: u32,
 }
 
 impl Header {
-    fn read(bytes: &[u8]) -> Header {
+    pub(super) fn read(bytes: &[u8]) -> Header {
         Header {
             format: bytes[0],
             box_number: bytes[1],
@@ -64,18 +64,18 @@ impl Header {
     }
 }
 
-struct Row {
-    stamp: u64,
-    retry: u64,
+pub(super) struct Row {
+    pub(super) stamp: u64,
+    pub(super) retry: u64,
     offset: u32,
-    reads: u8,
-    writes: u8,
-    prepare: u8,
-    outcome: u8,
+    pub(super) reads: u8,
+    pub(super) writes: u8,
+    pub(super) prepare: u8,
+    pub(super) outcome: u8,
 }
 
 impl Row {
-    fn read(image: &[u8], index: usize) -> Row {
+    pub(super) fn read(image: &[u8], index: usize) -> Row {
         let at = HEADER_LENGTH + ROW_LENGTH * index;
         Row {
             stamp: u64_at(image, at),
@@ -90,6 +90,12 @@ impl Row {
 
     fn body_length(&self) -> usize {
         ACCESS_LENGTH * (usize::from(self.reads) + usize::from(self.writes))
+    }
+
+    /// The part of the image where the body lies.
+    pub(super) fn body<'a>(&self, image: &'a [u8]) -> &'a [u8] {
+        let from = self.offset as usize;
+        &image[from..from + self.body_length()]
     }
 
     fn is_valid(&self, image: &[u8], last: u64, due: usize, end: usize) -> bool {
@@ -118,11 +124,11 @@ impl Row {
     }
 }
 
-fn is_stamp(number: u64) -> bool {
+pub(super) fn is_stamp(number: u64) -> bool {
     0 < number && number < 1 << 48
 }
 
-fn counts_are_valid(reads: u8, writes: u8) -> bool {
+pub(super) fn counts_are_valid(reads: u8, writes: u8) -> bool {
     reads <= 4 && writes <= 4 && 0 < reads + writes
 }
 
@@ -130,7 +136,7 @@ fn codes_are_valid(prepare: u8, outcome: u8) -> bool {
     prepare <= 8 && outcome <= 4 && 0 < prepare + outcome
 }
 
-fn retry_is_valid(prepare: u8, retry: u64) -> bool {
+pub(super) fn retry_is_valid(prepare: u8, retry: u64) -> bool {
     if prepare == 4 || prepare == 8 {
         is_stamp(retry)
     } else {
@@ -139,7 +145,7 @@ fn retry_is_valid(prepare: u8, retry: u64) -> bool {
 }
 
 /// Registers rise, and no number is above the greatest allowed.
-fn accesses_are_valid(accesses: &[u8], greatest: u64) -> bool {
+pub(super) fn accesses_are_valid(accesses: &[u8], greatest: u64) -> bool {
     let mut low = 0;
     for access in accesses.chunks_exact(ACCESS_LENGTH) {
         let register = access[0];
@@ -166,7 +172,7 @@ fn rows_are_valid(image: &[u8], rows: usize, end: usize) -> bool {
 }
 
 /// The length of the image that the bytes begin with, if they do.
-fn image_length(bytes: &[u8]) -> Option<usize> {
+pub(super) fn image_length(bytes: &[u8]) -> Option<usize> {
     if bytes.len() < HEADER_LENGTH {
         return None;
     }

@@ -1,0 +1,262 @@
+//! A box's answer to one message as the proved library gives it: everything is judged and changed where it lies.
+
+use super::check::{check, newest, Transaction};
+use super::insert::add;
+use super::message::{self, Message};
+use super::valid::{image_length, Header, Row, MOST_ROWS};
+use super::{put_u32, put_u64, u64_at, HEADER_LENGTH, ROW_LENGTH};
+
+const TABLE_BYTES: usize = 49_176;
+const REPLY_LENGTH: usize = 24;
+
+/// What a reply says of a message that was done, beside its kind and the box.
+struct Done {
+    state: u8,
+    stamp: u64,
+    value: u64,
+}
+
+/// A number, if the message is refused.
+type Answered = Result<Done, u8>;
+
+/// The table changed, the reply written; returns the number.
+pub fn answer(table: &mut [u8], message: &[u8], reply: &mut [u8]) -> u8 {
+    if table.len() < TABLE_BYTES || reply.len() < REPLY_LENGTH {
+        return 1;
+    }
+    let answered = judged(table, message);
+    let reply = &mut reply[..REPLY_LENGTH];
+    reply.fill(0);
+    match answered {
+        Ok(done) => {
+            write(reply, message[0], &Header::read(table), &done);
+            0
+        }
+        Err(number) => {
+            reply[0] = number;
+            number
+        }
+    }
+}
+
+fn write(reply: &mut [u8], kind: u8, header: &Header, done: &Done) {
+    reply[1] = kind;
+    reply[2] = header.box_number;
+    reply[3] = done.state;
+    put_u32(reply, 4, header.view);
+    put_u64(reply, 8, done.stamp);
+    put_u64(reply, 16, done.value);
+}
+
+fn judged(table: &mut [u8], message: &[u8]) -> Answered {
+    image_length(table).ok_or(2)?;
+    let header = Header::read(table);
+    match message::read(message, header.n).ok_or(3)? {
+        Message::ChangeView { view } => change_view(table, &header, view),
+        Message::StartView { view, image } => start_view(table, &header, view, image),
+        _ if header.mode == 1 => Err(4),
+        Message::ProposePrepare { new } => propose_prepare(table, &header, &new),
+        Message::FinalisePrepare {
+            stamp,
+            view,
+            result,
+            retry,
+        } => finalise_prepare(table, &header, (stamp, view), (result, retry)),
+        Message::ProposeOutcome { verdict, new } => propose_outcome(table, &header, verdict, &new),
+        Message::FinaliseOutcome {
+            stamp,
+            view,
+            verdict,
+        } => finalise_outcome(table, &header, (stamp, view), verdict),
+        Message::ReadRegister { stamp, register } => {
+            let (stamp, value) = newest(table, header.rows as usize, stamp, register);
+            let state = 0;
+            Ok(Done {
+                state,
+                stamp,
+                value,
+            })
+        }
+    }
+}
+
+/// The index of the stamp's row, or else the one that its row would have.
+fn find(table: &[u8], rows: u32, stamp: u64) -> Result<usize, usize> {
+    for index in 0..rows as usize {
+        let held = u64_at(table, HEADER_LENGTH + ROW_LENGTH * index);
+        if held == stamp {
+            return Ok(index);
+        }
+        if stamp < held {
+            return Err(index);
+        }
+    }
+    Err(rows as usize)
+}
+
+/// What messages 1 and 3 find: the row that holds the transaction, or else the index for a new row.
+type Found = Result<(usize, Row), usize>;
+
+/// Messages 1 and 3: the row of the stamp, if it is held with this body, or the place of a new one, if there is room.
+fn to_propose(table: &[u8], header: &Header, new: &Transaction) -> Result<Found, u8> {
+    match find(table, header.rows, new.stamp) {
+        Ok(index) => {
+            let row = Row::read(table, index);
+            let same = (row.reads, row.writes) == (new.reads, new.writes);
+            if !same || row.body(table) != new.body {
+                return Err(5);
+            }
+            Ok(Ok((index, row)))
+        }
+        Err(_) if header.rows >= MOST_ROWS => Err(7),
+        Err(index) => Ok(Err(index)),
+    }
+}
+
+/// Messages 2 and 4: the row of the stamp, in a box that is in that view.
+fn to_finalise(
+    table: &[u8],
+    header: &Header,
+    (stamp, view): (u64, u32),
+) -> Result<(usize, Row), u8> {
+    if view != header.view {
+        return Err(9);
+    }
+    let index = find(table, header.rows, stamp).map_err(|_| 8)?;
+    Ok((index, Row::read(table, index)))
+}
+
+fn propose_prepare(table: &mut [u8], header: &Header, new: &Transaction) -> Answered {
+    let (prepare, retry) = match to_propose(table, header, new)? {
+        Ok((_, row)) if row.prepare != 0 => (row.prepare, row.retry),
+        Ok((index, row)) => {
+            let prepare = if matches!(row.outcome, 1 | 3) { 1 } else { 2 };
+            put_prepare(table, index, prepare, 0);
+            (prepare, 0)
+        }
+        Err(index) => {
+            let (code, retry) = check(table, header.rows as usize, new);
+            add_row(table, index, new, (code, retry), 0);
+            (code, retry)
+        }
+    };
+    Ok(Done {
+        state: prepare,
+        stamp: new.stamp,
+        value: retry,
+    })
+}
+
+fn finalise_prepare(
+    table: &mut [u8],
+    header: &Header,
+    which: (u64, u32),
+    (result, retry): (u8, u64),
+) -> Answered {
+    let (index, row) = to_finalise(table, header, which)?;
+    if row.prepare == 0 {
+        return Err(8);
+    }
+    if row.prepare > 4 && (row.prepare, row.retry) != (result + 4, retry) {
+        return Err(6);
+    }
+    put_prepare(table, index, result + 4, retry);
+    Ok(Done {
+        state: result + 4,
+        stamp: row.stamp,
+        value: retry,
+    })
+}
+
+fn propose_outcome(table: &mut [u8], header: &Header, verdict: u8, new: &Transaction) -> Answered {
+    let outcome = match to_propose(table, header, new)? {
+        Ok((_, row)) if is_opposite(row.outcome, verdict) => return Err(6),
+        Ok((_, row)) if row.outcome != 0 => row.outcome,
+        Ok((index, _)) => {
+            put_outcome(table, index, verdict);
+            verdict
+        }
+        Err(index) => {
+            add_row(table, index, new, (0, 0), verdict);
+            verdict
+        }
+    };
+    Ok(Done {
+        state: outcome,
+        stamp: new.stamp,
+        value: 0,
+    })
+}
+
+fn finalise_outcome(table: &mut [u8], header: &Header, which: (u64, u32), verdict: u8) -> Answered {
+    let (index, row) = to_finalise(table, header, which)?;
+    if row.outcome == 0 {
+        return Err(8);
+    }
+    if is_opposite(row.outcome, verdict) {
+        return Err(6);
+    }
+    put_outcome(table, index, verdict + 2);
+    Ok(Done {
+        state: verdict + 2,
+        stamp: row.stamp,
+        value: 0,
+    })
+}
+
+fn is_opposite(outcome: u8, verdict: u8) -> bool {
+    outcome != 0 && outcome != verdict && outcome != verdict + 2
+}
+
+fn change_view(table: &mut [u8], header: &Header, view: u32) -> Answered {
+    if view <= header.promised {
+        return Err(10);
+    }
+    table[3] = 1;
+    put_u32(table, 12, view);
+    Ok(Done {
+        state: 0,
+        stamp: u64::from(view),
+        value: 0,
+    })
+}
+
+fn start_view(table: &mut [u8], header: &Header, view: u32, image: &[u8]) -> Answered {
+    if view < header.promised || view <= header.view {
+        return Err(10);
+    }
+    let (taken, rest) = table.split_at_mut(image.len());
+    taken.copy_from_slice(image);
+    taken[1] = header.box_number;
+    let given_up = (header.length as usize).saturating_sub(image.len());
+    rest[..given_up].fill(0);
+    Ok(Done {
+        state: 0,
+        stamp: 0,
+        value: 0,
+    })
+}
+
+fn put_prepare(table: &mut [u8], index: usize, prepare: u8, retry: u64) {
+    let at = HEADER_LENGTH + ROW_LENGTH * index;
+    put_u64(table, at + 8, retry);
+    table[at + 22] = prepare;
+}
+
+fn put_outcome(table: &mut [u8], index: usize, outcome: u8) {
+    table[HEADER_LENGTH + ROW_LENGTH * index + 23] = outcome;
+}
+
+fn add_row(
+    table: &mut [u8],
+    index: usize,
+    new: &Transaction,
+    (prepare, retry): (u8, u64),
+    outcome: u8,
+) {
+    let mut row = [0; ROW_LENGTH];
+    put_u64(&mut row, 0, new.stamp);
+    put_u64(&mut row, 8, retry);
+    row[20..].copy_from_slice(&[new.reads, new.writes, prepare, outcome]);
+    add(table, index, &row, new.body);
+}

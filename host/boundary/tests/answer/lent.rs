@@ -1,0 +1,161 @@
+//! The buffers of a call, twice: one for the library and one for the second program. What they leave is compared.
+
+use crate::shares::Shares;
+use samples::{Dice, TABLE_BYTES};
+
+/// Bytes that are not lent, before and behind what is.
+const BEFORE: usize = 64;
+const BEHIND: usize = 64;
+/// The longest of the buffers that are lent.
+const LONGEST_TABLE: usize = TABLE_BYTES + 10_007;
+const LONGEST_REPLY: usize = 100;
+
+/// "A table buffer has at least 49,176 bytes", a reply buffer 24.
+pub const TABLES_LONG_ENOUGH: [usize; 3] = [TABLE_BYTES, TABLE_BYTES + 1, LONGEST_TABLE];
+pub const TABLES_TOO_SHORT: [usize; 4] = [0, 1, 24, TABLE_BYTES - 1];
+pub const REPLIES_LONG_ENOUGH: [usize; 3] = [24, 25, LONGEST_REPLY];
+pub const REPLIES_TOO_SHORT: [usize; 3] = [0, 1, 23];
+
+struct Buffers {
+    table: Vec<u8>,
+    reply: Vec<u8>,
+}
+
+impl Buffers {
+    fn answered(
+        &mut self,
+        begin: usize,
+        (table, reply): (usize, usize),
+        message: &[u8],
+        answer: fn(&mut [u8], &[u8], &mut [u8]) -> u8,
+    ) -> u8 {
+        let table = &mut self.table[begin..begin + table];
+        let reply = &mut self.reply[begin..begin + reply];
+        answer(table, message, reply)
+    }
+}
+
+pub struct Lent {
+    pub dice: Dice,
+    pub shares: Shares,
+    library: Buffers,
+    second: Buffers,
+    /// What stands behind an image until somebody writes there.
+    dirt: Vec<u8>,
+    /// Where the lent parts begin: they may begin at any address.
+    begin: usize,
+    /// How far the dirt may have been written over.
+    used: usize,
+}
+
+impl Lent {
+    pub fn seeded(seed: u64) -> Lent {
+        let mut dice = Dice::seeded(seed);
+        let begin = BEFORE + dice.index(64);
+        // No zero among the dirt, so that clearing is seen.
+        let length = begin + LONGEST_TABLE + BEHIND;
+        let dirt: Vec<u8> = (0..length).map(|_| 1 + dice.below(255) as u8).collect();
+        let buffers = || Buffers {
+            table: dirt.clone(),
+            reply: vec![0; begin + LONGEST_REPLY + BEHIND],
+        };
+        Lent {
+            library: buffers(),
+            second: buffers(),
+            dirt,
+            begin,
+            used: 0,
+            dice,
+            shares: Shares::default(),
+        }
+    }
+
+    /// Puts bytes at the start of both table buffers, with dirt behind them.
+    pub fn hold(&mut self, bytes: &[u8]) {
+        let until = self.used.max(bytes.len());
+        let old = self.begin + bytes.len()..self.begin + until;
+        for buffers in [&mut self.library, &mut self.second] {
+            buffers.table[self.begin..old.start].copy_from_slice(bytes);
+            buffers.table[old.clone()].copy_from_slice(&self.dirt[old.clone()]);
+        }
+        self.used = bytes.len();
+    }
+
+    /// What the table buffers hold, from their start on.
+    pub fn held(&self) -> &[u8] {
+        &self.second.table[self.begin..]
+    }
+
+    /// A number of 4 bytes in the header that is held.
+    pub fn number_at(&self, at: usize) -> u32 {
+        u32::from_be_bytes(self.held()[at..at + 4].try_into().expect("four bytes"))
+    }
+
+    /// The image that is held.
+    pub fn image(&self) -> &[u8] {
+        &self.held()[..self.number_at(20) as usize]
+    }
+
+    /// The number that both programs answer a message with, in buffers that are long enough.
+    pub fn ask(&mut self, message: &[u8]) -> u8 {
+        let table = self.dice.one_of(&TABLES_LONG_ENOUGH);
+        let reply = self.dice.one_of(&REPLIES_LONG_ENOUGH);
+        self.ask_with((table, reply), message)
+    }
+
+    /// The number that both programs answer a message with, in buffers of these lengths. They have to agree on it and on
+    /// every byte, lent or not.
+    pub fn ask_with(&mut self, lengths: (usize, usize), message: &[u8]) -> u8 {
+        let dirt = 1 + self.dice.below(255) as u8;
+        self.library.reply.fill(dirt);
+        self.second.reply.fill(dirt);
+        let before = self.held()[..240].to_vec();
+        let asked = message.to_vec();
+        let begin = self.begin;
+        let number = self
+            .second
+            .answered(begin, lengths, &asked, reference::answer);
+        let found = self
+            .library
+            .answered(begin, lengths, message, boundary::answer);
+        let same = found == number
+            && self.library.table == self.second.table
+            && self.library.reply == self.second.reply
+            && asked == message;
+        if !same {
+            self.say_what_differs((found, number), lengths, &before, &asked);
+        }
+        if number == 0 {
+            self.used = self.used.max(self.number_at(20) as usize);
+        }
+        let reply = &self.second.reply[begin..begin + 24];
+        self.shares.count(message, number, reply);
+        number
+    }
+
+    fn say_what_differs(
+        &self,
+        (found, number): (u8, u8),
+        lengths: (usize, usize),
+        before: &[u8],
+        asked: &[u8],
+    ) -> ! {
+        let place = |one: &[u8], other: &[u8]| {
+            let differs = one.iter().zip(other).position(|(one, other)| one != other);
+            differs.map(|place| place as isize - self.begin as isize)
+        };
+        panic!(
+            "number {} and not {}, lengths {:?}; table differs at {:?}, reply at {:?}\n\
+             table before {:02x?}\nmessage {:02x?}\nreply {:02x?}\nand not {:02x?}",
+            found,
+            number,
+            lengths,
+            place(&self.library.table, &self.second.table),
+            place(&self.library.reply, &self.second.reply),
+            before,
+            &asked[..asked.len().min(240)],
+            &self.library.reply[self.begin..][..32],
+            &self.second.reply[self.begin..][..32],
+        );
+    }
+}

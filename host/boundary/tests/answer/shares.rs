@@ -1,0 +1,132 @@
+//! How often each kind of message was answered with each number, so that no comparison holds for want of a case.
+
+use std::fmt::{self, Display, Formatter};
+
+/// The kinds, and the numbers that the paper has for each: a bad message is all that is known of an unknown kind, and of no
+/// bytes at all.
+const POSSIBLE: [(&str, &[usize]); KINDS] = [
+    ("unknown", &[1, 2, 3]),
+    ("1", &[0, 1, 2, 3, 4, 5, 7]),
+    ("2", &[0, 1, 2, 3, 4, 6, 8, 9]),
+    ("3", &[0, 1, 2, 3, 4, 5, 6, 7]),
+    ("4", &[0, 1, 2, 3, 4, 6, 8, 9]),
+    ("5", &[0, 1, 2, 3, 10]),
+    ("6", &[0, 1, 2, 3, 10]),
+    ("7", &[0, 1, 2, 3, 4]),
+    ("empty", &[1, 2, 3]),
+];
+const KINDS: usize = 9;
+const NUMBERS: usize = 12;
+
+/// The state bytes that the paper has in the reply to each kind that was done.
+const STATES: [&[usize]; KINDS] = [
+    &[],
+    &[1, 2, 3, 4, 5, 6, 7, 8],
+    &[5, 6, 7, 8],
+    &[1, 2, 3, 4],
+    &[3, 4],
+    &[0],
+    &[0],
+    &[0],
+    &[],
+];
+
+#[derive(Default)]
+pub struct Shares {
+    numbers: [[u64; NUMBERS]; KINDS],
+    states: [[u64; 9]; KINDS],
+    /// Messages 7 that found a write.
+    found: u64,
+}
+
+fn kind_of(message: &[u8]) -> usize {
+    match message.first() {
+        None => 8,
+        Some(kind @ 1..=7) => usize::from(*kind),
+        Some(_) => 0,
+    }
+}
+
+impl Shares {
+    pub fn count(&mut self, message: &[u8], number: u8, reply: &[u8]) {
+        let kind = kind_of(message);
+        self.numbers[kind][usize::from(number)] += 1;
+        if number == 0 {
+            self.states[kind][usize::from(reply[3])] += 1;
+            self.found += u64::from(kind == 7 && reply[8..16] != [0; 8]);
+        }
+    }
+
+    pub fn add(&mut self, other: &Shares) {
+        let numbers = self.numbers.iter_mut().zip(&other.numbers);
+        numbers.for_each(|(here, there)| add_all(here, there));
+        let states = self.states.iter_mut().zip(&other.states);
+        states.for_each(|(here, there)| add_all(here, there));
+        self.found += other.found;
+    }
+
+    pub fn calls(&self) -> u64 {
+        self.numbers.iter().flatten().sum()
+    }
+
+    /// That every number which a kind can be answered with was met at least so often, and no other was; likewise every
+    /// state byte.
+    pub fn assert_all_met(&self, least: u64) {
+        for (kind, (name, possible)) in POSSIBLE.iter().enumerate() {
+            assert_met(name, "number", &self.numbers[kind], possible, least);
+            assert_met(name, "state", &self.states[kind], STATES[kind], least);
+        }
+        let missed = self.states[7][0] - self.found;
+        assert!(self.found >= least && missed >= least, "message 7");
+    }
+}
+
+fn add_all(here: &mut [u64], there: &[u64]) {
+    for (count, more) in here.iter_mut().zip(there) {
+        *count += more;
+    }
+}
+
+fn assert_met(name: &str, what: &str, counts: &[u64], possible: &[usize], least: u64) {
+    for (which, count) in counts.iter().enumerate() {
+        let right = if possible.contains(&which) {
+            *count >= least
+        } else {
+            *count == 0
+        };
+        assert!(right, "kind {}, {} {}: {} times", name, what, which, count);
+    }
+}
+
+/// A column for each kind, a line for each number, then one for each state byte.
+impl Display for Shares {
+    fn fmt(&self, f: &mut Formatter) -> fmt::Result {
+        let percents = |counts: &[u64], which: usize| {
+            let all: u64 = counts.iter().sum();
+            match counts[which] {
+                0 => String::new(),
+                count => format!("{} {:5.1}%", count, 100.0 * count as f64 / all as f64),
+            }
+        };
+        write!(f, "kind     ")?;
+        POSSIBLE
+            .iter()
+            .try_for_each(|(name, _)| write!(f, "{:>15}", name))?;
+        for number in 0..NUMBERS - 1 {
+            write!(f, "\nnumber {:2}", number)?;
+            let mut kinds = self.numbers.iter();
+            kinds.try_for_each(|counts| write!(f, "{:>15}", percents(counts, number)))?;
+        }
+        for state in 0..9 {
+            write!(f, "\nstate {:3}", state)?;
+            let mut kinds = self.states.iter();
+            kinds.try_for_each(|counts| write!(f, "{:>15}", percents(counts, state)))?;
+        }
+        write!(
+            f,
+            "\n{} calls; message 7 found {}",
+            self.calls(),
+            self.found
+        )
+    }
+}
