@@ -1,15 +1,17 @@
-//! The proved library and its twin in plain safe Rust, side by side in one run: validity of an image, and a row added to
-//! a table. What counts are ratios: both sides are built for release and work on the same bytes on the same machine, in
-//! turns.
+//! The proved library and its twin in plain safe Rust, side by side in one run: validity of an image, a row added to a
+//! table, and a box's answer to a message of each kind. What counts are ratios: both sides are built for release and work
+//! on the same bytes on the same machine, in turns.
 //!
 //! `bench` measures times and prints tables. `bench WORK SIDE ROWS TIMES`, as `bench insert library 511 50`, only does
 //! that work so many times, on one side, for a tool that counts its instructions; `tools/bench` does both.
 
+mod answer;
 mod insert;
 mod times;
 mod twin;
 mod valid;
 
+use answer::Answering;
 use insert::Inserting;
 use std::{env, process};
 use valid::Judging;
@@ -35,38 +37,75 @@ pub trait Work {
     fn assert_done(&self, side: Side);
 }
 
-/// A side of the comparison: its name, its way to judge lent bytes, and its way to add a row to a table.
+/// A side of the comparison: its name, and its ways to judge lent bytes, to add a row to a table, and to answer a message.
 #[derive(Clone, Copy)]
 pub struct Side {
     name: &'static str,
     valid_answer: fn(&[u8]) -> u64,
     add_row: unsafe fn(&mut [u8], usize, &[u8]),
+    answer: fn(&mut [u8], &[u8], &mut [u8]) -> u8,
 }
 
 pub const LIBRARY: Side = Side {
     name: "library",
     valid_answer: boundary::valid_answer,
     add_row: trial::add_row,
+    answer: boundary::answer,
 };
 
 pub const TWIN: Side = Side {
     name: "twin",
     valid_answer: twin::valid::valid_answer,
     add_row: twin::insert::add_row,
+    answer: twin::answer::answer,
 };
+
+/// A work by its name, and what can be had of it.
+struct Named {
+    name: &'static str,
+    print: fn(),
+    one_side: fn(&str, &str, &str),
+}
+
+const fn named<W: Work>() -> Named {
+    Named {
+        name: W::NAME,
+        print: times::print::<W>,
+        one_side: one_side::<W>,
+    }
+}
+
+const WORKS: [Named; 9] = [
+    named::<Judging>(),
+    named::<Inserting>(),
+    named::<Answering<1>>(),
+    named::<Answering<2>>(),
+    named::<Answering<3>>(),
+    named::<Answering<4>>(),
+    named::<Answering<5>>(),
+    named::<Answering<6>>(),
+    named::<Answering<7>>(),
+];
 
 fn main() {
     let words: Vec<String> = env::args().skip(1).collect();
     let words: Vec<&str> = words.iter().map(String::as_str).collect();
-    match words[..] {
-        [] => {
-            times::print::<Judging>();
+    let work = |name: &str| WORKS.iter().find(|work| work.name == name);
+    match (&words[..], words.first().and_then(|name| work(name))) {
+        ([], _) => print_all(),
+        ([_, side, rows, times], Some(work)) => (work.one_side)(side, rows, times),
+        _ => refuse(
+            "give no word, or valid, insert or answer1 to answer7, a side, a number of rows and how often",
+        ),
+    }
+}
+
+fn print_all() {
+    for (place, work) in WORKS.iter().enumerate() {
+        if place > 0 {
             println!();
-            times::print::<Inserting>();
         }
-        [Judging::NAME, side, rows, times] => one_side::<Judging>(side, rows, times),
-        [Inserting::NAME, side, rows, times] => one_side::<Inserting>(side, rows, times),
-        _ => refuse("give no word, or valid or insert, a side, a number of rows and how often"),
+        (work.print)();
     }
 }
 

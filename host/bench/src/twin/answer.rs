@@ -260,3 +260,92 @@ fn add_row(
     row[20..].copy_from_slice(&[new.reads, new.writes, prepare, outcome]);
     add(table, index, &row, new.body);
 }
+
+#[cfg(test)]
+mod tests {
+    use super::{answer, TABLE_BYTES};
+    use samples::{random, Dice, Row, Table, GREATEST_STAMP, MOST_ROWS};
+
+    /// The number for a message to a table in a buffer, on which the twin and the second program have to agree, as on every
+    /// byte.
+    fn answered(table: &[u8], message: &[u8], reply_length: usize) -> u8 {
+        let mut by_twin = (table.to_vec(), vec![0xee; reply_length]);
+        let mut by_second = by_twin.clone();
+        let number = reference::answer(&mut by_second.0, message, &mut by_second.1);
+        let found = answer(&mut by_twin.0, message, &mut by_twin.1);
+        assert_eq!(found, number, "message {:02x?}", message);
+        assert!(by_twin == by_second, "number {}: {:02x?}", number, message);
+        number
+    }
+
+    /// A message of any kind about a row, to a table of this view.
+    fn message(dice: &mut Dice, table: &Table, row: &Row) -> Vec<u8> {
+        let stamp = row.stamp.to_be_bytes();
+        let view = dice.one_of(&[table.view, table.view, table.view, 0]);
+        let view = view.to_be_bytes();
+        let later = dice.one_of(&[table.promised.wrapping_add(1), table.promised, table.view]);
+        let counts = [row.reads.len() as u8, row.writes.len() as u8];
+        let verdict = [dice.one_of(&[1, 2])];
+        let retry = row.stamp.to_be_bytes();
+        match 1 + dice.index(7) {
+            1 => [&[1], &stamp[..], &counts, &row.body()].concat(),
+            2 if verdict == [1] => [&[2], &stamp[..], &view, &[4], &retry].concat(),
+            2 => [&[2], &stamp[..], &view, &[1], &[0; 8]].concat(),
+            3 => [&[3], &stamp[..], &verdict, &counts, &row.body()].concat(),
+            4 => [&[4], &stamp[..], &view, &verdict].concat(),
+            5 => [&[5], &later.to_be_bytes()[..]].concat(),
+            6 => [&[6], &later.to_be_bytes()[..], &started(table, later)].concat(),
+            _ => [&[7], &stamp[..], &[dice.one_of(&[0, 7, 63])]].concat(),
+        }
+    }
+
+    /// The image of the table's rows with which a view begins.
+    fn started(table: &Table, view: u32) -> Vec<u8> {
+        let mut image = table.clone();
+        image.box_number = (view % u32::from(table.n)) as u8;
+        (image.mode, image.view, image.promised) = (0, view, view);
+        for row in &mut image.rows {
+            row.prepare += if (1..=4).contains(&row.prepare) { 4 } else { 0 };
+            row.outcome += if (1..=2).contains(&row.outcome) { 2 } else { 0 };
+        }
+        image.rows.truncate(image.rows.len() - image.rows.len() % 2);
+        image.start_rows = image.rows.len() as u32;
+        image.image()
+    }
+
+    /// A table in a buffer and a message to it. Some have a byte changed, and some rows are of the table with another body.
+    fn case(dice: &mut Dice, rows: usize) -> (Vec<u8>, Vec<u8>) {
+        let table = random::table(dice, rows);
+        let stamp = 1 + dice.below(GREATEST_STAMP);
+        let held = &table.rows[dice.index(rows)];
+        let stamp = dice.one_of(&[stamp, held.stamp]);
+        let other = random::row(dice, stamp, (1, 2));
+        let row = if dice.in_a_hundred(60) { held } else { &other };
+        let mut message = message(dice, &table, row);
+        let mut buffer = table.image();
+        for bytes in [&mut message, &mut buffer] {
+            let place = dice.index(bytes.len());
+            bytes[place] ^= dice.one_of(&[0, 0, 0, 0, 0, 1, 255]);
+        }
+        buffer.resize(TABLE_BYTES, 0xee);
+        (buffer, message)
+    }
+
+    #[test]
+    fn the_twin_answers_as_the_second_program() {
+        let mut dice = Dice::seeded(1);
+        let mut met = [0; 11];
+        for turn in 0..30_000 {
+            let rows = match turn % 50 {
+                49 => dice.one_of(&[MOST_ROWS - 1, MOST_ROWS]),
+                _ => 1 + turn % 5,
+            };
+            let (buffer, message) = case(&mut dice, rows);
+            let length = dice.one_of(&[23, 24, 25, 25, 25, 25]);
+            met[usize::from(answered(&buffer, &message, length))] += 1;
+            let short = &buffer[..TABLE_BYTES - 1];
+            assert_eq!(answered(short, &message, 24), 1);
+        }
+        assert!(met.iter().all(|times| *times > 9), "{:?}", met);
+    }
+}

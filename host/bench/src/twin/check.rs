@@ -90,12 +90,11 @@ pub(super) fn newest(image: &[u8], rows: usize, stamp: u64, register: u8) -> (u6
     let mut newest = (0, 0);
     for index in (0..rows).rev() {
         let row = Row::read(image, index);
-        if row.outcome != COMMIT_DONE || stamp < row.stamp || row.stamp <= newest.0 {
+        if row.outcome != COMMIT_DONE || stamp < row.stamp {
             continue;
         }
-        if let Some(value) = Transaction::of(&row, image).write_to(register) {
-            newest = (row.stamp, value);
-        }
+        let value = Transaction::of(&row, image).write_to(register);
+        newest = value.map_or(newest, |value| newest.max((row.stamp, value)));
     }
     newest
 }
