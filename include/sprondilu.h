@@ -100,7 +100,8 @@ uint64_t sprondilu_valid(const uint8_t *bytes, size_t bytes_len);
  *   SPRONDILU_BAD_MESSAGE    the message is none of the seven kinds by every rule, to its exact length: drop it
  *   SPRONDILU_CHANGING       messages 1 to 4 and 7, while the box is between two views
  *   SPRONDILU_OTHER_VIEW     messages 2 and 4, for a view that is not the box's
- *   SPRONDILU_OLD_VIEW       messages 5 and 6, for a view that the box has left behind or promised to leave
+ *   SPRONDILU_OLD_VIEW       message 5, for a view at or below the promised one; message 6, for one below the promised one,
+ *                            or at or below the box's
  *   SPRONDILU_UNKNOWN        messages 2 and 4: what they finalise is not in the table
  *   SPRONDILU_OTHER_BODY     messages 1 and 3: the stamp is held with another body
  *   SPRONDILU_CONTRADICTION  messages 2 to 4: another final result or the opposite outcome is held

@@ -110,20 +110,22 @@ impl Lent {
         self.library.reply.fill(dirt);
         self.second.reply.fill(dirt);
         let before = self.held()[..240].to_vec();
-        let asked = message.to_vec();
+        // A message may begin at any address too.
+        let lead = self.dice.index(8);
+        let lent = [&self.dirt[..lead], message].concat();
         let begin = self.begin;
         let number = self
             .second
-            .answered(begin, lengths, &asked, reference::answer);
+            .answered(begin, lengths, message, reference::answer);
         let found = self
             .library
-            .answered(begin, lengths, message, boundary::answer);
+            .answered(begin, lengths, &lent[lead..], boundary::answer);
         let same = found == number
             && self.library.table == self.second.table
             && self.library.reply == self.second.reply
-            && asked == message;
+            && lent[lead..] == *message;
         if !same {
-            self.say_what_differs((found, number), lengths, &before, &asked);
+            self.say_what_differs((found, number), lengths, &before, message);
         }
         if number == 0 {
             self.used = self.used.max(self.number_at(20) as usize);

@@ -23,7 +23,7 @@ const OWN: [&[u8]; 8] = [
 
 /// Refusals that no table and message can meet together: what is not held has no other body and is not opposed, and only a
 /// new stamp is too much for a full table.
-const NEVER: [(u8, u8); 4] = [(8, 6), (5, 7), (6, 7), (8, 5)];
+const NEVER: [(u8, u8); 3] = [(8, 6), (5, 7), (6, 7)];
 
 /// Every kind with every set of at most three refusals that it can meet at once, in many tables; those that need a full
 /// table a few times.

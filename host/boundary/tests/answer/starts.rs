@@ -5,9 +5,12 @@ use crate::messages as make;
 use samples::damage;
 use samples::{random, Dice, Table, MOST_ROWS};
 
+/// A way to break a condition. It says whether it did: some are not to be broken without rows.
+type Breaks = fn(&mut Dice, &mut Table) -> bool;
+
 /// "The image must be normal, view v, box v mod n, the same n, start rows equal to rows, prepare bytes 0 or 5 to 8, outcomes
 /// 0, 3 or 4": a way to break each.
-const BROKEN: [fn(&mut Dice, &mut Table) -> bool; 7] = [
+const BROKEN: [Breaks; 7] = [
     changing,
     other_view,
     other_box,
@@ -17,7 +20,6 @@ const BROKEN: [fn(&mut Dice, &mut Table) -> bool; 7] = [
     noted,
 ];
 
-/// Each says whether it broke its condition: some are not to be broken without rows.
 fn changing(_: &mut Dice, image: &mut Table) -> bool {
     image.mode = 1;
     image.promised = image.view.saturating_add(1);
@@ -79,15 +81,14 @@ fn noted(dice: &mut Dice, image: &mut Table) -> bool {
     rows > 0
 }
 
-/// An image with which a view begins.
-fn beginning(dice: &mut Dice, n: u8, view: u32, rows: usize) -> Table {
-    let mut image = random::table(dice, rows);
+/// A random table made the first in a view.
+fn beginning(mut image: Table, n: u8, view: u32) -> Table {
     image.n = n;
     image.box_number = (view % u32::from(n)) as u8;
     image.mode = 0;
     image.view = view;
     image.promised = view;
-    image.start_rows = rows as u32;
+    image.start_rows = image.rows.len() as u32;
     for row in &mut image.rows {
         row.prepare += if (1..=4).contains(&row.prepare) { 4 } else { 0 };
         row.outcome += if (1..=2).contains(&row.outcome) { 2 } else { 0 };
@@ -111,12 +112,20 @@ fn view_for(dice: &mut Dice, table: &Table) -> u32 {
     dice.one_of(&about)
 }
 
-/// Has an image taken, or refused, that breaks these conditions.
-fn started(lent: &mut Lent, sizes: (usize, usize), broken: &[fn(&mut Dice, &mut Table) -> bool]) {
+/// Has an image of so many rows that breaks these conditions taken, or refused, by a table of so many.
+fn started(lent: &mut Lent, (own, taken): (usize, usize), broken: &[Breaks]) {
+    let tables = [
+        random::table(&mut lent.dice, own),
+        random::table(&mut lent.dice, taken),
+    ];
+    started_with(lent, tables, broken);
+}
+
+/// Has the second table taken, or refused, by the first.
+fn started_with(lent: &mut Lent, [table, image]: [Table; 2], broken: &[Breaks]) {
     let dice = &mut lent.dice;
-    let table = random::table(dice, sizes.0);
     let view = view_for(dice, &table);
-    let mut image = beginning(dice, table.n, view, sizes.1);
+    let mut image = beginning(image, table.n, view);
     let mut any = false;
     for breaks in broken {
         any |= breaks(dice, &mut image);
@@ -151,7 +160,7 @@ pub fn conditions(lent: &mut Lent) {
     }
 }
 
-/// Full tables taken, and given up.
+/// Large tables taken, and given up; some fill their buffers to the last byte.
 pub fn large(lent: &mut Lent) {
     let sizes = [0, 1, MOST_ROWS - 1, MOST_ROWS];
     for (own, taken) in sizes
@@ -162,7 +171,26 @@ pub fn large(lent: &mut Lent) {
         BROKEN
             .iter()
             .for_each(|one| started(lent, (own, taken), &[*one]));
+        for _ in 0..8 {
+            let full = |rows| random::full_table(&mut lent.dice, rows);
+            let tables = [own, taken].map(full);
+            started_with(lent, tables, &[]);
+        }
     }
+    (0..10).for_each(|_| too_many_rows(lent));
+}
+
+/// Images of many and of too many rows, as views begin with them.
+fn too_many_rows(lent: &mut Lent) {
+    let own = random::table(&mut lent.dice, 3);
+    let (held, view) = (own.image(), own.promised.saturating_add(1));
+    let mut dice = Dice::seeded(lent.dice.below(1_000));
+    damage::rows_about_the_limit(&mut dice, &mut |_, image| {
+        let mut image = image.to_vec();
+        image[2] = own.n;
+        lent.hold(&held);
+        lent.ask(&make::start_view(view, &make::settled(&image, view)));
+    });
 }
 
 /// Images of every kind, good and damaged, with which a view is started; each in a message of the view that it had.
@@ -170,7 +198,8 @@ pub fn damaged(lent: &mut Lent) {
     for turn in 0..8 {
         let own = random::table(&mut lent.dice, turn % 5);
         let view = own.promised.saturating_add(1);
-        let image = beginning(&mut lent.dice, own.n, view, 3 + turn % 4);
+        let image = random::table(&mut lent.dice, 3 + turn % 4);
+        let image = beginning(image, own.n, view);
         let held = own.image();
         let mut dice = Dice::seeded(turn as u64);
         let mut ask = |_: &str, bytes: &[u8]| {
