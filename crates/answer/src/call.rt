@@ -1,11 +1,11 @@
 // The answer call: any bytes in all three buffers.
-use transact::reply;
-use transact::reply::Reply;
 use crate::serve;
 use table::header;
 use table::image;
 use table::image::Found;
 use table::model::Model;
+use transact::reply;
+use transact::reply::Reply;
 ghost use mathlib.Core.Path.{_≡_};
 ghost use Prim.Native.Nat.{_+_, _*_, _≤_};
 ghost use lib.ListN.{length};

@@ -1,6 +1,6 @@
 // Message 7: what a register holds at a stamp.
-use transact::reply::Reply;
 use table::header;
+use transact::reply::Reply;
 ghost use mathlib.Core.Path.{_≡_};
 ghost use Rattle.rules.specs.Tables.{valley};
 ghost use Rattle.rules.specs.Messages.{Message.readRegister};

@@ -1,10 +1,10 @@
 // A message that was read, handed to the function of its kind.
-use transact::outcome;
-use transact::prepare;
 use crate::read;
-use transact::reply::Reply;
 use crate::views;
 use message::kinds::Message;
+use transact::outcome;
+use transact::prepare;
+use transact::reply::Reply;
 ghost use mathlib.Core.Path.{_≡_};
 ghost use Prim.Native.Nat.{_+_, _*_, _≤_};
 ghost use lib.ListN.{length};

@@ -1,6 +1,6 @@
 // Messages 5 and 6: the box promises a view, and starts one.
-use transact::reply::Reply;
 use table::header;
+use transact::reply::Reply;
 ghost use mathlib.Core.Path.{_≡_};
 ghost use mathlib.Core.Bool.{true};
 ghost use Prim.Native.Nat.{_≤_};

@@ -8,6 +8,7 @@ ghost use Rattle.rules.specs.Tables.{valley};
 ghost use Rattle.table.specs.Images.{formatOne};
 ghost use Rattle.table.specs.Parse.{parse, imageFound};
 ghost use Rattle.table.specs.Fresh.{freshNumber, freshBuffer};
+ghost use Rattle.answer.specs.Calls.{callNumber, callTable, callReply};
 ghost use Rattle.sprondilu.specs.Calls.{validAnswer};
 
 // The fresh table of a box, at the start of a table buffer; the answer is the number.
@@ -17,6 +18,16 @@ pub extern "C" fn sprondilu_fresh(table: &mut [u8], n: u8, boxnumber: u8) -> u8
     ensures { λ _. ⌜ now (table .exit) ≡ freshBuffer valley (now (table .entry)) n boxnumber ⌝ }
 {
     table::fresh::fresh(table, n, boxnumber)
+}
+
+// A box's answer to one message: the number. Table and reply are left in their buffers.
+#[no_mangle]
+pub extern "C" fn sprondilu_answer(table: &mut [u8], message: &[u8], reply: &mut [u8]) -> u8
+    ensures { λ r. ⌜ r ≡ callNumber valley (now (table .entry)) (now (message .entry)) (now (reply .entry)) ⌝ }
+    ensures { λ _. ⌜ now (table .exit) ≡ callTable valley (now (table .entry)) (now (message .entry)) (now (reply .entry)) ⌝ }
+    ensures { λ _. ⌜ now (reply .exit) ≡ callReply valley (now (table .entry)) (now (message .entry)) (now (reply .entry)) ⌝ }
+{
+    answer::call::answer(table, message, reply)
 }
 
 // Whether lent bytes begin with an image, and how long it is: number and length in one word.
