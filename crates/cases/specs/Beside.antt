@@ -1,14 +1,14 @@
--- Beside the marked cases: the codes of a row, merges, the image after message 1, and messages to one box, one after the other.
+-- Beside the marked cases: the codes of a row, merges, message 1 to the byte, and messages to one box, one after the other.
 use mathlib.Core.Bool.{cond}
 use mathlib.Core.List.{List, [], _∷_, _++_, map}
 use Prim.Native.Nat.{ℕ}
 use lib.ListN.{replicate}
-use Rattle.rules.specs.Tables.{Result.OK, Result.ABORT, Result.ABSTAIN, Result.RETRY, Prepare, Prepare.noPrepare, Prepare.tentative, Prepare.final, Verdict.commit, Verdict.abort, Outcome, Outcome.noOutcome, Outcome.noted, Outcome.done, Row, Table, Model, normalMode}
+use Rattle.rules.specs.Tables.{Result.OK, Result.ABORT, Result.ABSTAIN, Result.RETRY, Prepare, Prepare.noPrepare, Prepare.tentative, Prepare.final, Verdict.commit, Verdict.abort, Outcome, Outcome.noOutcome, Outcome.noted, Outcome.done, Row, Table, Model, normalMode, freshTable}
 use Rattle.rules.specs.Messages.{Message, Message.proposePrepare, Message.finalisePrepare, Message.proposeOutcome, Message.finaliseOutcome, Message.changeView, Message.startView, Message.readRegister}
 use Rattle.rules.specs.Circumstances.{belowLimit}
 use Rattle.rules.specs.Answers.{answer}
 use Rattle.rules.specs.Check.{check}
-use Rattle.cases.specs.Kinds.{Case, Case.merged, Case.imaged}
+use Rattle.cases.specs.Kinds.{Case, Case.merged, Case.imaged, Case.replied}
 use Rattle.cases.specs.Marked.{reads, writes, row, prepared, changing}
 
 -- the nine prepare bytes and the five outcome bytes, in the order of their codes
@@ -55,6 +55,14 @@ imageAfterOne =
     ++ (0 ∷ 0 ∷ 0 ∷ 48 ∷ 0 ∷ 1 ∷ 1 ∷ 0 ∷ [])
     ++ (5 ∷ 0 ∷ 0 ∷ 0 ∷ 0 ∷ 0 ∷ 0 ∷ 0 ∷ 7 ∷ [])
 
+-- the same, heard: "1 propose prepare: kind, stamp, two counts, body."
+abbrev pub messageOne : List ℕ
+messageOne = 1 ∷ 0 ∷ 0 ∷ 0 ∷ 0 ∷ 0 ∷ 1 ∷ 0 ∷ 1 ∷ 0 ∷ 1 ∷ 5 ∷ 0 ∷ 0 ∷ 0 ∷ 0 ∷ 0 ∷ 0 ∷ 0 ∷ 7 ∷ []
+
+-- and said: "number 0, kind, box, state byte", "last normal view after the call 4, stamp 8, value 8"
+abbrev pub replyOne : List ℕ
+replyOne = 0 ∷ 1 ∷ 0 ∷ 1 ∷ replicate 4 0 ++ (0 ∷ 0 ∷ 0 ∷ 0 ∷ 0 ∷ 1 ∷ 0 ∷ 1 ∷ replicate 8 0)
+
 unfoldable pub beside : List Case
 beside =
     merged 2 older 20 (final OK)
@@ -63,6 +71,7 @@ beside =
     ∷ merged 1 (retries 30 30) 20 (final (RETRY 30))
     ∷ merged 1 (retries 30 40) 20 (final OK)
     ∷ imaged afterOne imageAfterOne
+    ∷ replied (freshTable 3 0) messageOne replyOne imageAfterOne
     ∷ []
 
 -- ---- messages to one box
