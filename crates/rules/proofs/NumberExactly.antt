@@ -9,6 +9,7 @@ use lib.Dec.{eqb}
 use borrow.Author.Tests.{eqb-true}
 use Rattle.rules.specs.Tests.{both, either}
 use Rattle.rules.specs.Numbers.{Number, Number.smallBuffer, Number.badTable, Number.badMessage, Number.changing, Number.otherBody, Number.contradiction, Number.full, Number.unknown, Number.otherView, Number.oldView, Number.wrongTables, numberCode, order, Circumstance, applies, first, number}
+use Rattle.rules.proofs.Numbers.{positive}
 use Rattle.rules.proofs.Logic.{cases, impossible, eqb-self, both-left, both-right, both-true, both-false, either-cases, either-first, either-second}
 use Rattle.rules.proofs.Lists.{_∈_, places}
 
@@ -52,19 +53,6 @@ in-order unknown = search places depth 11
 in-order otherView = search places depth 11
 in-order oldView = search places depth 11
 in-order wrongTables = search places depth 11
-
-positive : (k : Number) → 0 < numberCode k
-positive smallBuffer = omega arith
-positive badTable = omega arith
-positive badMessage = omega arith
-positive changing = omega arith
-positive otherBody = omega arith
-positive contradiction = omega arith
-positive full = omega arith
-positive unknown = omega arith
-positive otherView = omega arith
-positive oldView = omega arith
-positive wrongTables = omega arith
 
 -- a code is of one number
 byCode : ℕ → Number

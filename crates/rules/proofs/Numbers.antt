@@ -16,7 +16,7 @@ unfolding applies any
 applies-is [] k = refl
 applies-is (c ∷ cs) k = ap (either (both (eqb (numberCode (c .0)) (numberCode k)) (c .1))) (applies-is cs k)
 
-positive : (k : Number) → 0 < numberCode k
+pub positive : (k : Number) → 0 < numberCode k
 positive smallBuffer = omega arith
 positive badTable = omega arith
 positive badMessage = omega arith
