@@ -22,6 +22,7 @@ use Rattle.rules.specs.Check.{check}
 use Rattle.rules.proofs.Logic.{cases, same?, either-left, either-right}
 use Rattle.rules.proofs.Check.{check-by-rule}
 use Rattle.rules.proofs.Answers.{below-limit-fits, taken-by-rule, answer-by-rule, answer-same-box}
+use Rattle.rules.proofs.NumberExactly.{Wins, number-exactly, zero-exactly, small-first}
 use Rattle.table.specs.Images.{formatOne, imageLength}
 use Rattle.table.specs.Parse.{parse}
 use Rattle.table.proofs.Images.{Sound, length-image, image-at-most, parse-reads, parse-by-rule}
@@ -30,9 +31,8 @@ use Rattle.edit.proofs.EditedBuffers.{edited-length, edited-past, edited-given-
 use Rattle.message.specs.Messages.{messageAt}
 use Rattle.transact.specs.declared.reply.Reply.{Reply}
 use Rattle.transact.specs.Replies.{replyAs, replyBytes}
-use Rattle.answer.specs.Calls.{callCircumstances, callNumber, callTable, replyTo, callReply}
 use Rattle.transact.proofs.ReplySteps.{length-reply}
-use Rattle.rules.proofs.NumberExactly.{Wins, number-exactly, zero-exactly, small-first}
+use Rattle.answer.specs.Calls.{callCircumstances, callNumber, callTable, replyTo, callReply}
 
 -- ---- each number exactly in its circumstances
 

@@ -17,14 +17,14 @@ use Rattle.rules.specs.Circumstances.{tooSmall, replyTooSmall, belowLimit, mess
 use Rattle.rules.specs.Answers.{answerNumber}
 use Rattle.rules.proofs.Logic.{impossible, none-some, both-left, both-right, both-true, not-true-of, either-none}
 use Rattle.rules.proofs.Tables.{table-facts}
+use Rattle.rules.proofs.NumberExactly.{number-exactly}
 use Rattle.table.specs.Images.{formatOne}
 use Rattle.table.specs.Parse.{parse}
 use Rattle.table.proofs.Images.{parse-by-rule}
 use Rattle.message.specs.Messages.{messageAt}
 use Rattle.transact.specs.Served.{servedNumber}
-use Rattle.answer.specs.Calls.{callNumber}
 use Rattle.transact.proofs.Serving.{number-1, number-3}
-use Rattle.rules.proofs.NumberExactly.{number-exactly}
+use Rattle.answer.specs.Calls.{callNumber}
 use Rattle.answer.proofs.AnswerCall.{numberFor, call-number, not-small}
 use Rattle.answer.proofs.AnswerWays.{own-rule}
 

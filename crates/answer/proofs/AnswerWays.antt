@@ -14,12 +14,12 @@ use Rattle.rules.specs.Messages.{Message, Message.proposePrepare, Message.final
 use Rattle.rules.specs.Circumstances.{tooSmall, replyTooSmall, belowLimit, messageByRule, furtherCircumstances, circumstances}
 use Rattle.rules.specs.Answers.{answerNumber}
 use Rattle.rules.proofs.Logic.{cases, impossible, either-cases, either-left, either-right, either-first, either-second, either-false}
+use Rattle.rules.proofs.NumberExactly.{number-exactly, number-not-given}
 use Rattle.table.specs.Images.{formatOne}
 use Rattle.table.specs.Parse.{parse}
 use Rattle.message.specs.Messages.{messageAt}
 use Rattle.transact.specs.Served.{servedNumber}
 use Rattle.answer.specs.Calls.{callNumber}
-use Rattle.rules.proofs.NumberExactly.{number-exactly, number-not-given}
 use Rattle.answer.proofs.AnswerCall.{numberFor, call-number}
 
 -- ---- a message that breaks a rule of its own is answered 3, and any other by what the table holds

@@ -30,7 +30,7 @@ use Rattle.table.proofs.Images.{bodies-at-most, one-sound, parsed}
 use Rattle.message.specs.Messages.{countsAndBody, messageBytes, messageAt}
 use Rattle.message.specs.Read.{lawful, messageTo}
 use Rattle.message.proofs.Forms.{message-bytes}
-use Rattle.transact.specs.Served.{limited, Lawful}
+use Rattle.seek.specs.Lent.{limited, Lawful}
 
 module _ (M : Model) (n : ℕ) (s : List ℕ) (m : Message) (told : some m ≡ messageTo formatOne M n s) where
   read-so : (messageAt formatOne s ≡ some m) × (messageByRule M n m ≡ true)

@@ -16,10 +16,10 @@ use Rattle.table.specs.Images.{formatOne}
 use Rattle.table.specs.Parse.{tableAt}
 use Rattle.edit.specs.Edited.{Holds}
 use Rattle.edit.proofs.EditedBuffers.{edited-same}
+use Rattle.seek.proofs.SoughtRows.{said-changing, said-normal}
 use Rattle.transact.specs.Replies.{replyAs, doneReply}
 use Rattle.transact.specs.Served.{servedBuffer}
 use Rattle.transact.proofs.Serving.{number-7, Kept, kept-refused, kept-taken}
-use Rattle.transact.proofs.SoughtRows.{said-changing, said-normal}
 
 module _ (M : Model) (s : List ℕ) (stamp k : ℕ) (holds : Holds formatOne s) where
   pub read-refused : headerAt s .mode ≡ 1 → Kept M (readRegister stamp k) s (replyAs (refusal 4)) s

@@ -28,13 +28,13 @@ use Rattle.edit.specs.Edited.{Holds, edited}
 use Rattle.edit.proofs.EditedBuffers.{edited-same, edited-as}
 use Rattle.message.specs.Messages.{messageAt}
 use Rattle.message.specs.Read.{lawful, messageTo}
+use Rattle.seek.specs.Lent.{limited, Lawful}
+use Rattle.seek.proofs.HeldRows.{lawful-holds, lawful-regular}
 use Rattle.transact.specs.declared.reply.Reply.{Reply}
 use Rattle.transact.specs.Replies.{replyAs, replyBytes}
-use Rattle.transact.specs.Served.{limited, servedNumber, served, Lawful}
+use Rattle.transact.specs.Served.{servedNumber, served}
 use Rattle.answer.specs.Heard.{answerTo, answerReply, answerBuffer, heard, heardReply, heardBuffer}
 use Rattle.answer.specs.Calls.{callNumber, callTable, callReply, changeBy, replyTo}
-use Rattle.transact.proofs.Serving.{lawful-holds}
-use Rattle.transact.proofs.HeldRows.{lawful-regular}
 use Rattle.answer.proofs.AnswerCall.{numberFor, call-number}
 use Rattle.answer.proofs.AnswerWays.{own-rule, served-other}
 

@@ -12,7 +12,7 @@ ghost use lib.ListN.{length};
 ghost use Rattle.rules.specs.Tables.{valley};
 ghost use Rattle.table.specs.Images.{formatOne};
 ghost use Rattle.table.specs.Parse.{parse};
-ghost use Rattle.transact.specs.Served.{limited};
+ghost use Rattle.seek.specs.Lent.{limited};
 ghost use Rattle.answer.specs.Heard.{heardReply, heardBuffer};
 ghost use Rattle.answer.specs.Calls.{callNumber, callTable, callReply};
 

@@ -4,7 +4,8 @@ use transact::reply::Reply;
 ghost use mathlib.Core.Path.{_≡_};
 ghost use Rattle.rules.specs.Tables.{valley};
 ghost use Rattle.rules.specs.Messages.{Message.readRegister};
-ghost use Rattle.transact.specs.Served.{Lawful, servedReply};
+ghost use Rattle.seek.specs.Lent.{Lawful};
+ghost use Rattle.transact.specs.Served.{servedReply};
 
 // The greatest done-commit write of a register at or below a stamp. The table is only looked at.
 pub fn read_register(table: &[u8], stamp: u64, register: u8) -> Reply

@@ -12,7 +12,7 @@ ghost use Rattle.rules.specs.Tables.{valley};
 ghost use Rattle.table.specs.Headers.{headerAt};
 ghost use Rattle.table.specs.Images.{formatOne};
 ghost use Rattle.message.specs.Read.{meant, messageTo, Coded};
-ghost use Rattle.transact.specs.Served.{limited, Lawful};
+ghost use Rattle.seek.specs.Lent.{limited, Lawful};
 ghost use Rattle.answer.specs.Heard.{answerReply, answerBuffer};
 
 // The answer to one of the seven messages, or to none.

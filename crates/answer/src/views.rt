@@ -2,16 +2,15 @@
 use table::header;
 use transact::reply::Reply;
 ghost use mathlib.Core.Path.{_≡_};
-ghost use mathlib.Core.Bool.{true};
 ghost use Prim.Native.Nat.{_≤_};
 ghost use Rattle.rules.specs.Tables.{valley};
 ghost use Rattle.rules.specs.Messages.{Message.changeView, Message.startView};
-ghost use Rattle.rules.specs.Circumstances.{messageByRule};
 ghost use lib.ListN.{length};
 ghost use Rattle.table.specs.Headers.{headerAt};
 ghost use Rattle.table.specs.Images.{formatOne};
 ghost use Rattle.table.specs.Parse.{tableAt};
-ghost use Rattle.transact.specs.Served.{Lawful, servedReply, servedBuffer};
+ghost use Rattle.seek.specs.Lent.{Lawful};
+ghost use Rattle.transact.specs.Served.{servedReply, servedBuffer};
 
 // Message 5: a view above the promised one is promised.
 pub fn change_view(table: &mut [u8], view: u32) -> Reply

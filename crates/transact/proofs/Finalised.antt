@@ -28,13 +28,14 @@ use Rattle.table.specs.Parse.{tableAt}
 use Rattle.edit.specs.Changes.{onRow}
 use Rattle.edit.specs.Edited.{edited}
 use Rattle.message.specs.Messages.{resultByCode, verdictByCode}
-use Rattle.transact.specs.declared.seek.Finding.{Finding}
-use Rattle.transact.specs.declared.seek.Finding.the-variants.{Known, Refused}
+use Rattle.seek.specs.declared.Finding.{Finding}
+use Rattle.seek.specs.declared.Finding.the-variants.{Known, Refused}
+use Rattle.seek.specs.Lent.{Lawful}
+use Rattle.seek.specs.Sought.{toFinalise}
+use Rattle.seek.proofs.HeldRows.{lawful-holds, held-here, prepare-here, outcome-here, changed-here, held-then}
 use Rattle.transact.specs.Replies.{replyAs}
-use Rattle.transact.specs.Served.{Lawful, servedNumber}
-use Rattle.transact.specs.Sought.{toFinalise}
-use Rattle.transact.proofs.Serving.{number-2, number-4, Kept, kept-refused, kept-taken, lawful-holds}
-use Rattle.transact.proofs.HeldRows.{held-here, prepare-here, outcome-here, changed-here, held-then}
+use Rattle.transact.specs.Served.{servedNumber}
+use Rattle.transact.proofs.Serving.{number-2, number-4, Kept, kept-refused, kept-taken}
 use Rattle.transact.proofs.CodesMeant.{result-numbered, final-numbered, verdict-numbered, done-numbered}
 
 -- ---- what was found

@@ -1,8 +1,5 @@
 pub mod ReplySteps
 pub mod Serving
-pub mod HeldRows
-pub mod BodiesAlike
-pub mod SoughtRows
 pub mod CodesMeant
 pub mod Finalised
 pub mod Proposals

@@ -25,9 +25,8 @@ use Rattle.table.specs.Parse.{parse, tableAt}
 use Rattle.table.proofs.Images.{one-sound}
 use Rattle.edit.proofs.Holding.{holds-rows}
 use Rattle.edit.proofs.Room.{room-for-one}
-use Rattle.transact.specs.Served.{Lawful, limited}
-use Rattle.transact.proofs.Serving.{lawful-holds}
-use Rattle.transact.proofs.HeldRows.{lawful-regular}
+use Rattle.seek.specs.Lent.{Lawful, limited}
+use Rattle.seek.proofs.HeldRows.{lawful-holds, lawful-regular}
 
 pub held-new : (r : Row) (rows : List Row) → held rows (r .stamp) ≡ none → held (added r rows) (r .stamp) ≡ some r
 held-new r rows unheld = held-added r rows (r .stamp) unheld ∙ rw (eq-eqb (r .stamp) (r .stamp) refl)

@@ -22,11 +22,11 @@ use Rattle.rows.specs.Places.{placeOf}
 use Rattle.table.specs.Images.{formatOne}
 use Rattle.table.specs.Parse.{tableAt}
 use Rattle.edit.specs.Edited.{Holds}
-use Rattle.transact.specs.declared.seek.Proposal.{Proposal}
-use Rattle.transact.specs.declared.seek.Proposal.the-variants.{Held, New, Against}
+use Rattle.seek.specs.declared.Proposal.{Proposal}
+use Rattle.seek.specs.declared.Proposal.the-variants.{Held, New, Against}
+use Rattle.seek.specs.Sought.{toPropose}
 use Rattle.transact.specs.Replies.{replyAs}
 use Rattle.transact.specs.Served.{servedNumber}
-use Rattle.transact.specs.Sought.{toPropose}
 use Rattle.transact.proofs.Serving.{Kept, kept-refused}
 
 against-same : {a b : ℕ} → Against a ≡ Against b → a ≡ b

@@ -28,12 +28,13 @@ use Rattle.table.specs.Parse.{tableAt}
 use Rattle.edit.specs.Changes.{onRow, adding}
 use Rattle.edit.specs.Edited.{edited}
 use Rattle.message.specs.Messages.{verdictByCode}
-use Rattle.transact.specs.declared.seek.Proposal.the-variants.{Held, New, Against}
+use Rattle.seek.specs.declared.Proposal.the-variants.{Held, New, Against}
+use Rattle.seek.specs.Lent.{Lawful}
+use Rattle.seek.specs.Sought.{toPropose}
+use Rattle.seek.proofs.HeldRows.{lawful-holds, lawful-regular, held-here, by-rule-here, prepare-here, retry-here, outcome-here, changed-here, held-then}
 use Rattle.transact.specs.Replies.{replyAs, doneReply}
-use Rattle.transact.specs.Served.{Lawful}
-use Rattle.transact.specs.Sought.{toPropose, answeredByte}
-use Rattle.transact.proofs.Serving.{number-1, number-3, Kept, kept-taken, lawful-holds}
-use Rattle.transact.proofs.HeldRows.{lawful-regular, held-here, by-rule-here, prepare-here, retry-here, outcome-here, changed-here, held-then}
+use Rattle.transact.specs.Served.{answeredByte}
+use Rattle.transact.proofs.Serving.{number-1, number-3, Kept, kept-taken}
 use Rattle.transact.proofs.CodesMeant.{noted-numbered, verdict-numbered}
 use Rattle.transact.proofs.Proposals.{held-clear, new-clear, proposal-refused, proposal-opposed, proposal-clear}
 use Rattle.transact.proofs.NewRows.{held-new}

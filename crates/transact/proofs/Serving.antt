@@ -2,7 +2,6 @@
 use mathlib.Core.Path.{_≡_, refl, sym, ap, _∙_}
 use mathlib.Core.Bool.{Bool, true, false, cond}
 use mathlib.Core.List.{List}
-use mathlib.Core.Option.{none}
 use Prim.Native.Nat.{ℕ}
 use lib.Dec.{eqb}
 use Rattle.rules.specs.Tests.{both, either}
@@ -15,12 +14,11 @@ use Rattle.rules.specs.Answers.{Answer, refusal, refused, taken, replyFrom}
 use Rattle.rules.specs.Check.{check}
 use Rattle.table.specs.Images.{formatOne}
 use Rattle.table.specs.Parse.{tableAt}
-use Rattle.table.proofs.Images.{parse-reads}
 use Rattle.edit.specs.Edited.{Holds, edited}
 use Rattle.edit.proofs.EditedBuffers.{edited-same, edited-as}
 use Rattle.transact.specs.declared.reply.Reply.{Reply}
 use Rattle.transact.specs.Replies.{replyAs}
-use Rattle.transact.specs.Served.{servedNumber, served, servedReply, servedBuffer, Lawful}
+use Rattle.transact.specs.Served.{servedNumber, served, servedReply, servedBuffer}
 
 -- ---- the number of each kind: what may refuse it, in 01's order
 
@@ -62,10 +60,6 @@ module _ (M : Model) (T : Table) where
 pub refusal-is : (k : ℕ) → record { number = k; kind = 0; boxnumber = 0; state = 0; view = 0; stamp = 0; value = 0 } ≡ replyAs (refusal k)
 unfolding refusal
 refusal-is k = refl
-
--- bytes that parse begin with the image of their table
-pub lawful-holds : (M : Model) (s : List ℕ) → Lawful M s → Holds formatOne s
-lawful-holds M s lawful = parse-reads formatOne M s (tableAt formatOne s) lawful .1
 
 -- ---- what is then in the reply and in the buffer
 

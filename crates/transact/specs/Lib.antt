@@ -1,3 +1,2 @@
 pub mod Replies
 pub mod Served
-pub mod Sought

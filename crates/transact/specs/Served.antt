@@ -1,26 +1,20 @@
 -- A box's answer to a message that breaks no rule of its own: only what the table holds can still refuse it.
-use mathlib.Core.Path.{_≡_}
 use mathlib.Core.Bool.{cond}
 use mathlib.Core.List.{List}
-use mathlib.Core.Option.{Option, none, some}
-use Prim.Native.Nat.{ℕ, _+_, _*_}
+use Prim.Native.Nat.{ℕ}
 use lib.Dec.{eqb}
+use Rattle.rules.specs.Tests.{either}
 use Rattle.rules.specs.Tables.{Model, Table}
 use Rattle.rules.specs.Numbers.{number}
 use Rattle.rules.specs.Messages.{Message, tableAfter}
 use Rattle.rules.specs.Circumstances.{belowLimit, furtherCircumstances}
-use Rattle.rules.specs.Answers.{Answer, refusal, refused, taken}
+use Rattle.rules.specs.Answers.{Answer, refused, taken}
 use Rattle.rules.specs.Check.{check}
 use Rattle.table.specs.Images.{formatOne}
-use Rattle.table.specs.Parse.{parse, tableAt}
+use Rattle.table.specs.Parse.{tableAt}
 use Rattle.edit.specs.Edited.{edited}
-use Rattle.message.specs.Read.{messageTo}
 use Rattle.transact.specs.declared.reply.Reply.{Reply}
 use Rattle.transact.specs.Replies.{replyAs}
-
--- a kind of box by how many rows it holds: a row and the greatest body have 96 bytes
-abbrev pub limited : ℕ → Model
-limited limit = record { rowLimit = limit; leastBuffer = 24 + 96 * limit }
 
 unfoldable pub servedNumber : Model → Table → Message → ℕ
 servedNumber M T m = number (furtherCircumstances M belowLimit T m)
@@ -36,6 +30,6 @@ servedReply M m s = replyAs (served M (tableAt formatOne s) m .reply)
 abbrev pub servedBuffer : Model → Message → List ℕ → List ℕ
 servedBuffer M m s = edited formatOne (λ T. served M T m .table) s
 
--- bytes that begin with an image by the rules
-abbrev pub Lawful : Model → List ℕ → Type 0
-Lawful M s = parse formatOne M s ≡ some (tableAt formatOne s)
+-- "If a prepare byte is held, answer it. If only an outcome is held, store and answer tentative OK for commit, ABORT for abort.", by the bytes
+unfoldable pub answeredByte : ℕ → ℕ → ℕ
+answeredByte prepare outcome = cond (eqb prepare 0) (cond (either (eqb outcome 1) (eqb outcome 3)) 1 2) prepare

@@ -5,4 +5,3 @@ pub mod add;
 pub mod outcome;
 pub mod prepare;
 pub mod reply;
-pub mod seek;

@@ -1,11 +1,10 @@
 // Messages 3 and 4: an outcome proposed and finalised.
 use crate::add;
 use crate::reply::Reply;
-use crate::seek;
-use crate::seek::Finding;
-use crate::seek::Proposal;
 use rows::row;
 use rows::row::RowFields;
+use seek::Finding;
+use seek::Proposal;
 use table::header;
 ghost use mathlib.Core.Path.{_≡_};
 ghost use mathlib.Core.Bool.{true};
@@ -23,10 +22,11 @@ ghost use Rattle.rows.specs.declared.lookup.Place.the-variants as place;
 ghost use Rattle.table.specs.Images.{formatOne};
 ghost use Rattle.table.specs.Parse.{tableAt};
 ghost use Rattle.message.specs.Messages.{verdictByCode};
-ghost use Rattle.transact.specs.Served.{limited, Lawful, servedReply, servedBuffer};
-ghost use Rattle.transact.specs.Sought.{toFinalise, toPropose};
-ghost use Rattle.transact.specs.declared.seek.Finding.the-variants.{Known};
-ghost use Rattle.transact.specs.declared.seek.Proposal.the-variants.{Held};
+ghost use Rattle.seek.specs.Lent.{limited, Lawful};
+ghost use Rattle.transact.specs.Served.{servedReply, servedBuffer};
+ghost use Rattle.seek.specs.Sought.{toFinalise, toPropose};
+ghost use Rattle.seek.specs.declared.Finding.the-variants.{Known};
+ghost use Rattle.seek.specs.declared.Proposal.the-variants.{Held};
 
 // Whether a held outcome byte is the opposite of a verdict.
 fn opposite(outcome: u8, verdict: u8) -> bool

@@ -1,12 +1,11 @@
 // Messages 1 and 2: a prepare proposed and finalised.
 use crate::add;
 use crate::reply::Reply;
-use crate::seek;
-use crate::seek::Finding;
-use crate::seek::Proposal;
 use checks::pass::Checked;
 use rows::row;
 use rows::row::RowFields;
+use seek::Finding;
+use seek::Proposal;
 use table::header;
 ghost use mathlib.Core.Path.{_≡_};
 ghost use mathlib.Core.Bool.{true};
@@ -28,10 +27,12 @@ ghost use Rattle.table.specs.Images.{formatOne};
 ghost use Rattle.table.specs.Parse.{tableAt};
 ghost use Rattle.checks.specs.Given.{checkedAs};
 ghost use Rattle.message.specs.Messages.{resultByCode};
-ghost use Rattle.transact.specs.Served.{limited, Lawful, servedReply, servedBuffer};
-ghost use Rattle.transact.specs.Sought.{toFinalise, toPropose, answeredByte};
-ghost use Rattle.transact.specs.declared.seek.Finding.the-variants.{Known};
-ghost use Rattle.transact.specs.declared.seek.Proposal.the-variants.{Held, New};
+ghost use Rattle.seek.specs.Lent.{limited, Lawful};
+ghost use Rattle.transact.specs.Served.{servedReply, servedBuffer};
+ghost use Rattle.transact.specs.Served.{answeredByte};
+ghost use Rattle.seek.specs.Sought.{toFinalise, toPropose};
+ghost use Rattle.seek.specs.declared.Finding.the-variants.{Known};
+ghost use Rattle.seek.specs.declared.Proposal.the-variants.{Held, New};
 
 // Whether a held prepare byte with its retry stamp is a final result other than this one.
 fn unequal_final(prepare: u8, held: u64, result: u8, retry: u64) -> bool

@@ -92,10 +92,13 @@ fn declares_function(name: &str, path: &str) -> bool {
         [module, ..] => vec![format!("crates/{}/src/{}.rt", name, module)],
         [] => return false,
     };
-    let declared = format!("fn {}(", parts[parts.len() - 1]);
+    let function = parts[parts.len() - 1];
+    // With a lifetime, what it is lent follows that.
+    let plain = format!("fn {}(", function);
+    let lending = format!("fn {}<'", function);
     sources.iter().any(|file| {
         fs::read_to_string(top().join(file))
-            .map(|source| source.contains(&declared))
+            .map(|source| source.contains(&plain) || source.contains(&lending))
             .unwrap_or(false)
     })
 }

@@ -5,7 +5,7 @@ use denote.Ref.{now}
 use borrow.Author.Needs.{needs}
 use Rattle.table.specs.Images.{formatOne}
 use Rattle.table.specs.Parse.{parse}
-use Rattle.transact.specs.Served.{limited}
+use Rattle.seek.specs.Lent.{limited}
 use Rattle.answer.proofs.Responding.{found-nothing, found-lawful, widened, some-boxes, heard-so}
 use Rattle.answer.proofs.call.respond.Statement.{statement}
 use Rattle.answer.proofs.call.respond.Tie as tie

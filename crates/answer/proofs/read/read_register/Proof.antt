@@ -5,9 +5,9 @@ use Rattle.rules.specs.Tables.{valley}
 use Rattle.table.proofs.Images.{valley-sound}
 use Rattle.table.specs.Images.{formatOne}
 use Rattle.edit.proofs.Holding.{one-starts, holds-least}
+use Rattle.seek.proofs.HeldRows.{lawful-holds}
+use Rattle.seek.proofs.SoughtRows.{rows-inside}
 use Rattle.answer.proofs.RegisterRead.{read-refused, read-taken}
-use Rattle.transact.proofs.Serving.{lawful-holds}
-use Rattle.transact.proofs.SoughtRows.{rows-inside}
 use Rattle.answer.proofs.read.read_register.Statement.{statement}
 use Rattle.answer.proofs.read.read_register.Tie as tie
 

@@ -10,11 +10,12 @@ use Rattle.rules.specs.Tables.{valley}
 use Rattle.table.specs.Headers.{headerAt}
 use Rattle.table.specs.Images.{formatOne}
 use Rattle.table.specs.Parse.{tableAt}
-use Rattle.transact.specs.Served.{limited}
+use Rattle.seek.specs.Lent.{limited}
+use Rattle.seek.proofs.HeldRows.{lawful-holds}
+use Rattle.transact.proofs.Serving.{same-2, same-4, same-5, same-6, same-7, kept-any}
 use Rattle.answer.proofs.Asked.{prepare-given, outcome-given, start-given, up-to-end}
 use Rattle.answer.proofs.Responding.{none-answered}
 use Rattle.answer.proofs.RegisterRead.{read-keeps}
-use Rattle.transact.proofs.Serving.{lawful-holds, same-2, same-4, same-5, same-6, same-7, kept-any}
 use Rattle.answer.proofs.serve.serve.Statement.{statement}
 use Rattle.answer.proofs.serve.serve.Tie as tie
 

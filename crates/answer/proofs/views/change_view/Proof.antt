@@ -4,7 +4,7 @@ use borrow.Author.Needs.{needs}
 use Rattle.rules.specs.Tables.{valley}
 use Rattle.table.specs.Images.{formatOne}
 use Rattle.edit.proofs.Holding.{one-starts, holds-least}
-use Rattle.transact.proofs.Serving.{lawful-holds}
+use Rattle.seek.proofs.HeldRows.{lawful-holds}
 use Rattle.answer.proofs.ViewsServed.{change-refused, change-taken}
 use Rattle.answer.proofs.views.change_view.Statement.{statement}
 use Rattle.answer.proofs.views.change_view.Tie as tie

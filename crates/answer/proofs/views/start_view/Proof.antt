@@ -8,7 +8,7 @@ use Rattle.table.specs.Headers.{headerAt}
 use Rattle.table.specs.Images.{formatOne}
 use Rattle.table.specs.Parse.{tableAt}
 use Rattle.edit.proofs.Holding.{one-starts, holds-least}
-use Rattle.transact.proofs.Serving.{lawful-holds}
+use Rattle.seek.proofs.HeldRows.{lawful-holds}
 use Rattle.answer.proofs.ViewsServed.{start-refused, below-promised, at-or-below-view, start-taken, view-said}
 use Rattle.answer.proofs.views.start_view.Statement.{statement}
 use Rattle.answer.proofs.views.start_view.Tie as tie

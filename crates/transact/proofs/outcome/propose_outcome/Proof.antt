@@ -8,13 +8,12 @@ use Rattle.rows.proofs.Sought.{absent-none}
 use Rattle.rows.specs.Read.{bodyAt}
 use Rattle.table.specs.Images.{formatOne}
 use Rattle.table.specs.Parse.{tableAt}
-use Rattle.transact.specs.Served.{limited}
+use Rattle.seek.specs.Lent.{limited}
+use Rattle.seek.proofs.HeldRows.{lawful-regular, lawful-holds}
 use Rattle.transact.proofs.CodesMeant.{verdict-range}
-use Rattle.transact.proofs.HeldRows.{lawful-regular}
 use Rattle.transact.proofs.NewRows.{room-for-row, no-retry}
 use Rattle.transact.proofs.Proposals.{held-clear, new-clear, room-found}
 use Rattle.transact.proofs.Proposed.{outcome-proposal-refused, note-new-taken}
-use Rattle.transact.proofs.Serving.{lawful-holds}
 use Rattle.transact.proofs.outcome.propose_outcome.Reads as reads
 use Rattle.transact.proofs.outcome.propose_outcome.Statement.{statement}
 use Rattle.transact.proofs.outcome.propose_outcome.Tie as tie

@@ -5,9 +5,8 @@ use denote.Ref.{now}
 use borrow.Author.Needs.{needs}
 use Rattle.rules.specs.Tables.{valley}
 use Rattle.rows.specs.Read.{bodyAt}
-use Rattle.transact.proofs.HeldRows.{lawful-regular}
+use Rattle.seek.proofs.HeldRows.{lawful-regular, lawful-holds}
 use Rattle.transact.proofs.Proposed.{checked-storable, checked-taken}
-use Rattle.transact.proofs.Serving.{lawful-holds}
 use Rattle.transact.proofs.prepare.add_checked.Reads as reads
 use Rattle.transact.proofs.prepare.add_checked.Statement.{statement}
 use Rattle.transact.proofs.prepare.add_checked.Tie as tie

@@ -7,8 +7,8 @@ use Rattle.rows.proofs.Turns.{length-body-part, body-of-part}
 use Rattle.table.proofs.Images.{valley-sound}
 use Rattle.table.specs.Images.{formatOne}
 use Rattle.edit.proofs.Holding.{holds-rows-at, one-starts, holds-least}
-use Rattle.transact.proofs.Serving.{lawful-holds}
-use Rattle.transact.proofs.SoughtRows.{rows-inside}
+use Rattle.seek.proofs.HeldRows.{lawful-holds}
+use Rattle.seek.proofs.SoughtRows.{rows-inside}
 use Rattle.transact.proofs.prepare.check_new.Statement.{statement}
 use Rattle.transact.proofs.prepare.check_new.Tie as tie
 

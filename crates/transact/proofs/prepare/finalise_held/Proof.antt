@@ -9,10 +9,9 @@ use Rattle.rules.specs.Tables.{valley}
 use Rattle.table.specs.Images.{formatOne}
 use Rattle.table.specs.Parse.{tableAt}
 use Rattle.edit.proofs.Holding.{one-starts, holds-least, holds-row-inside}
+use Rattle.seek.proofs.HeldRows.{index-here, codes-here, lawful-holds}
 use Rattle.transact.proofs.CodesMeant.{result-range, retry-final}
 use Rattle.transact.proofs.Finalised.{known-place, prepare-missing, prepare-against, prepare-taken}
-use Rattle.transact.proofs.HeldRows.{index-here, codes-here}
-use Rattle.transact.proofs.Serving.{lawful-holds}
 use Rattle.transact.proofs.prepare.finalise_held.Statement.{statement}
 use Rattle.transact.proofs.prepare.finalise_held.Tie as tie
 

@@ -1,6 +1,6 @@
 -- The part of the one or of the other.
-use Rattle.transact.proofs.seek.needed_body.Statement.{statement}
-use Rattle.transact.proofs.seek.needed_body.Tie as tie
+use Rattle.seek.proofs.needed_body.Statement.{statement}
+use Rattle.seek.proofs.needed_body.Tie as tie
 
 body-of-requires : tie.Need-body-of-requires
 body-of-requires c κs = rw (c .if1 .taken) at ((c .before .before .before) .pre)

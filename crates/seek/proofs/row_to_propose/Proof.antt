@@ -9,12 +9,11 @@ use Rattle.rows.specs.Read.{bodyAt}
 use Rattle.table.proofs.Images.{valley-sound}
 use Rattle.table.specs.Images.{formatOne}
 use Rattle.edit.proofs.Holding.{holds-rows-at, one-starts, holds-least}
-use Rattle.transact.proofs.HeldRows.{held-here}
-use Rattle.transact.proofs.Serving.{lawful-holds}
-use Rattle.transact.proofs.SoughtRows.{can-be-sought, propose-changing, propose-other, propose-held, propose-new, propose-full}
-use Rattle.transact.proofs.seek.row_to_propose.Reads as reads
-use Rattle.transact.proofs.seek.row_to_propose.Statement.{statement}
-use Rattle.transact.proofs.seek.row_to_propose.Tie as tie
+use Rattle.seek.proofs.HeldRows.{held-here, lawful-holds}
+use Rattle.seek.proofs.SoughtRows.{can-be-sought, propose-changing, propose-other, propose-held, propose-new, propose-full}
+use Rattle.seek.proofs.row_to_propose.Reads as reads
+use Rattle.seek.proofs.row_to_propose.Statement.{statement}
+use Rattle.seek.proofs.row_to_propose.Tie as tie
 
 table-bytes : (c : tie.After-shared-slice-known) → AllBytes (now (c .before .args .table))
 table-bytes c = all-of (now (c .before .args .table)) (λ i. c .shared-slice-known .given i .fits)

@@ -12,11 +12,10 @@ use Rattle.rows.specs.Read.{begins}
 use Rattle.rows.specs.Rows.{bodyPart}
 use Rattle.table.specs.Images.{formatOne}
 use Rattle.edit.proofs.Holding.{one-starts, holds-row-inside}
-use Rattle.transact.proofs.HeldRows.{index-here}
-use Rattle.transact.proofs.Serving.{lawful-holds}
-use Rattle.transact.proofs.SoughtRows.{body-inside-here, same-counts, other-reads, other-writes}
-use Rattle.transact.proofs.seek.other_body.Statement.{statement}
-use Rattle.transact.proofs.seek.other_body.Tie as tie
+use Rattle.seek.proofs.HeldRows.{index-here, lawful-holds}
+use Rattle.seek.proofs.SoughtRows.{body-inside-here, same-counts, other-reads, other-writes}
+use Rattle.seek.proofs.other_body.Statement.{statement}
+use Rattle.seek.proofs.other_body.Tie as tie
 
 table-bytes : (c : tie.After-shared-slice-known) → AllBytes (now (c .before .args .table))
 table-bytes c = all-of (now (c .before .args .table)) (λ i. c .shared-slice-known .given i .fits)

@@ -1,18 +1,16 @@
 -- What a message finds in the table: the row that it is about, or a reason to refuse it.
 use mathlib.Core.Bool.{cond}
 use Prim.Native.Nat.{ℕ}
-use lib.Dec.{eqb}
-use Rattle.rules.specs.Tests.{either}
 use Rattle.rules.specs.Stamps.{Body}
 use Rattle.rules.specs.Tables.{Model, Table}
 use Rattle.rules.specs.Circumstances.{belowLimit, isChanging, heldWithOtherBody, newButFull, forOtherView}
 use Rattle.rows.specs.declared.lookup.Place.{Place}
 use Rattle.rows.specs.declared.lookup.Place.the-variants.{Held, Absent}
 use Rattle.rows.specs.Places.{placeOf}
-use Rattle.transact.specs.declared.seek.Finding.{Finding}
-use Rattle.transact.specs.declared.seek.Finding.the-variants.{Known, Refused}
-use Rattle.transact.specs.declared.seek.Proposal.{Proposal}
-use Rattle.transact.specs.declared.seek.Proposal.the-variants as propose
+use Rattle.seek.specs.declared.Finding.{Finding}
+use Rattle.seek.specs.declared.Finding.the-variants.{Known, Refused}
+use Rattle.seek.specs.declared.Proposal.{Proposal}
+use Rattle.seek.specs.declared.Proposal.the-variants as propose
 
 -- ---- messages 2 and 4
 
@@ -36,7 +34,3 @@ unfoldable pub toPropose : Model → Table → ℕ → Body → Proposal
 toPropose M T s x =
     cond (isChanging T) (propose.Against 4)
     (cond (heldWithOtherBody T s x) (propose.Against 5) (cond (newButFull M belowLimit T s) (propose.Against 7) (heldOrNew (placeOf (T .rows) s))))
-
--- "If a prepare byte is held, answer it. If only an outcome is held, store and answer tentative OK for commit, ABORT for abort.", by the bytes
-unfoldable pub answeredByte : ℕ → ℕ → ℕ
-answeredByte prepare outcome = cond (eqb prepare 0) (cond (either (eqb outcome 1) (eqb outcome 3)) 1 2) prepare

@@ -1,7 +1,7 @@
 -- The rows are counted against the limit, and nothing else.
-use Rattle.transact.proofs.SoughtRows.{room-is}
-use Rattle.transact.proofs.seek.has_room.Statement.{statement}
-use Rattle.transact.proofs.seek.has_room.Tie as tie
+use Rattle.seek.proofs.SoughtRows.{room-is}
+use Rattle.seek.proofs.has_room.Statement.{statement}
+use Rattle.seek.proofs.has_room.Tie as tie
 
 returns : tie.Need-returns
 returns c = room-is ((c .before) .args .limit) ((c .before) .args .h)

@@ -30,12 +30,12 @@ use Rattle.table.specs.Images.{formatOne}
 use Rattle.table.specs.Parse.{tableAt}
 use Rattle.table.proofs.Images.{Sound, Parsed, parsed, valley-sound}
 use Rattle.edit.proofs.Holding.{holds-rows, holds-rows-at}
-use Rattle.transact.specs.Served.{Lawful, limited}
-use Rattle.transact.specs.declared.seek.Proposal.the-variants as propose
-use Rattle.transact.specs.declared.seek.Finding.the-variants.{Refused}
-use Rattle.transact.specs.Sought.{rowOrUnknown, toFinalise, toPropose}
-use Rattle.transact.proofs.HeldRows.{held-here, index-here}
-use Rattle.transact.proofs.BodiesAlike.{bodies-alike}
+use Rattle.seek.specs.Lent.{Lawful, limited}
+use Rattle.seek.specs.declared.Proposal.the-variants as propose
+use Rattle.seek.specs.declared.Finding.the-variants.{Refused}
+use Rattle.seek.specs.Sought.{rowOrUnknown, toFinalise, toPropose}
+use Rattle.seek.proofs.HeldRows.{held-here, index-here}
+use Rattle.seek.proofs.BodiesAlike.{bodies-alike}
 
 not-true : (b : Bool) → (b ≡ true → ⊥) → b ≡ false
 not-true true n = absurd (n refl)

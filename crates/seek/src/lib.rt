@@ -7,7 +7,6 @@ use table::header;
 use table::header::Header;
 ghost use mathlib.Core.Path.{_≡_};
 ghost use mathlib.Core.Bool.{cond};
-ghost use Prim.Native.Nat.{_≤_};
 ghost use lib.ListN.{length};
 ghost use Rattle.rules.specs.Groups.{fOf};
 ghost use Rattle.rules.specs.Tables.{valley};
@@ -18,8 +17,8 @@ ghost use Rattle.rows.specs.Rows.{BodyInside, bodyPart};
 ghost use Rattle.rows.specs.declared.lookup.Place.the-variants.{Held};
 ghost use Rattle.table.specs.Images.{formatOne};
 ghost use Rattle.table.specs.Parse.{tableAt};
-ghost use Rattle.transact.specs.Served.{limited, Lawful};
-ghost use Rattle.transact.specs.Sought.{toFinalise, toPropose};
+ghost use Rattle.seek.specs.Lent.{limited, Lawful};
+ghost use Rattle.seek.specs.Sought.{toFinalise, toPropose};
 
 // What is found for a message that finalises.
 pub enum Finding {

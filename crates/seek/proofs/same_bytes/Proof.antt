@@ -8,9 +8,9 @@ use denote.Ref.{now}
 use borrow.Author.Tests.{eq-eqb, ne-eqb}
 use Rattle.rules.specs.Tests.{both}
 use Rattle.rows.specs.Read.{begins}
-use Rattle.transact.proofs.BodiesAlike.{begins-turn, begins-none}
-use Rattle.transact.proofs.seek.same_bytes.Statement.{statement}
-use Rattle.transact.proofs.seek.same_bytes.Tie as tie
+use Rattle.seek.proofs.BodiesAlike.{begins-turn, begins-none}
+use Rattle.seek.proofs.same_bytes.Statement.{statement}
+use Rattle.seek.proofs.same_bytes.Tie as tie
 
 abbrev Inv-loop : tie.InvT-loop
 Inv-loop a b n i₀ i = (i ≤ n) × (n ≡ length b) × (begins a b ≡ begins (drop i a) (drop i b))

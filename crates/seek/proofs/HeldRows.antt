@@ -24,13 +24,17 @@ use Rattle.rows.proofs.Sought.{held-row}
 use Rattle.table.specs.Headers.{headerAt}
 use Rattle.table.specs.Images.{formatOne}
 use Rattle.table.specs.Parse.{tableAt}
-use Rattle.table.proofs.Images.{parse-by-rule}
+use Rattle.table.proofs.Images.{parse-by-rule, parse-reads}
+use Rattle.edit.specs.Edited.{Holds}
 use Rattle.edit.specs.Changes.{atIndex}
 use Rattle.edit.proofs.Holding.{one-starts, holds-rows, holds-rows-at, holds-stands}
 use Rattle.edit.proofs.Indexes.{RowThere, row-there, changed-as}
 use Rattle.edit.proofs.EditedParts.{row-fields}
-use Rattle.transact.specs.Served.{Lawful}
-use Rattle.transact.proofs.Serving.{lawful-holds}
+use Rattle.seek.specs.Lent.{Lawful}
+
+-- bytes that parse begin with the image of their table
+pub lawful-holds : (M : Model) (s : List ℕ) → Lawful M s → Holds formatOne s
+lawful-holds M s lawful = parse-reads formatOne M s (tableAt formatOne s) lawful .1
 
 -- a table by the rules, read off its bytes
 pub lawful-regular : (M : Model) (s : List ℕ) → Lawful M s → Regular (tableAt formatOne s) × (length (tableAt formatOne s .rows) ≤ M .rowLimit)

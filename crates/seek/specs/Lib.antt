@@ -1,0 +1,2 @@
+pub mod Lent
+pub mod Sought
