@@ -60,9 +60,9 @@ fn prepare_proposal(message: &[u8]) -> Message
     let writes = wire::u8_at(message, 10);
     if carried::proposal_valid(message, 11, reads, writes, stamp) {
         return Message::ProposePrepare {
-            stamp: stamp,
-            reads: reads,
-            writes: writes,
+            stamp,
+            reads,
+            writes,
         };
     }
     Message::Bad
@@ -82,10 +82,10 @@ fn prepare_final(message: &[u8]) -> Message
     let retry = wire::u64_at(message, 14);
     if carried::stamp_and_result_valid(stamp, result, retry) {
         return Message::FinalisePrepare {
-            stamp: stamp,
-            view: view,
-            result: result,
-            retry: retry,
+            stamp,
+            view,
+            result,
+            retry,
         };
     }
     Message::Bad
@@ -105,10 +105,10 @@ fn outcome_proposal(message: &[u8]) -> Message
     let writes = wire::u8_at(message, 11);
     if carried::outcome_valid(message, verdict, reads, writes, stamp) {
         return Message::ProposeOutcome {
-            stamp: stamp,
-            verdict: verdict,
-            reads: reads,
-            writes: writes,
+            stamp,
+            verdict,
+            reads,
+            writes,
         };
     }
     Message::Bad
@@ -127,9 +127,9 @@ fn outcome_final(message: &[u8]) -> Message
     let verdict = wire::u8_at(message, 13);
     if carried::stamp_and_verdict_valid(stamp, verdict) {
         return Message::FinaliseOutcome {
-            stamp: stamp,
-            view: view,
-            verdict: verdict,
+            stamp,
+            view,
+            verdict,
         };
     }
     Message::Bad
@@ -159,7 +159,7 @@ fn view_start(message: &[u8], n: u8, model: Model) -> Message
     }
     let view = wire::u32_at(message, 1);
     if start::valid(&message[5..], n, view, model) {
-        return Message::StartView { view: view };
+        return Message::StartView { view };
     }
     Message::Bad
 }
@@ -175,10 +175,7 @@ fn register_read(message: &[u8]) -> Message
     let stamp = wire::u64_at(message, 1);
     let register = wire::u8_at(message, 9);
     if carried::stamp_and_register_valid(stamp, register) {
-        return Message::ReadRegister {
-            stamp: stamp,
-            register: register,
-        };
+        return Message::ReadRegister { stamp, register };
     }
     Message::Bad
 }
