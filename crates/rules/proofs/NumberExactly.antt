@@ -3,7 +3,7 @@ use mathlib.Core.Path.{_≡_, refl, sym, ap, _∙_}
 use mathlib.Core.Bool.{Bool, true, false, cond}
 use mathlib.Core.Logic.{_⊎_, inl, inr}
 use mathlib.Core.List.{List, [], _∷_, List·Memᴰ·head, List·Memᴰ·tail, List·Memᴰ·cases-cons, List·Memᴰ·not-nil}
-use Prim.Native.Nat.{ℕ, _<_}
+use Prim.Native.Nat.{ℕ}
 use native.Mathlib.Omega.{arith}
 use lib.Dec.{eqb}
 use borrow.Author.Tests.{eqb-true}
@@ -12,6 +12,7 @@ use Rattle.rules.specs.Numbers.{Number, Number.smallBuffer, Number.badTa
 use Rattle.rules.proofs.Numbers.{positive}
 use Rattle.rules.proofs.Logic.{cases, impossible, eqb-self, both-left, both-right, both-true, both-false, either-cases, either-first, either-second}
 use Rattle.rules.proofs.Lists.{_∈_, places}
+use Rattle.rules.proofs.Numbers.{positive, first-done, done-first}
 
 -- the part of a list of numbers before the first that is k
 unfoldable pub before : Number → List Number → List Number
@@ -144,24 +145,9 @@ module _ (cs : List Circumstance) where
 
   -- ---- 0, "done": "none below applies"
 
-  first-none : (ks : List Number) → first ks cs ≡ 0 → (k : Number) → k ∈ ks → applies cs k ≡ false
-  unfolding first
-  first-none [] e k m = absurd (List·Memᴰ·not-nil m)
-  first-none (i ∷ ks) e k m = go (applies cs i) refl e (List·Memᴰ·cases-cons m) (λ d n. first-none ks d k n)
-    where
-      go : (b : Bool) → applies cs i ≡ b → cond b (numberCode i) (first ks cs) ≡ 0 → (k ≡ i) ⊎ (k ∈ ks) → (first ks cs ≡ 0 → k ∈ ks → applies cs k ≡ false) → applies cs k ≡ false
-      go true a d n below = absurd (omega (arith, positive i))
-      go false a d (inl q) below = ap (applies cs) q ∙ a
-      go false a d (inr n) below = below d n
-
-  none-first : (ks : List Number) → ((k : Number) → applies cs k ≡ false) → first ks cs ≡ 0
-  unfolding first
-  none-first [] h = refl
-  none-first (k ∷ ks) h = rw (h k) (none-first ks h)
-
   pub zero-exactly : (number cs ≡ 0 → (k : Number) → applies cs k ≡ false) × (((k : Number) → applies cs k ≡ false) → number cs ≡ 0)
   unfolding number
-  zero-exactly = (λ e k. first-none order e k (in-order k), none-first order)
+  zero-exactly = (λ e k. first-done order cs e k (in-order k), done-first order cs)
 
   -- a call is done, or it is refused by one of the numbers
   pub zero-or-one : (number cs ≡ 0) ⊎ ((k : Number) × (number cs ≡ numberCode k))

@@ -16,6 +16,7 @@ unfolding applies any
 applies-is [] k = refl
 applies-is (c ∷ cs) k = ap (either (both (eqb (numberCode (c .0)) (numberCode k)) (c .1))) (applies-is cs k)
 
+-- no refusal has the code of "done"
 pub positive : (k : Number) → 0 < numberCode k
 positive smallBuffer = omega arith
 positive badTable = omega arith
@@ -29,7 +30,7 @@ positive otherView = omega arith
 positive oldView = omega arith
 positive wrongTables = omega arith
 
-first-done : (ks : List Number) (cs : List Circumstance) → first ks cs ≡ 0 → (k : Number) → k ∈ ks → applies cs k ≡ false
+pub first-done : (ks : List Number) (cs : List Circumstance) → first ks cs ≡ 0 → (k : Number) → k ∈ ks → applies cs k ≡ false
 unfolding first
 first-done [] cs e k m = absurd (List·Memᴰ·not-nil m)
 first-done (j ∷ ks) cs e k m = go (applies cs j) refl e (List·Memᴰ·cases-cons m) (λ e′ m′. first-done ks cs e′ k m′)
@@ -45,7 +46,7 @@ unfolding number both
 number-done cs e k given l m =
     rw (eqb-self (numberCode k)) at (any-none (λ c. both (eqb (numberCode (c .0)) (numberCode k)) (c .1)) cs (sym (applies-is cs k) ∙ first-done order cs e k l) (k, given) m)
 
-done-first : (ks : List Number) (cs : List Circumstance) → ((k : Number) → applies cs k ≡ false) → first ks cs ≡ 0
+pub done-first : (ks : List Number) (cs : List Circumstance) → ((k : Number) → applies cs k ≡ false) → first ks cs ≡ 0
 unfolding first
 done-first [] cs h = refl
 done-first (k ∷ ks) cs h = rw (h k) (done-first ks cs h)
