@@ -59,7 +59,7 @@ unfolding replyBytes refusal bytes
 refusal-bytes k = refl
 
 -- a number other than 0 is replied by a refusal, whatever was read
-to-refusal : (k : ℕ) → eqb k 0 ≡ false → (T : Option Table) (m : Option Message) → replyTo k T m ≡ refusal k
+pub to-refusal : (k : ℕ) → eqb k 0 ≡ false → (T : Option Table) (m : Option Message) → replyTo k T m ≡ refusal k
 to-refusal k e none m = refl
 to-refusal k e (some T) none = refl
 to-refusal k e (some T) (some m) = rw e

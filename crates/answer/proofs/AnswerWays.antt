@@ -80,6 +80,10 @@ pub data AnswerWay (M : Model) (table message reply : List ℕ) : ℕ → Type 0
   -- 0, or 4 to 10 by what the table holds: Serving.number-1 to number-7 compute it for each kind of message
   served : Large M table reply → (T : Table) (m : Message) → parse formatOne M table ≡ some T → messageAt formatOne message ≡ some m → messageByRule M (T .n) m ≡ true → AnswerWay M table message reply (servedNumber M T m)
 
+pub large-enough : (M : Model) (table reply : List ℕ) → M .leastBuffer ≤ length table → 24 ≤ length reply → either (tooSmall M (length table)) (replyTooSmall (length reply)) ≡ false
+unfolding tooSmall replyTooSmall
+large-enough M table reply l r = either-false (le-ltb _ _ l) (le-ltb _ _ r)
+
 module _ (M : Model) (table message reply : List ℕ) where
   -- one of them applies
   pub answer-way : AnswerWay M table message reply (callNumber M table message reply)
@@ -103,16 +107,12 @@ module _ (M : Model) (table message reply : List ℕ) where
       go (inl t) = rw (call-number M table message reply, t) (small (low (either-cases _ _ t)))
       go (inr t) = rw (call-number M table message reply, t) (read (parse formatOne M table) (messageAt formatOne message) (ltb-false _ _ (either-left _ _ t), ltb-false _ _ (either-right _ _ t)) refl refl)
 
-  large : M .leastBuffer ≤ length table → 24 ≤ length reply → either (tooSmall M (length table)) (replyTooSmall (length reply)) ≡ false
-  unfolding tooSmall replyTooSmall
-  large l r = either-false (le-ltb _ _ l) (le-ltb _ _ r)
-
   -- and a way that applies is the call's: its number is given where its circumstances are
   pub way-exactly : {k : ℕ} → AnswerWay M table message reply k → callNumber M table message reply ≡ k
   unfolding tooSmall replyTooSmall
   way-exactly (small (inl l)) = rw (call-number M table message reply, either-first (tooSmall M (length table)) (replyTooSmall (length reply)) (lt-ltb _ _ l))
   way-exactly (small (inr l)) = rw (call-number M table message reply, either-second (tooSmall M (length table)) (replyTooSmall (length reply)) (lt-ltb _ _ l))
-  way-exactly (noTable (l, r) a) = rw (call-number M table message reply, large l r, a)
-  way-exactly (noMessage (l, r) T a b) = rw (call-number M table message reply, large l r, a, b)
-  way-exactly (breaksRule (l, r) T m a b h) = rw (call-number M table message reply, large l r, a, b, own-rule M T m, h)
-  way-exactly (served (l, r) T m a b h) = rw (call-number M table message reply, large l r, a, b, own-rule M T m, h)
+  way-exactly (noTable (l, r) a) = rw (call-number M table message reply, large-enough M table reply l r, a)
+  way-exactly (noMessage (l, r) T a b) = rw (call-number M table message reply, large-enough M table reply l r, a, b)
+  way-exactly (breaksRule (l, r) T m a b h) = rw (call-number M table message reply, large-enough M table reply l r, a, b, own-rule M T m, h)
+  way-exactly (served (l, r) T m a b h) = rw (call-number M table message reply, large-enough M table reply l r, a, b, own-rule M T m, h)

@@ -1,14 +1,14 @@
 -- From what a look at the buffer and at the message gives to what the call leaves.
 use mathlib.Core.Path.{_≡_, refl, sym, ap, _∙_}
-use mathlib.Core.Bool.{Bool, true, false, cond}
+use mathlib.Core.Bool.{true, false, cond}
 use mathlib.Core.List.{List}
 use mathlib.Core.Logic.{_⊎_, inl, inr}
 use mathlib.Core.Option.{Option, none, some}
 use Prim.Native.Nat.{ℕ, _≤_, _<_}
 use native.Mathlib.Omega.{arith}
-use lib.Dec.{eqb, ltb}
+use lib.Dec.{eqb}
 use lib.ListN.{length}
-use borrow.Author.Tests.{eqb-true, ne-eqb, lt-ltb, le-ltb}
+use borrow.Author.Tests.{eqb-true, ne-eqb}
 use Rattle.wire.specs.Parts.{replaced}
 use Rattle.rules.specs.Tests.{both, either}
 use Rattle.rules.proofs.Groups.{group-of}
@@ -34,9 +34,9 @@ use Rattle.transact.specs.declared.reply.Reply.{Reply}
 use Rattle.transact.specs.Replies.{replyAs, replyBytes}
 use Rattle.transact.specs.Served.{servedNumber, served}
 use Rattle.answer.specs.Heard.{answerTo, answerReply, answerBuffer, heard, heardReply, heardBuffer}
-use Rattle.answer.specs.Calls.{callNumber, callTable, callReply, changeBy, replyTo}
-use Rattle.answer.proofs.AnswerCall.{numberFor, call-number}
-use Rattle.answer.proofs.AnswerWays.{own-rule, served-other}
+use Rattle.answer.specs.Calls.{callNumber, callTable, callReply, changeBy}
+use Rattle.answer.proofs.AnswerCall.{numberFor, call-number, to-refusal}
+use Rattle.answer.proofs.AnswerWays.{own-rule, served-other, AnswerWay.small, way-exactly}
 
 -- ---- the table that was looked for
 
@@ -95,14 +95,9 @@ module _ (M : Model) (table message reply : List ℕ) where
   abbrev pub Left : Reply → List ℕ → Type 0
   Left said after = (said .number ≡ callNumber M table message reply) × (after ≡ callTable M table message reply) × (replaced reply 0 (replyBytes said) ≡ callReply M table message reply)
 
-  refusal-said : (k : ℕ) (o : Option Table) (m : Option Message) → eqb k 0 ≡ false → replyTo k o m ≡ refusal k
-  refusal-said k none m e = refl
-  refusal-said k (some T) none e = refl
-  refusal-said k (some T) (some m) e = rw e
-
   left-refused : (k : ℕ) → eqb k 0 ≡ false → eqb k 1 ≡ false → callNumber M table message reply ≡ k → Left (replyAs (refusal k)) table
   unfolding callTable callReply refusal
-  left-refused k other large is = rw (is, other, large, refusal-said k (parse formatOne M table) (messageAt formatOne message) other) (refl, refl, refl)
+  left-refused k other large is = rw (is, other, large, to-refusal k other (parse formatOne M table) (messageAt formatOne message)) (refl, refl, refl)
 
   left-taken : (T : Table) (m : Message) → parse formatOne M table ≡ some T → messageAt formatOne message ≡ some m → callNumber M table message reply ≡ 0 →
       Left (replyAs (replyFrom (tableAfter check T m) m)) (edited formatOne (changeBy (some m)) table)
@@ -180,24 +175,8 @@ module _ (M : Model) (table message reply : List ℕ) where
         go (some T) e none f = rw e (bad T e (number-is ∙ rw (e, f)) (no-message T e f))
         go (some T) e (some m) f = rw e (by-test T e m f (cases (messageByRule M (T .n) m)))
 
--- ---- buffers too small, and large enough
+-- ---- buffers too small
 
-module _ (M : Model) (table message reply : List ℕ) where
-  small-said : (length table < M .leastBuffer) ⊎ (length reply < 24) → either (tooSmall M (length table)) (replyTooSmall (length reply)) ≡ true
-  unfolding tooSmall replyTooSmall either
-  small-said (inl l) = rw (lt-ltb _ _ l)
-  small-said (inr l) = go (ltb (length table) (M .leastBuffer)) (lt-ltb _ _ l)
-    where
-      go : (b : Bool) → ltb (length reply) 24 ≡ true → either b (ltb (length reply) 24) ≡ true
-      go true e = refl
-      go false e = e
-
-  pub left-small : (length table < M .leastBuffer) ⊎ (length reply < 24) → (1 ≡ callNumber M table message reply) × (table ≡ callTable M table message reply) × (reply ≡ callReply M table message reply)
-  unfolding callTable callReply
-  left-small small =
-      let e : callNumber M table message reply ≡ 1 = call-number M table message reply ∙ rw (small-said small) in
-      rw e (refl, refl, refl)
-
-pub large-enough : (M : Model) (table reply : List ℕ) → M .leastBuffer ≤ length table → 24 ≤ length reply → either (tooSmall M (length table)) (replyTooSmall (length reply)) ≡ false
-unfolding tooSmall replyTooSmall either
-large-enough M table reply l k = rw (le-ltb _ _ l, le-ltb _ _ k)
+pub left-small : (M : Model) (table message reply : List ℕ) → (length table < M .leastBuffer) ⊎ (length reply < 24) → (1 ≡ callNumber M table message reply) × (table ≡ callTable M table message reply) × (reply ≡ callReply M table message reply)
+unfolding callTable callReply
+left-small M table message reply short = rw (way-exactly M table message reply (small short)) (refl, refl, refl)

@@ -5,7 +5,8 @@ use native.Mathlib.Omega.{arith}
 use denote.Ref.{now}
 use borrow.Author.Needs.{needs}
 use Rattle.rules.specs.Tables.{Model, valley}
-use Rattle.answer.proofs.Responding.{left-small, large-enough, left-so}
+use Rattle.answer.proofs.AnswerWays.{large-enough}
+use Rattle.answer.proofs.Responding.{left-small, left-so}
 use Rattle.answer.proofs.call.answer.Statement.{statement}
 use Rattle.answer.proofs.call.answer.Tie as tie
 
