@@ -2,7 +2,7 @@
 use mathlib.Core.Path.{_≡_, refl, sym, ap, _∙_}
 use mathlib.Core.Bool.{true, false, cond}
 use mathlib.Core.Logic.{_⊎_, inl, inr}
-use mathlib.Core.List.{List, _∷_, _++_}
+use mathlib.Core.List.{List, _++_}
 use mathlib.Core.Option.{Option, none, some}
 use Prim.Native.Nat.{ℕ, _+_, _*_, _-_, _≤_}
 use native.Mathlib.Omega.{arith}
@@ -14,7 +14,7 @@ use Rattle.wire.specs.Numbers.{bytes}
 use Rattle.wire.proofs.Parts.{length-replaced, above-stays}
 use Rattle.rules.specs.Tests.{both, either}
 use Rattle.rules.specs.Tables.{Model, Table, tableByRule}
-use Rattle.rules.specs.Numbers.{Number, Number.smallBuffer, numberCode, Circumstance, applies, first, number}
+use Rattle.rules.specs.Numbers.{Number, Number.smallBuffer, Number.badTable, numberCode, Circumstance, applies, first, number}
 use Rattle.rules.specs.Messages.{Message, tableAfter}
 use Rattle.rules.specs.Circumstances.{tooSmall, replyTooSmall, belowLimit, messageByRule}
 use Rattle.rules.specs.Answers.{refusal, replyFrom, taken, answerNumber, answer}
@@ -22,7 +22,7 @@ use Rattle.rules.specs.Check.{check}
 use Rattle.rules.proofs.Logic.{cases, same?, either-left, either-right}
 use Rattle.rules.proofs.Check.{check-by-rule}
 use Rattle.rules.proofs.Answers.{below-limit-fits, taken-by-rule, answer-by-rule, answer-same-box}
-use Rattle.rules.proofs.NumberExactly.{Wins, number-exactly, zero-exactly, small-first}
+use Rattle.rules.proofs.NumberExactly.{Wins, number-exactly, zero-exactly, small-first, table-first, message-first}
 use Rattle.table.specs.Images.{formatOne, imageLength}
 use Rattle.table.specs.Parse.{parse}
 use Rattle.table.proofs.Images.{Sound, length-image, image-at-most, parse-reads, parse-by-rule}
@@ -32,14 +32,9 @@ use Rattle.message.specs.Messages.{messageAt}
 use Rattle.transact.specs.declared.reply.Reply.{Reply}
 use Rattle.transact.specs.Replies.{replyAs, replyBytes}
 use Rattle.transact.proofs.ReplySteps.{length-reply}
-use Rattle.answer.specs.Calls.{callCircumstances, callNumber, callTable, replyTo, callReply}
+use Rattle.answer.specs.Calls.{callCircumstances, callNumber, callTable, replyTo, callReply, readCircumstances}
 
 -- ---- each number exactly in its circumstances
-
--- the circumstances of a call, as callNumber lists them
-abbrev pub callList : Model → List ℕ → List ℕ → List ℕ → List Circumstance
-callList M table message reply =
-    (smallBuffer, either (tooSmall M (length table)) (replyTooSmall (length reply))) ∷ callCircumstances M (parse formatOne M table) (messageAt formatOne message)
 
 -- what a call is answered with where its buffers are large enough
 abbrev pub numberFor : Model → Option Table → Option Message → ℕ
@@ -47,7 +42,7 @@ numberFor M none m = 2
 numberFor M (some T) none = 3
 numberFor M (some T) (some m) = answerNumber M belowLimit T m
 
-number-for : (M : Model) (T : Option Table) (m : Option Message) → number (callCircumstances M T m) ≡ numberFor M T m
+number-for : (M : Model) (T : Option Table) (m : Option Message) → number (readCircumstances M T m) ≡ numberFor M T m
 unfolding answerNumber number first applies both either
 number-for M none m = refl
 number-for M (some T) none = refl
@@ -71,21 +66,29 @@ answer-table M T m e = rw e
 
 module _ (M : Model) (table message reply : List ℕ) where
   -- a number of the list is given exactly if it applies and none before it in the order does
-  pub answer-exactly : (k : Number) → (callNumber M table message reply ≡ numberCode k → Wins (callList M table message reply) k) × (Wins (callList M table message reply) k → callNumber M table message reply ≡ numberCode k)
+  pub answer-exactly : (k : Number) → (callNumber M table message reply ≡ numberCode k → Wins (callCircumstances M table message reply) k) × (Wins (callCircumstances M table message reply) k → callNumber M table message reply ≡ numberCode k)
   unfolding callNumber
-  answer-exactly k = number-exactly (callList M table message reply) k
+  answer-exactly k = number-exactly (callCircumstances M table message reply) k
 
   -- 0 exactly if "none below applies"
-  pub answer-done : (callNumber M table message reply ≡ 0 → (k : Number) → applies (callList M table message reply) k ≡ false) × (((k : Number) → applies (callList M table message reply) k ≡ false) → callNumber M table message reply ≡ 0)
+  pub answer-done : (callNumber M table message reply ≡ 0 → (k : Number) → applies (callCircumstances M table message reply) k ≡ false) × (((k : Number) → applies (callCircumstances M table message reply) k ≡ false) → callNumber M table message reply ≡ 0)
   unfolding callNumber
-  answer-done = zero-exactly (callList M table message reply)
+  answer-done = zero-exactly (callCircumstances M table message reply)
 
   -- the same number, computed: 1, then 2 or 3 for bytes that are no table or no message, then a box's answer to the message
   pub call-number : callNumber M table message reply ≡ cond (either (tooSmall M (length table)) (replyTooSmall (length reply))) 1 (numberFor M (parse formatOne M table) (messageAt formatOne message))
   unfolding callNumber
   call-number =
-      small-first (either (tooSmall M (length table)) (replyTooSmall (length reply))) (callCircumstances M (parse formatOne M table) (messageAt formatOne message))
+      small-first (either (tooSmall M (length table)) (replyTooSmall (length reply))) (readCircumstances M (parse formatOne M table) (messageAt formatOne message))
       ∙ ap (cond (either (tooSmall M (length table)) (replyTooSmall (length reply))) 1) (number-for M (parse formatOne M table) (messageAt formatOne message))
+
+  -- rows that callCircumstances leaves out: bytes that are no table may be no message either, and more may be said of them, but 2 comes before it
+  pub bad-table-wins : parse formatOne M table ≡ none → (others : List Circumstance) → applies others smallBuffer ≡ false → number (callCircumstances M table message reply ++ others) ≡ callNumber M table message reply
+  bad-table-wins a others n = rw (call-number, a) (table-first _ others n)
+
+  -- and so does 3 before all that the table may say of bytes that are no message
+  pub bad-message-wins : (T : Table) → parse formatOne M table ≡ some T → messageAt formatOne message ≡ none → (others : List Circumstance) → applies others smallBuffer ≡ false → applies others badTable ≡ false → number (callCircumstances M table message reply ++ others) ≡ callNumber M table message reply
+  bad-message-wins T a b others n o = rw (call-number, a, b) (message-first _ others n o)
 
   -- any number but 1: both buffers are large enough, and it is the one of what they hold
   pub not-small : (callNumber M table message reply ≡ 1 → ⊥) → (M .leastBuffer ≤ length table) × (24 ≤ length reply) × (callNumber M table message reply ≡ numberFor M (parse formatOne M table) (messageAt formatOne message))

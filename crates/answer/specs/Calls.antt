@@ -19,16 +19,19 @@ use Rattle.edit.specs.Edited.{edited}
 use Rattle.message.specs.Messages.{messageAt}
 use Rattle.transact.specs.Replies.{replyAs, replyBytes}
 
--- 2, "bad table", and 3, "bad message": bytes that are no table, or no message, have nothing else to be refused for
-abbrev pub callCircumstances : Model → Option Table → Option Message → List Circumstance
-callCircumstances M none m = (badTable, true) ∷ []
-callCircumstances M (some T) none = (badMessage, true) ∷ []
-callCircumstances M (some T) (some m) = circumstances M belowLimit T m
+-- what was read, or not: 2, "bad table", and 3, "bad message". With either of them, rows that come later in the order may apply as well. They lose, and are not listed
+abbrev pub readCircumstances : Model → Option Table → Option Message → List Circumstance
+readCircumstances M none m = (badTable, true) ∷ []
+readCircumstances M (some T) none = (badMessage, true) ∷ []
+readCircumstances M (some T) (some m) = circumstances M belowLimit T m
 
 -- 1, "small buffer": "table or output buffer (not a merge's run) below 49,176, or reply buffer below 24"
+abbrev pub callCircumstances : Model → List ℕ → List ℕ → List ℕ → List Circumstance
+callCircumstances M table message reply =
+    (smallBuffer, either (tooSmall M (length table)) (replyTooSmall (length reply))) ∷ readCircumstances M (parse formatOne M table) (messageAt formatOne message)
+
 unfoldable pub callNumber : Model → List ℕ → List ℕ → List ℕ → ℕ
-callNumber M table message reply =
-    number ((smallBuffer, either (tooSmall M (length table)) (replyTooSmall (length reply))) ∷ callCircumstances M (parse formatOne M table) (messageAt formatOne message))
+callNumber M table message reply = number (callCircumstances M table message reply)
 
 -- the table after a message that is taken
 abbrev pub changeBy : Option Message → Table → Table

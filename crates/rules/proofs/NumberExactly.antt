@@ -175,6 +175,18 @@ unfolding number first applies both either
 small-first true cs = refl
 small-first false cs = refl
 
+-- 2 comes before all but 1, whatever else applies
+pub table-first : (small : Bool) (others : List Circumstance) → applies others smallBuffer ≡ false → number ((smallBuffer, small) ∷ (badTable, true) ∷ others) ≡ cond small 1 2
+unfolding number first applies both either
+table-first true others n = refl
+table-first false others n = rw n
+
+-- and 3 before all but 1 and 2
+pub message-first : (small : Bool) (others : List Circumstance) → applies others smallBuffer ≡ false → applies others badTable ≡ false → number ((smallBuffer, small) ∷ (badMessage, true) ∷ others) ≡ cond small 1 3
+unfolding number first applies both either
+message-first true others n o = refl
+message-first false others n o = rw (n, o)
+
 pub number-not-given : (k : Number) (cs : List Circumstance) → number ((k, false) ∷ cs) ≡ number cs
 unfolding number
 number-not-given k cs = not-given k cs order
