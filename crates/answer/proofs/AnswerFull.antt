@@ -1,7 +1,6 @@
 -- 01, number 7, "full": a box refuses a new stamp with as many rows held as it may have, and no other message; a stamp that it holds is served as ever.
 use mathlib.Core.Path.{_≡_, refl, sym, _∙_}
-use mathlib.Core.Bool.{Bool, true, false, cond}
-use mathlib.Core.Logic.{_⊎_, inl, inr}
+use mathlib.Core.Bool.{true, false, cond}
 use mathlib.Core.List.{List}
 use mathlib.Core.Option.{Option, none, some}
 use Prim.Native.Nat.{ℕ, _≤_}
@@ -14,7 +13,8 @@ use Rattle.rules.specs.Tables.{Result, Verdict, Row, Model, Table}
 use Rattle.rules.specs.Numbers.{Number.full, applies}
 use Rattle.rules.specs.Messages.{Message, Message.proposePrepare, Message.finalisePrepare, Message.proposeOutcome, Message.finaliseOutcome, Message.changeView, Message.startView, Message.readRegister, held}
 use Rattle.rules.specs.Circumstances.{tooSmall, replyTooSmall, belowLimit, messageByRule, isChanging, heldWithOtherBody, heldOppositeOutcome, newButFull, furtherCircumstances, circumstances}
-use Rattle.rules.specs.Answers.{answerNumber}
+use Rattle.rules.specs.Answers.{answerNumber, answer}
+use Rattle.rules.specs.Check.{check}
 use Rattle.rules.proofs.Logic.{impossible, none-some, both-left, both-right, both-true, not-true-of, either-none}
 use Rattle.rules.proofs.Tables.{table-facts}
 use Rattle.rules.proofs.NumberExactly.{number-exactly}
@@ -110,18 +110,10 @@ module _ (M : Model) (table message reply : List ℕ) where
           let (t, g) = table-facts M T (parse-by-rule formatOne M table T a) in
           record { before = T; heard = m; stamp = s; read = a; told = b; proposes = p; new = n; isFull = omega arith }
 
-  -- and such a stamp is always refused: by 7, or by a number that comes before it in the order and applies as well
+  -- and such a stamp is always refused: by 7, unless 1, 3 or 4 applies, which come before it in the order
   pub new-is-full : (T : Table) (m : Message) (s : ℕ) → parse formatOne M table ≡ some T → messageAt formatOne message ≡ some m → Proposes m s → held (T .rows) s ≡ none → length (T .rows) ≡ M .rowLimit →
-      (callNumber M table message reply ≡ 7) ⊎ ((callNumber M table message reply ≡ 1) ⊎ ((callNumber M table message reply ≡ 3) ⊎ (callNumber M table message reply ≡ 4)))
-  new-is-full T m s a b p n l = rw (call-number M table message reply, a, b, own-rule M T m, served-full M T m s p n (omega arith)) (go (either (tooSmall M (length table)) (replyTooSmall (length reply))) (messageByRule M (T .n) m) (isChanging T))
-    where
-      go : (small lawful changes : Bool) →
-          let k : ℕ = cond small 1 (cond lawful (cond changes 4 7) 3) in
-          (k ≡ 7) ⊎ ((k ≡ 1) ⊎ ((k ≡ 3) ⊎ (k ≡ 4)))
-      go true c d = inr (inl refl)
-      go false false d = inr (inr (inl refl))
-      go false true true = inr (inr (inr refl))
-      go false true false = inl refl
+      callNumber M table message reply ≡ cond (either (tooSmall M (length table)) (replyTooSmall (length reply))) 1 (cond (messageByRule M (T .n) m) (cond (isChanging T) 4 7) 3)
+  new-is-full T m s a b p n l = rw (call-number M table message reply, a, b, own-rule M T m, served-full M T m s p n (omega arith))
 
   -- a stamp that the table holds is never refused as full
   pub held-never-full : (T : Table) (m : Message) (s : ℕ) (r : Row) → parse formatOne M table ≡ some T → messageAt formatOne message ≡ some m → About m s → held (T .rows) s ≡ some r → callNumber M table message reply ≡ 7 → ⊥
@@ -137,10 +129,14 @@ module _ (M : Model) (table message reply : List ℕ) where
 
 -- ---- a stamp that is held
 
--- it is served in a full table as in an empty one: the answer to messages 1 to 4 about it is the same for every number of rows that a box may hold
-pub held-served-when-full : (M N : Model) (T : Table) (m : Message) (s : ℕ) (r : Row) → About m s → held (T .rows) s ≡ some r → answerNumber M belowLimit T m ≡ answerNumber N belowLimit T m
+same-number : (M N : Model) (T : Table) (m : Message) (s : ℕ) (r : Row) → About m s → held (T .rows) s ≡ some r → answerNumber M belowLimit T m ≡ answerNumber N belowLimit T m
 unfolding answerNumber circumstances furtherCircumstances messageByRule newButFull both
-held-served-when-full M N T m s r (proposed (prepare _ x)) h = rw h
-held-served-when-full M N T m s r (proposed (outcome _ o x)) h = rw h
-held-served-when-full M N T m s r (prepareFinal _ v q) h = refl
-held-served-when-full M N T m s r (outcomeFinal _ v o) h = refl
+same-number M N T m s r (proposed (prepare _ x)) h = rw h
+same-number M N T m s r (proposed (outcome _ o x)) h = rw h
+same-number M N T m s r (prepareFinal _ v q) h = refl
+same-number M N T m s r (outcomeFinal _ v o) h = refl
+
+-- it is served in a full table as in one with room: the answer to messages 1 to 4 about it, number, table and reply, is the same for every number of rows that a box may hold
+pub held-served-when-full : (M N : Model) (T : Table) (m : Message) (s : ℕ) (r : Row) → About m s → held (T .rows) s ≡ some r → answer M belowLimit check T m ≡ answer N belowLimit check T m
+unfolding answer
+held-served-when-full M N T m s r p h = rw (same-number M N T m s r p h)
