@@ -1,5 +1,5 @@
 -- The ways an answer call goes, each with its circumstances as 01 has them, and its number: one of them applies, and no two give different numbers.
-use mathlib.Core.Path.{_≡_, refl}
+use mathlib.Core.Path.{_≡_, refl, sym, ap, _∙_}
 use mathlib.Core.Bool.{Bool, true, false, cond, not}
 use mathlib.Core.Logic.{_⊎_, inl, inr}
 use mathlib.Core.List.{List, _∷_}
@@ -7,6 +7,7 @@ use mathlib.Core.Option.{Option, none, some}
 use Prim.Native.Nat.{ℕ, _≤_, _<_}
 use lib.ListN.{length}
 use borrow.Author.Tests.{ltb-true, ltb-false, lt-ltb, le-ltb}
+use Rattle.wire.specs.Numbers.{AllBytes}
 use Rattle.rules.specs.Tests.{both, either}
 use Rattle.rules.specs.Tables.{Model, Table}
 use Rattle.rules.specs.Numbers.{Number.smallBuffer, Number.badTable, Number.badMessage, applies, first, number}
@@ -17,7 +18,9 @@ use Rattle.rules.proofs.Logic.{cases, impossible, either-cases, either-left, ei
 use Rattle.rules.proofs.NumberExactly.{number-exactly, number-not-given}
 use Rattle.table.specs.Images.{formatOne}
 use Rattle.table.specs.Parse.{parse}
-use Rattle.message.specs.Messages.{messageAt}
+use Rattle.table.proofs.Images.{Sound}
+use Rattle.message.specs.Messages.{messageBytes, messageAt}
+use Rattle.message.proofs.Forms.{message-read, message-bytes}
 use Rattle.transact.specs.Served.{servedNumber}
 use Rattle.answer.specs.Calls.{callNumber}
 use Rattle.answer.proofs.AnswerCall.{numberFor, call-number}
@@ -116,3 +119,22 @@ module _ (M : Model) (table message reply : List ℕ) where
   way-exactly (noMessage (l, r) T a b) = rw (call-number M table message reply, large-enough M table reply l r, a, b)
   way-exactly (breaksRule (l, r) T m a b h) = rw (call-number M table message reply, large-enough M table reply l r, a, b, own-rule M T m, h)
   way-exactly (served (l, r) T m a b h) = rw (call-number M table message reply, large-enough M table reply l r, a, b, own-rule M T m, h)
+
+  -- 3, without a word on how bytes are read: no message by the rules of the box's group has these bytes
+  module _ (sound : Sound formatOne M) (all : AllBytes message) (large : Large M table reply) (T : Table) (a : parse formatOne M table ≡ some T) where
+    abbrev pub NoMessage : Type 0
+    NoMessage = (m : Message) → messageByRule M (T .n) m ≡ true → messageBytes formatOne m ≡ message → ⊥
+
+    pub bad-message-exactly : (callNumber M table message reply ≡ 3 → NoMessage) × (NoMessage → callNumber M table message reply ≡ 3)
+    bad-message-exactly = (
+      λ e m r is. served-other M T m .2 (sym (way-exactly (served large T m a (sym (ap (messageAt formatOne) is) ∙ message-read M (T .n) m sound r) r)) ∙ e),
+      λ none-is. go none-is (messageAt formatOne message) refl,
+    )
+      where
+        broken-or-not : NoMessage → (m : Message) → messageAt formatOne message ≡ some m → (messageByRule M (T .n) m ≡ true) ⊎ (messageByRule M (T .n) m ≡ false) → callNumber M table message reply ≡ 3
+        broken-or-not h m b (inl r) = absurd (h m r (message-bytes message all m b))
+        broken-or-not h m b (inr r) = way-exactly (breaksRule large T m a b r)
+
+        go : NoMessage → (q : Option Message) → messageAt formatOne message ≡ q → callNumber M table message reply ≡ 3
+        go h none b = way-exactly (noMessage large T a b)
+        go h (some m) b = broken-or-not h m b (cases (messageByRule M (T .n) m))
