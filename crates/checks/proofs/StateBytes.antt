@@ -10,7 +10,7 @@ use borrow.Author.Tests.{leb-true, leb-false, eqb-true, lt-leb, ne-eqb, eq-eqb}
 use Rattle.rules.specs.Tests.{both, either}
 use Rattle.rules.specs.Tables.{Result, Result.OK, Result.ABORT, Result.ABSTAIN, Result.RETRY, Prepare, Prepare.tentative, Prepare.final, Outcome.done, Verdict.abort, resultCode, prepareCode, outcomeCode}
 use Rattle.rules.specs.Check.{committed, prepared, accepted}
-use Rattle.rules.proofs.Logic.{cases, same?, same-test, either-none}
+use Rattle.rules.proofs.Logic.{cases, same?, same-test, both-comm, either-none}
 use Rattle.rows.specs.declared.row.RowFields.{RowFields}
 use Rattle.rows.specs.Fields.{resultNumbered, prepareNumbered, verdictNumbered, outcomeNumbered}
 use Rattle.rows.specs.Read.{rowOf}
@@ -101,13 +101,6 @@ same-prepare c q = go (same? c 0) (cases (leb c 4))
         ∙ five c l
 
 -- ---- rows
-
-both-comm : (a b : Bool) → both a b ≡ both b a
-unfolding both
-both-comm true true = refl
-both-comm true false = refl
-both-comm false true = refl
-both-comm false false = refl
 
 pub committed-byte : (s : List ℕ) (f : RowFields) → committed (rowOf s f) ≡ eqb (f .outcome) 3
 unfolding committed rowOf

@@ -17,7 +17,7 @@ use Rattle.rules.specs.Stamps.{isStamp, isRegister, bodyByRule}
 use Rattle.rules.specs.Tables.{Model, Prepare.tentative, resultCode, resultRetry, isView, resultByRule, retryByRule, tableByRule}
 use Rattle.rules.specs.Messages.{Message, Message.proposePrepare, Message.finalisePrepare, Message.proposeOutcome, Message.finaliseOutcome, Message.changeView, Message.startView, Message.readRegister}
 use Rattle.rules.specs.Circumstances.{startsView, messageByRule}
-use Rattle.rules.proofs.Logic.{both-left, both-right, both-true, both-false, both-assoc, same-test}
+use Rattle.rules.proofs.Logic.{both-left, both-right, both-true, both-false, both-whole, both-comm, both-assoc, same-test}
 use Rattle.rows.specs.Bytes.{bodyLength}
 use Rattle.rows.specs.Fields.{resultNumbered, verdictNumbered, prepareNumbered, codesByRule}
 use Rattle.rows.specs.Read.{bodyAt, begins}
@@ -41,18 +41,6 @@ unfolding both
 both-swap true b c = refl
 both-swap false true c = refl
 both-swap false false c = refl
-
-both-whole : (a : Bool) → both a true ≡ a
-unfolding both
-both-whole true = refl
-both-whole false = refl
-
-both-comm : (a b : Bool) → both a b ≡ both b a
-unfolding both
-both-comm true true = refl
-both-comm true false = refl
-both-comm false true = refl
-both-comm false false = refl
 
 both-across : (a b c d : Bool) → both (both a b) (both c d) ≡ both (both c b) (both a d)
 unfolding both

@@ -39,6 +39,18 @@ unfolding both
 both-false true = refl
 both-false false = refl
 
+pub both-whole : (a : Bool) → both a true ≡ a
+unfolding both
+both-whole true = refl
+both-whole false = refl
+
+pub both-comm : (a b : Bool) → both a b ≡ both b a
+unfolding both
+both-comm true true = refl
+both-comm true false = refl
+both-comm false true = refl
+both-comm false false = refl
+
 pub either-cases : (a b : Bool) → either a b ≡ true → (a ≡ true) ⊎ (b ≡ true)
 unfolding either
 either-cases true b h = inl refl
