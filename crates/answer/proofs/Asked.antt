@@ -21,15 +21,15 @@ use Rattle.rules.proofs.Tables.{table-facts, table-by}
 use Rattle.rows.specs.Bytes.{bodyLength, lengthOf}
 use Rattle.rows.specs.Read.{bodyAt, begins}
 use Rattle.rows.proofs.Begins.{begins-with}
-use Rattle.rows.proofs.Bodies.{length-body, length-accessesAt, lengthOf-bodyAt}
+use Rattle.rows.proofs.Bodies.{length-accessesAt, lengthOf-bodyAt}
 use Rattle.table.specs.declared.header.Header.{Header}
 use Rattle.table.specs.Headers.{headerAt}
 use Rattle.table.specs.Images.{formatOne, image, imageLength}
 use Rattle.table.specs.Parse.{parse, tableAt}
 use Rattle.table.proofs.Images.{bodies-at-most, one-sound, parsed}
-use Rattle.message.specs.Messages.{countsAndBody, messageBytes, messageAt}
+use Rattle.message.specs.Messages.{messageBytes, messageAt}
 use Rattle.message.specs.Read.{lawful, messageTo}
-use Rattle.message.proofs.Forms.{message-bytes}
+use Rattle.message.proofs.Forms.{message-bytes, length-counts}
 use Rattle.seek.specs.Lent.{limited, Lawful}
 
 module _ (M : Model) (n : ℕ) (s : List ℕ) (m : Message) (told : some m ≡ messageTo formatOne M n s) where
@@ -52,10 +52,6 @@ module _ (M : Model) (n : ℕ) (s : List ℕ) (m : Message) (told : some m ≡ m
 counts-told : (s : List ℕ) (at reads writes stamp : ℕ) → bodyByRule stamp (bodyAt s at reads writes) ≡ true → countsByRule reads writes ≡ true
 unfolding bodyByRule bodyAt
 counts-told s at reads writes stamp h = rw (length-accessesAt, length-accessesAt) at (both-left _ _ h)
-
-length-counts : (x : Body) → length (countsAndBody x) ≡ 2 + lengthOf x
-unfolding countsAndBody
-length-counts x = let e = length-body x in simp (length-append, length-bytes) (omega arith)
 
 -- what messages 1 and 3 ask of their bytes, with the body at a place
 abbrev pub BodyGiven : List ℕ → ℕ → ℕ → ℕ → ℕ → Type 0

@@ -14,12 +14,13 @@ use Rattle.wire.specs.Numbers.{bytes, numberAt, AllBytes}
 use Rattle.wire.proofs.Numbers.{length-bytes}
 use Rattle.wire.proofs.Stands.{Stands, stands-whole}
 use Rattle.wire.proofs.Fields.{field-read, field-stands, last-read, last-stands}
-use Rattle.rules.specs.Tests.{both, either, provided}
+use Rattle.rules.specs.Tests.{both, either}
 use Rattle.rules.specs.Stamps.{Body, isStamp, isRegister, countsByRule, bodyByRule}
 use Rattle.rules.specs.Tables.{Result, Result.OK, Result.ABORT, Result.ABSTAIN, Result.RETRY, Verdict, Verdict.commit, Verdict.abort, Table, Model, resultCode, resultRetry, verdictCode, isView, resultByRule, tableByRule}
 use Rattle.rules.specs.Messages.{Message, Message.proposePrepare, Message.finalisePrepare, Message.proposeOutcome, Message.finaliseOutcome, Message.changeView, Message.startView, Message.readRegister}
 use Rattle.rules.specs.Circumstances.{messageByRule}
 use Rattle.rules.proofs.Logic.{none-some, both-left, both-right, same?}
+use Rattle.rules.proofs.Lists.{provided-some}
 use Rattle.rows.specs.Bytes.{bodyLength, lengthOf}
 use Rattle.rows.specs.Fields.{resultNumbered, verdictNumbered, retryByCode}
 use Rattle.rows.specs.Read.{bodyAt}
@@ -34,7 +35,7 @@ use Rattle.message.proofs.Lawful.{result-coded}
 
 -- ---- counts and body
 
-length-counts : (x : Body) → length (countsAndBody x) ≡ 2 + lengthOf x
+pub length-counts : (x : Body) → length (countsAndBody x) ≡ 2 + lengthOf x
 unfolding countsAndBody
 length-counts x = let e = length-body x in simp (length-append, length-bytes) (omega arith)
 
@@ -210,10 +211,6 @@ all-there : (s ws : List ℕ) → Stands s 0 ws → length s ≡ length ws → w
 unfolding Stands
 all-there s ws h l = sym h ∙ take-all (length ws) s (omega arith)
 
-given : (t : Bool) (m w : Message) → provided t m ≡ some w → (t ≡ true) × (m ≡ w)
-given true m w h = (refl, cc)
-given false m w h = none-some h
-
 chosen : {A : Type 0} (P : A → Type 0) (t : Bool) (x y : A) → (t ≡ true → P x) → (t ≡ false → P y) → P (cond t x y)
 chosen P true x y f g = f refl
 chosen P false x y f g = g refl
@@ -226,7 +223,7 @@ module _ (s : List ℕ) (a : AllBytes s) where
   prepare-proposal-bytes : numberAt s 0 1 ≡ 1 → (m : Message) → prepareProposal s ≡ some m → messageBytes formatOne m ≡ s
   unfolding prepareProposal messageBytes
   prepare-proposal-bytes e m h =
-      let g = given _ _ _ h in
+      let g = provided-some _ _ _ h in
       let c = counts-stand s 9 a (g .0) in
       let n = length-counts (bodyFrom s 9) in
       let l = c .1 in
@@ -236,7 +233,7 @@ module _ (s : List ℕ) (a : AllBytes s) where
   outcome-proposal-bytes : numberAt s 0 1 ≡ 3 → (m : Message) → outcomeProposal s ≡ some m → messageBytes formatOne m ≡ s
   unfolding outcomeProposal messageBytes
   outcome-proposal-bytes e m h =
-      let g = given _ _ _ h in
+      let g = provided-some _ _ _ h in
       let v = verdict-numbered (numberAt s 9 1) (both-left _ _ (g .0)) in
       let c = counts-stand s 10 a (both-right _ _ (g .0)) in
       let n = length-counts (bodyFrom s 10) in
@@ -247,7 +244,7 @@ module _ (s : List ℕ) (a : AllBytes s) where
   prepare-final-bytes : numberAt s 0 1 ≡ 2 → (m : Message) → prepareFinal s ≡ some m → messageBytes formatOne m ≡ s
   unfolding prepareFinal messageBytes
   prepare-final-bytes e m h =
-      let g = given _ _ _ h in
+      let g = provided-some _ _ _ h in
       let l : length s ≡ 22 = eqb-true _ _ (both-left _ _ (g .0)) in
       let r = result-coded (numberAt s 13 1) (numberAt s 14 8) (both-right _ _ (g .0)) in
       let w =
@@ -259,7 +256,7 @@ module _ (s : List ℕ) (a : AllBytes s) where
   outcome-final-bytes : numberAt s 0 1 ≡ 4 → (m : Message) → outcomeFinal s ≡ some m → messageBytes formatOne m ≡ s
   unfolding outcomeFinal messageBytes
   outcome-final-bytes e m h =
-      let g = given _ _ _ h in
+      let g = provided-some _ _ _ h in
       let l : length s ≡ 14 = eqb-true _ _ (both-left _ _ (g .0)) in
       let v = verdict-numbered (numberAt s 13 1) (both-right _ _ (g .0)) in
       let w =
@@ -270,7 +267,7 @@ module _ (s : List ℕ) (a : AllBytes s) where
   view-change-bytes : numberAt s 0 1 ≡ 5 → (m : Message) → viewChange s ≡ some m → messageBytes formatOne m ≡ s
   unfolding viewChange messageBytes
   view-change-bytes e m h =
-      let g = given _ _ _ h in
+      let g = provided-some _ _ _ h in
       let l : length s ≡ 5 = eqb-true _ _ (g .0) in
       let w = kind-stands 5 _ e (omega arith) (last-stands 4 s 1 a (omega arith)) in
       rw (← g .1) (all-there s _ w (simp (length-append, length-bytes) (omega arith)))
@@ -279,7 +276,7 @@ module _ (s : List ℕ) (a : AllBytes s) where
   unfolding viewStart messageBytes
   view-start-bytes e m h =
       let I = tableAt formatOne (drop 5 s) in
-      let g = given _ _ _ h in
+      let g = provided-some _ _ _ h in
       let l : length s ≡ 5 + imageLength formatOne I = eqb-true _ _ (both-left _ _ (g .0)) in
       let n : length (image formatOne I) ≡ imageLength formatOne I = length-image formatOne I (λ rows. refl) in
       let i = begins-stands s 5 (image formatOne I) (both-right _ _ (g .0)) in
@@ -289,7 +286,7 @@ module _ (s : List ℕ) (a : AllBytes s) where
   register-read-bytes : numberAt s 0 1 ≡ 7 → (m : Message) → registerRead s ≡ some m → messageBytes formatOne m ≡ s
   unfolding registerRead messageBytes
   register-read-bytes e m h =
-      let g = given _ _ _ h in
+      let g = provided-some _ _ _ h in
       let l : length s ≡ 10 = eqb-true _ _ (g .0) in
       let w = kind-stands 7 _ e (omega arith) (field-stands 8 s 1 9 _ a (omega arith) refl (last-stands 1 s 9 a (omega arith))) in
       rw (← g .1) (all-there s _ w (simp (length-append, length-bytes) (omega arith)))
