@@ -90,12 +90,9 @@ result-read ABORT h = (refl, refl)
 result-read ABSTAIN h = (refl, refl)
 result-read (RETRY s) h = (refl, h)
 
-verdict-numbered : (code : ℕ) → verdictByCode code ≡ true → verdictCode (verdictNumbered code) ≡ code
+pub verdict-numbered : (code : ℕ) → verdictByCode code ≡ true → verdictCode (verdictNumbered code) ≡ code
 unfolding verdictNumbered verdictByCode
-verdict-numbered code h =
-    let l : 1 ≤ code = leb-true 1 code (both-left _ _ h) in
-    let m : code ≤ 2 = leb-true code 2 (both-right _ _ h) in
-    go (same? code 1)
+verdict-numbered code h = go (same? code 1)
   where
     go : (code ≡ 1) ⊎ (eqb code 1 ≡ false) → verdictCode (verdictNumbered code) ≡ code
     go (inl e) = rw e

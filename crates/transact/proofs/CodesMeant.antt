@@ -14,6 +14,8 @@ use Rattle.rules.proofs.Logic.{both-left, both-right, impossible, cases}
 use Rattle.rows.specs.Fields.{resultNumbered, prepareNumbered, verdictNumbered, outcomeNumbered, retryByCode}
 use Rattle.rows.proofs.Codes.{prepare-numbered, outcome-numbered}
 use Rattle.message.specs.Messages.{resultByCode, verdictByCode}
+use Rattle.message.proofs.Lawful.{result-coded}
+use Rattle.message.proofs.Forms.{verdict-numbered}
 
 -- ---- results
 
@@ -46,11 +48,7 @@ module _ (code retry : ℕ) (byCode : resultByCode code retry ≡ true) where
       rw (ne-eqb (code + 4) 0 (λ z. absurd (omega arith)), lt-leb (code + 4) 4 (omega arith), e)
 
   pub result-numbered : (resultCode (resultNumbered code retry) ≡ code) × (resultRetry (resultNumbered code retry) ≡ retry)
-  result-numbered =
-      let (low, high, by) = result-range in
-      let (x, y) = prepare-numbered (code + 4) retry (omega arith) retry-final in
-      let z : 4 + resultCode (resultNumbered code retry) ≡ code + 4 = rw final-numbered at x in
-      (omega arith, rw final-numbered at y)
+  result-numbered = let c = result-coded code retry byCode in (c .sameCode, c .sameRetry)
 
 -- a result other than a held final one, by the codes of both
 pub unequal-by-codes : (r : Result) (p : Prepare) → unequalFinal r p ≡ both (ltb 4 (prepareCode p)) (not (both (eqb (resultCode r) (prepareCode p - 4)) (eqb (resultRetry r) (prepareRetry p))))
@@ -89,9 +87,6 @@ module _ (code : ℕ) (byCode : verdictByCode code ≡ true) where
       let (low, high) = verdict-range in
       let e : code + 2 - 2 ≡ code = omega arith in
       rw (ne-eqb (code + 2) 0 (λ z. absurd (omega arith)), lt-leb (code + 2) 2 (omega arith), e)
-
-  pub verdict-numbered : verdictCode (verdictNumbered code) ≡ code
-  verdict-numbered = let (low, high) = verdict-range in rw noted-numbered at (outcome-numbered code (omega arith))
 
 -- an outcome other than a held one, by the codes of both
 pub opposite-by-codes : (v : Verdict) (o : Outcome) → oppositeOutcome v o ≡ both (ltb 0 (outcomeCode o)) (both (not (eqb (outcomeCode o) (verdictCode v))) (not (eqb (outcomeCode o) (verdictCode v + 2))))

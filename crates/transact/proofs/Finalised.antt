@@ -28,6 +28,7 @@ use Rattle.table.specs.Parse.{tableAt}
 use Rattle.edit.specs.Changes.{onRow}
 use Rattle.edit.specs.Edited.{edited}
 use Rattle.message.specs.Messages.{resultByCode, verdictByCode}
+use Rattle.message.proofs.Forms.{verdict-numbered}
 use Rattle.seek.specs.declared.Finding.{Finding}
 use Rattle.seek.specs.declared.Finding.the-variants.{Known, Refused}
 use Rattle.seek.specs.Lent.{Lawful}

@@ -28,6 +28,7 @@ use Rattle.table.specs.Parse.{tableAt}
 use Rattle.edit.specs.Changes.{onRow, adding}
 use Rattle.edit.specs.Edited.{edited}
 use Rattle.message.specs.Messages.{verdictByCode}
+use Rattle.message.proofs.Forms.{verdict-numbered}
 use Rattle.seek.specs.declared.Proposal.the-variants.{Held, New, Against}
 use Rattle.seek.specs.Lent.{Lawful}
 use Rattle.seek.specs.Sought.{toPropose}

@@ -1,6 +1,6 @@
 -- A message that breaks no rule of its own: its number by its kind, and what is then in the reply and in the buffer.
 use mathlib.Core.Path.{_≡_, refl, sym, ap, _∙_}
-use mathlib.Core.Bool.{Bool, true, false, cond}
+use mathlib.Core.Bool.{false, cond}
 use mathlib.Core.List.{List}
 use Prim.Native.Nat.{ℕ}
 use lib.Dec.{eqb}
@@ -12,6 +12,7 @@ use Rattle.rules.specs.Messages.{Message, Message.proposePrepare, Message.final
 use Rattle.rules.specs.Circumstances.{belowLimit, furtherCircumstances, isChanging, heldWithOtherBody, heldUnequalFinal, heldOppositeOutcome, newButFull, prepareNotHeld, outcomeNotHeld, forOtherView, changesToOldView, startsOldView}
 use Rattle.rules.specs.Answers.{Answer, refusal, refused, taken, replyFrom}
 use Rattle.rules.specs.Check.{check}
+use Rattle.rules.proofs.Logic.{either-none}
 use Rattle.table.specs.Images.{formatOne}
 use Rattle.table.specs.Parse.{tableAt}
 use Rattle.edit.specs.Edited.{Holds, edited}
@@ -22,39 +23,34 @@ use Rattle.transact.specs.Served.{servedNumber, served, servedReply, ser
 
 -- ---- the number of each kind: what may refuse it, in 01's order
 
-either-no : (a : Bool) → either a false ≡ a
-unfolding either
-either-no true = refl
-either-no false = refl
-
 module _ (M : Model) (T : Table) where
   pub number-1 : (s : ℕ) (x : Body) → servedNumber M T (proposePrepare s x) ≡ cond (isChanging T) 4 (cond (heldWithOtherBody T s x) 5 (cond (newButFull M belowLimit T s) 7 0))
   unfolding servedNumber furtherCircumstances number first applies both either
-  number-1 s x = rw (either-no (isChanging T), either-no (heldWithOtherBody T s x), either-no (newButFull M belowLimit T s))
+  number-1 s x = rw (either-none (isChanging T), either-none (heldWithOtherBody T s x), either-none (newButFull M belowLimit T s))
 
   pub number-2 : (s v : ℕ) (r : Result) → servedNumber M T (finalisePrepare s v r) ≡ cond (isChanging T) 4 (cond (forOtherView T v) 9 (cond (prepareNotHeld T s) 8 (cond (heldUnequalFinal T s r) 6 0)))
   unfolding servedNumber furtherCircumstances number first applies both either
-  number-2 s v r = rw (either-no (isChanging T), either-no (forOtherView T v), either-no (prepareNotHeld T s), either-no (heldUnequalFinal T s r))
+  number-2 s v r = rw (either-none (isChanging T), either-none (forOtherView T v), either-none (prepareNotHeld T s), either-none (heldUnequalFinal T s r))
 
   pub number-3 : (s : ℕ) (o : Verdict) (x : Body) → servedNumber M T (proposeOutcome s o x) ≡ cond (isChanging T) 4 (cond (heldWithOtherBody T s x) 5 (cond (heldOppositeOutcome T s o) 6 (cond (newButFull M belowLimit T s) 7 0)))
   unfolding servedNumber furtherCircumstances number first applies both either
-  number-3 s o x = rw (either-no (isChanging T), either-no (heldWithOtherBody T s x), either-no (heldOppositeOutcome T s o), either-no (newButFull M belowLimit T s))
+  number-3 s o x = rw (either-none (isChanging T), either-none (heldWithOtherBody T s x), either-none (heldOppositeOutcome T s o), either-none (newButFull M belowLimit T s))
 
   pub number-4 : (s v : ℕ) (o : Verdict) → servedNumber M T (finaliseOutcome s v o) ≡ cond (isChanging T) 4 (cond (forOtherView T v) 9 (cond (outcomeNotHeld T s) 8 (cond (heldOppositeOutcome T s o) 6 0)))
   unfolding servedNumber furtherCircumstances number first applies both either
-  number-4 s v o = rw (either-no (isChanging T), either-no (forOtherView T v), either-no (outcomeNotHeld T s), either-no (heldOppositeOutcome T s o))
+  number-4 s v o = rw (either-none (isChanging T), either-none (forOtherView T v), either-none (outcomeNotHeld T s), either-none (heldOppositeOutcome T s o))
 
   pub number-5 : (v : ℕ) → servedNumber M T (changeView v) ≡ cond (changesToOldView T v) 10 0
   unfolding servedNumber furtherCircumstances number first applies both either
-  number-5 v = rw (either-no (changesToOldView T v))
+  number-5 v = rw (either-none (changesToOldView T v))
 
   pub number-6 : (v : ℕ) (I : Table) → servedNumber M T (startView v I) ≡ cond (startsOldView T v) 10 0
   unfolding servedNumber furtherCircumstances number first applies both either
-  number-6 v I = rw (either-no (startsOldView T v))
+  number-6 v I = rw (either-none (startsOldView T v))
 
   pub number-7 : (s k : ℕ) → servedNumber M T (readRegister s k) ≡ cond (isChanging T) 4 0
   unfolding servedNumber furtherCircumstances number first applies both either
-  number-7 s k = rw (either-no (isChanging T))
+  number-7 s k = rw (either-none (isChanging T))
 
 -- a refusal has zeros behind its number
 pub refusal-is : (k : ℕ) → record { number = k; kind = 0; boxnumber = 0; state = 0; view = 0; stamp = 0; value = 0 } ≡ replyAs (refusal k)
