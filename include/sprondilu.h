@@ -96,22 +96,24 @@ uint64_t sprondilu_valid(const uint8_t *bytes, size_t bytes_len);
  *
  * Returns the first of these that applies, and SPRONDILU_DONE if none does:
  *   SPRONDILU_SMALL_BUFFER   table_len is below SPRONDILU_TABLE_BYTES, or reply_len below SPRONDILU_REPLY_BYTES
- *   SPRONDILU_BAD_TABLE      the table buffer does not begin with an image: nothing is answered from it
- *   SPRONDILU_BAD_MESSAGE    the message is none of the seven kinds by every rule, to its exact length: drop it
+ *   SPRONDILU_BAD_TABLE      the table buffer does not begin with an image by 01's rules
+ *   SPRONDILU_BAD_MESSAGE    the message is none of 01's seven, of its exact length and by every rule
  *   SPRONDILU_CHANGING       messages 1 to 4 and 7, while the box is between two views
  *   SPRONDILU_OTHER_VIEW     messages 2 and 4, for a view that is not the box's
  *   SPRONDILU_OLD_VIEW       message 5, for a view at or below the promised one; message 6, for one below the promised one,
  *                            or at or below the box's
  *   SPRONDILU_UNKNOWN        messages 2 and 4: what they finalise is not in the table
  *   SPRONDILU_OTHER_BODY     messages 1 and 3: the stamp is held with another body
- *   SPRONDILU_CONTRADICTION  messages 2 to 4: another final result or the opposite outcome is held
+ *   SPRONDILU_CONTRADICTION  message 2: another final result is held; messages 3 and 4: the opposite outcome is held
  *   SPRONDILU_FULL           messages 1 and 3: the stamp is new and 512 rows are held
  *
  * SPRONDILU_SMALL_BUFFER: no byte of either buffer has changed, so there is no reply to send.
  * Otherwise the first 24 bytes of the reply buffer are the reply, to be sent back as they are, and no other byte of that
  * buffer has changed. Refused, the reply is the number and 23 zero bytes, and no byte of the table buffer has changed.
- * Done, the table buffer begins with the image of the changed table. If that is shorter than the image before, the bytes
- * given up are zero; bytes past the longer of the two have not changed. The message never changes.
+ * Done, the reply is 0, the message's kind, the box, its state byte, then the view in 4 bytes, a stamp in 8 and a value in
+ * 8, the first byte of each counting most; and the table buffer begins with the image of the changed table. If that is
+ * shorter than the image before, the bytes given up are zero; bytes past the longer of the two have not changed. The
+ * message never changes.
  */
 uint8_t sprondilu_answer(uint8_t *table, size_t table_len, const uint8_t *message, size_t message_len, uint8_t *reply,
                          size_t reply_len);
