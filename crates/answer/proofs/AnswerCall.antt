@@ -17,7 +17,7 @@ use Rattle.rules.specs.Tables.{Model, Table, tableByRule}
 use Rattle.rules.specs.Numbers.{Number, Number.smallBuffer, Number.badTable, numberCode, Circumstance, applies, first, number}
 use Rattle.rules.specs.Messages.{Message, tableAfter}
 use Rattle.rules.specs.Circumstances.{tooSmall, replyTooSmall, belowLimit, messageByRule}
-use Rattle.rules.specs.Answers.{refusal, replyFrom, taken, answerNumber, answer}
+use Rattle.rules.specs.Answers.{refusal, replyFrom, taken, refused, answerNumber, answer}
 use Rattle.rules.specs.Check.{check}
 use Rattle.rules.proofs.Logic.{cases, same?, either-left, either-right}
 use Rattle.rules.proofs.Check.{check-by-rule}
@@ -172,6 +172,36 @@ module _ (M : Model) (table message reply : List ℕ) where
         n = rw same at y;
         said = taken-reply T m e a b;
       }
+
+  -- ---- a call whose table and message were read, taken or refused: it is `rules`' answer, of which the group's history speaks
+
+  module _ (sound : Sound formatOne M) (large : callNumber M table message reply ≡ 1 → ⊥) (T : Table) (m : Message) (a : parse formatOne M table ≡ some T) (b : messageAt formatOne message ≡ some m) where
+    number-by-rules : callNumber M table message reply ≡ answerNumber M belowLimit T m
+    number-by-rules = not-small large .2 ∙ rw (a, b)
+
+    parses-taken : AnswerTaken → parse formatOne M (callTable M table message reply) ≡ some (tableAfter check T m)
+    parses-taken w =
+        let p : some (w .before) ≡ some T = sym (w .read) ∙ a in
+        let q : some (w .heard) ≡ some m = sym (w .told) ∙ b in
+        let i : w .before ≡ T = cc in
+        let j : w .heard ≡ m = cc in
+        rw (i, j) at (w .after)
+
+    -- number, table and reply
+    pub answer-as-rules :
+        let said = answer M belowLimit check T m in
+        (callNumber M table message reply ≡ said .number) × (parse formatOne M (callTable M table message reply) ≡ some (said .table)) × (callReply M table message reply ≡ replaced reply 0 (replyBytes (replyAs (said .reply))))
+    unfolding answer taken refused
+    answer-as-rules = rw (← number-by-rules) (go (same? (callNumber M table message reply) 0))
+      where
+        go : (callNumber M table message reply ≡ 0) ⊎ (eqb (callNumber M table message reply) 0 ≡ false) →
+            let said = cond (eqb (callNumber M table message reply) 0) (taken (tableAfter check T m) m) (refused (callNumber M table message reply) T) in
+            (callNumber M table message reply ≡ said .number) × (parse formatOne M (callTable M table message reply) ≡ some (said .table)) × (callReply M table message reply ≡ replaced reply 0 (replyBytes (replyAs (said .reply))))
+        go (inl e) = (rw e, rw e (parses-taken (answer-taken sound e)), rw e (taken-reply T m e a b))
+        go (inr e) =
+            let n = eqb-false (callNumber M table message reply) 0 e in
+            let k : ℕ = callNumber M table message reply in
+            (rw e, rw e (ap (parse formatOne M) (answer-refused n) ∙ a), rw e (refused-reply k refl n large ∙ ap (replaced reply 0) (sym (refusal-bytes k))))
 
   -- ---- bytes that stay
 
