@@ -127,12 +127,12 @@ module _ (M : Model) (table message reply : List ℕ) where
 
     pub bad-message-exactly : (callNumber M table message reply ≡ 3 → NoMessage) × (NoMessage → callNumber M table message reply ≡ 3)
     bad-message-exactly = (
-      λ e m r is. served-other M T m .2 (sym (way-exactly (served large T m a (sym (ap (messageAt formatOne) is) ∙ message-read M (T .n) m sound r) r)) ∙ e),
+      λ e m r is. served-other M T m .2 (sym (way-exactly (served large T m a (sym (ap (messageAt formatOne) is) ∙ message-read formatOne M (T .n) m sound r) r)) ∙ e),
       λ none-is. go none-is (messageAt formatOne message) refl,
     )
       where
         broken-or-not : NoMessage → (m : Message) → messageAt formatOne message ≡ some m → (messageByRule M (T .n) m ≡ true) ⊎ (messageByRule M (T .n) m ≡ false) → callNumber M table message reply ≡ 3
-        broken-or-not h m b (inl r) = absurd (h m r (message-bytes message all m b))
+        broken-or-not h m b (inl r) = absurd (h m r (message-bytes formatOne (sound .starts) message all m b))
         broken-or-not h m b (inr r) = way-exactly (breaksRule large T m a b r)
 
         go : NoMessage → (q : Option Message) → messageAt formatOne message ≡ q → callNumber M table message reply ≡ 3

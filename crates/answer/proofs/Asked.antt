@@ -27,6 +27,7 @@ use Rattle.table.specs.Headers.{headerAt}
 use Rattle.table.specs.Images.{formatOne, image, imageLength}
 use Rattle.table.specs.Parse.{parse, tableAt}
 use Rattle.table.proofs.Images.{bodies-at-most, one-sound, parsed}
+use Rattle.edit.proofs.Holding.{one-starts}
 use Rattle.message.specs.Messages.{messageBytes, messageAt}
 use Rattle.message.specs.Read.{lawful, messageTo}
 use Rattle.message.proofs.Forms.{message-bytes, length-counts}
@@ -45,7 +46,7 @@ module _ (M : Model) (n : ℕ) (s : List ℕ) (m : Message) (told : some m ≡ m
   asked-rule = read-so .1
 
   pub asked-bytes : AllBytes s → messageBytes formatOne m ≡ s
-  asked-bytes all = message-bytes s all m (read-so .0)
+  asked-bytes all = message-bytes formatOne one-starts s all m (read-so .0)
 
 -- ---- a body behind its counts
 

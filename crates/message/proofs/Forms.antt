@@ -27,9 +27,9 @@ use Rattle.rows.specs.Read.{bodyAt}
 use Rattle.rows.proofs.Bodies.{length-accessesAt, length-body, body-stands, body-read}
 use Rattle.rows.proofs.Begins.{begins-stands, stands-begins}
 use Rattle.rows.proofs.FieldsRead.{stamp-small}
-use Rattle.table.specs.Images.{Form, formatOne, image, imageLength}
+use Rattle.table.specs.Images.{Form, image, imageLength}
 use Rattle.table.specs.Parse.{tableAt, parse}
-use Rattle.table.proofs.Images.{Sound, length-image, image-parses, parse-reads}
+use Rattle.table.proofs.Images.{Starts, Sound, length-image, image-parses, parse-reads}
 use Rattle.message.specs.Messages.{countsAndBody, messageBytes, endsWithBody, bodyFrom, resultByCode, verdictByCode, prepareProposal, prepareFinal, outcomeProposal, outcomeFinal, viewChange, viewStart, registerRead, messageOfKind, messageAt}
 use Rattle.message.proofs.Lawful.{result-coded}
 
@@ -174,30 +174,30 @@ view-change-read : (s : List ℕ) (v : ℕ) → isView v ≡ true → Stands s 1
 unfolding viewChange
 view-change-read s v h w l = rw (last-read 4 v s 1 (view-small v h) w, eq-eqb (length s) 5 l)
 
-pub message-read : (M : Model) (n : ℕ) (m : Message) → Sound formatOne M → messageByRule M n m ≡ true → messageAt formatOne (messageBytes formatOne m) ≡ some m
+pub message-read : (F : Form) (M : Model) (n : ℕ) (m : Message) → Sound F M → messageByRule M n m ≡ true → messageAt F (messageBytes F m) ≡ some m
 unfolding messageByRule messageBytes messageAt messageOfKind
-message-read M n (proposePrepare stamp x) k h =
+message-read F M n (proposePrepare stamp x) k h =
     let c = length-counts x in
     let a = kind-read 1 (11 + lengthOf x) (bytes 8 stamp ++ countsAndBody x) (omega arith) (simp (length-append, length-bytes) (omega arith)) in
     rw (a .0) (prepare-proposal-read _ stamp x (both-left _ _ h) (both-right _ _ h) (a .1) (a .2))
-message-read M n (finalisePrepare stamp v r) k h =
+message-read F M n (finalisePrepare stamp v r) k h =
     let a = kind-read 2 22 (bytes 8 stamp ++ (bytes 4 v ++ (bytes 1 (resultCode r) ++ bytes 8 (resultRetry r)))) (omega arith) (simp (length-append, length-bytes)) in
     rw (a .0) (prepare-final-read _ stamp v r (both-left _ _ h) (both-left _ _ (both-right _ _ h)) (both-right _ _ (both-right _ _ h)) (a .1) (a .2))
-message-read M n (proposeOutcome stamp o x) k h =
+message-read F M n (proposeOutcome stamp o x) k h =
     let c = length-counts x in
     let a = kind-read 3 (12 + lengthOf x) (bytes 8 stamp ++ (bytes 1 (verdictCode o) ++ countsAndBody x)) (omega arith) (simp (length-append, length-bytes) (omega arith)) in
     rw (a .0) (outcome-proposal-read _ stamp o x (both-left _ _ h) (both-right _ _ h) (a .1) (a .2))
-message-read M n (finaliseOutcome stamp v o) k h =
+message-read F M n (finaliseOutcome stamp v o) k h =
     let a = kind-read 4 14 (bytes 8 stamp ++ (bytes 4 v ++ bytes 1 (verdictCode o))) (omega arith) (simp (length-append, length-bytes)) in
     rw (a .0) (outcome-final-read _ stamp v o (both-left _ _ h) (both-right _ _ h) (a .1) (a .2))
-message-read M n (changeView v) k h =
+message-read F M n (changeView v) k h =
     let a = kind-read 5 5 (bytes 4 v) (omega arith) (simp length-bytes) in
     rw (a .0) (view-change-read _ v h (a .1) (a .2))
-message-read M n (startView v I) k h =
-    let c = length-image formatOne I (λ rows. refl) in
-    let a = kind-read 6 (5 + imageLength formatOne I) (bytes 4 v ++ image formatOne I) (omega arith) (simp (length-append, length-bytes) (omega arith)) in
-    rw (a .0) (view-start-read formatOne M _ v I k (both-left _ _ h) (both-left _ _ (both-right _ _ h)) (a .1) (a .2))
-message-read M n (readRegister stamp register) k h =
+message-read F M n (startView v I) k h =
+    let c = length-image F I (k .starts) in
+    let a = kind-read 6 (5 + imageLength F I) (bytes 4 v ++ image F I) (omega arith) (simp (length-append, length-bytes) (omega arith)) in
+    rw (a .0) (view-start-read F M _ v I k (both-left _ _ h) (both-left _ _ (both-right _ _ h)) (a .1) (a .2))
+message-read F M n (readRegister stamp register) k h =
     let a = kind-read 7 10 (bytes 8 stamp ++ bytes 1 register) (omega arith) (simp (length-append, length-bytes)) in
     rw (a .0) (register-read-read _ stamp register (both-left _ _ h) (both-right _ _ h) (a .1) (a .2))
 
@@ -212,12 +212,12 @@ chosen : {A : Type 0} (P : A → Type 0) (t : Bool) (x y : A) → (t ≡ true �
 chosen P true x y f g = f refl
 chosen P false x y f g = g refl
 
-module _ (s : List ℕ) (a : AllBytes s) where
+module _ (F : Form) (starts : Starts F) (s : List ℕ) (a : AllBytes s) where
   -- the kind's byte stands before the rest
   kind-stands : (k : ℕ) (ws : List ℕ) → numberAt s 0 1 ≡ k → 1 ≤ length s → Stands s 1 ws → Stands s 0 (bytes 1 k ++ ws)
   kind-stands k ws e l h = rw e at (field-stands 1 s 0 1 ws a l refl h)
 
-  prepare-proposal-bytes : numberAt s 0 1 ≡ 1 → (m : Message) → prepareProposal s ≡ some m → messageBytes formatOne m ≡ s
+  prepare-proposal-bytes : numberAt s 0 1 ≡ 1 → (m : Message) → prepareProposal s ≡ some m → messageBytes F m ≡ s
   unfolding prepareProposal messageBytes
   prepare-proposal-bytes e m h =
       let g = provided-some _ _ _ h in
@@ -227,7 +227,7 @@ module _ (s : List ℕ) (a : AllBytes s) where
       let w = kind-stands 1 _ e (omega arith) (field-stands 8 s 1 9 _ a (omega arith) refl (c .0)) in
       rw (← g .1) (all-there s _ w (simp (length-append, length-bytes) (omega arith)))
 
-  outcome-proposal-bytes : numberAt s 0 1 ≡ 3 → (m : Message) → outcomeProposal s ≡ some m → messageBytes formatOne m ≡ s
+  outcome-proposal-bytes : numberAt s 0 1 ≡ 3 → (m : Message) → outcomeProposal s ≡ some m → messageBytes F m ≡ s
   unfolding outcomeProposal messageBytes
   outcome-proposal-bytes e m h =
       let g = provided-some _ _ _ h in
@@ -238,7 +238,7 @@ module _ (s : List ℕ) (a : AllBytes s) where
       let w = kind-stands 3 _ e (omega arith) (field-stands 8 s 1 9 _ a (omega arith) refl (field-stands 1 s 9 10 _ a (omega arith) refl (c .0))) in
       rw (← g .1, v) (all-there s _ w (simp (length-append, length-bytes) (omega arith)))
 
-  prepare-final-bytes : numberAt s 0 1 ≡ 2 → (m : Message) → prepareFinal s ≡ some m → messageBytes formatOne m ≡ s
+  prepare-final-bytes : numberAt s 0 1 ≡ 2 → (m : Message) → prepareFinal s ≡ some m → messageBytes F m ≡ s
   unfolding prepareFinal messageBytes
   prepare-final-bytes e m h =
       let g = provided-some _ _ _ h in
@@ -250,7 +250,7 @@ module _ (s : List ℕ) (a : AllBytes s) where
       (field-stands 4 s 9 13 _ a (omega arith) refl (field-stands 1 s 13 14 _ a (omega arith) refl (last-stands 8 s 14 a (omega arith))))) in
       rw (← g .1, r .sameCode, r .sameRetry) (all-there s _ w (simp (length-append, length-bytes) (omega arith)))
 
-  outcome-final-bytes : numberAt s 0 1 ≡ 4 → (m : Message) → outcomeFinal s ≡ some m → messageBytes formatOne m ≡ s
+  outcome-final-bytes : numberAt s 0 1 ≡ 4 → (m : Message) → outcomeFinal s ≡ some m → messageBytes F m ≡ s
   unfolding outcomeFinal messageBytes
   outcome-final-bytes e m h =
       let g = provided-some _ _ _ h in
@@ -261,7 +261,7 @@ module _ (s : List ℕ) (a : AllBytes s) where
       (field-stands 8 s 1 9 _ a (omega arith) refl (field-stands 4 s 9 13 _ a (omega arith) refl (last-stands 1 s 13 a (omega arith)))) in
       rw (← g .1, v) (all-there s _ w (simp (length-append, length-bytes) (omega arith)))
 
-  view-change-bytes : numberAt s 0 1 ≡ 5 → (m : Message) → viewChange s ≡ some m → messageBytes formatOne m ≡ s
+  view-change-bytes : numberAt s 0 1 ≡ 5 → (m : Message) → viewChange s ≡ some m → messageBytes F m ≡ s
   unfolding viewChange messageBytes
   view-change-bytes e m h =
       let g = provided-some _ _ _ h in
@@ -269,18 +269,18 @@ module _ (s : List ℕ) (a : AllBytes s) where
       let w = kind-stands 5 _ e (omega arith) (last-stands 4 s 1 a (omega arith)) in
       rw (← g .1) (all-there s _ w (simp (length-append, length-bytes) (omega arith)))
 
-  view-start-bytes : numberAt s 0 1 ≡ 6 → (m : Message) → viewStart formatOne s ≡ some m → messageBytes formatOne m ≡ s
+  view-start-bytes : numberAt s 0 1 ≡ 6 → (m : Message) → viewStart F s ≡ some m → messageBytes F m ≡ s
   unfolding viewStart messageBytes
   view-start-bytes e m h =
-      let I = tableAt formatOne (drop 5 s) in
+      let I = tableAt F (drop 5 s) in
       let g = provided-some _ _ _ h in
-      let l : length s ≡ 5 + imageLength formatOne I = eqb-true _ _ (both-left _ _ (g .0)) in
-      let n : length (image formatOne I) ≡ imageLength formatOne I = length-image formatOne I (λ rows. refl) in
-      let i = begins-stands s 5 (image formatOne I) (both-right _ _ (g .0)) in
+      let l : length s ≡ 5 + imageLength F I = eqb-true _ _ (both-left _ _ (g .0)) in
+      let n : length (image F I) ≡ imageLength F I = length-image F I starts in
+      let i = begins-stands s 5 (image F I) (both-right _ _ (g .0)) in
       let w = kind-stands 6 _ e (omega arith) (field-stands 4 s 1 5 _ a (omega arith) refl i) in
       rw (← g .1) (all-there s _ w (simp (length-append, length-bytes) (omega arith)))
 
-  register-read-bytes : numberAt s 0 1 ≡ 7 → (m : Message) → registerRead s ≡ some m → messageBytes formatOne m ≡ s
+  register-read-bytes : numberAt s 0 1 ≡ 7 → (m : Message) → registerRead s ≡ some m → messageBytes F m ≡ s
   unfolding registerRead messageBytes
   register-read-bytes e m h =
       let g = provided-some _ _ _ h in
@@ -289,9 +289,9 @@ module _ (s : List ℕ) (a : AllBytes s) where
       rw (← g .1) (all-there s _ w (simp (length-append, length-bytes) (omega arith)))
 
   abbrev Written : Message → Option Message → Type 0
-  Written m o = o ≡ some m → messageBytes formatOne m ≡ s
+  Written m o = o ≡ some m → messageBytes F m ≡ s
 
-  pub message-bytes : (m : Message) → messageAt formatOne s ≡ some m → messageBytes formatOne m ≡ s
+  pub message-bytes : (m : Message) → messageAt F s ≡ some m → messageBytes F m ≡ s
   unfolding messageAt messageOfKind
   message-bytes m =
       let k = numberAt s 0 1 in
