@@ -37,7 +37,7 @@ use Rattle.seek.proofs.HeldRows.{lawful-holds, held-here, prepare-here, outcome
 use Rattle.transact.specs.Replies.{replyAs}
 use Rattle.transact.specs.Served.{servedNumber}
 use Rattle.transact.proofs.Serving.{number-2, number-4, Kept, kept-refused, kept-taken}
-use Rattle.transact.proofs.CodesMeant.{result-numbered, final-numbered, verdict-numbered, done-numbered}
+use Rattle.transact.proofs.CodesMeant.{result-numbered, final-numbered, done-numbered}
 
 -- ---- what was found
 

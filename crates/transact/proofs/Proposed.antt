@@ -36,7 +36,7 @@ use Rattle.seek.proofs.HeldRows.{lawful-holds, lawful-regular, held-here, by-ru
 use Rattle.transact.specs.Replies.{replyAs, doneReply}
 use Rattle.transact.specs.Served.{answeredByte}
 use Rattle.transact.proofs.Serving.{number-1, number-3, Kept, kept-taken}
-use Rattle.transact.proofs.CodesMeant.{noted-numbered, verdict-numbered}
+use Rattle.transact.proofs.CodesMeant.{noted-numbered}
 use Rattle.transact.proofs.Proposals.{held-clear, new-clear, proposal-refused, proposal-opposed, proposal-clear}
 use Rattle.transact.proofs.NewRows.{held-new}
 

@@ -42,45 +42,6 @@ fn opposite(outcome: u8, verdict: u8) -> bool
     outcome != verdict + 2
 }
 
-// Message 4, of a row that the table holds: done, if an outcome is held and not the opposite one.
-fn finalise_held(table: &mut [u8], index: usize, stamp: u64, verdict: u8) -> Reply
-    requires { ⌜ Lawful valley (now table) × (placeOf (tableAt formatOne (now table) .rows) stamp ≡ place.Held index) × (verdictByCode verdict ≡ true) ⌝ }
-    ensures { λ r. ⌜ ((view : ℕ) → toFinalise (tableAt formatOne (now (table .entry))) stamp view ≡ Known index →
-        (r ≡ servedReply valley (finaliseOutcome stamp view (verdictNumbered verdict)) (now (table .entry))) × (now (table .exit) ≡ servedBuffer valley (finaliseOutcome stamp view (verdictNumbered verdict)) (now (table .entry)))) ⌝ }
-{
-    let held = row::row_at(table, header::LENGTH, index);
-    if held.outcome == 0 {
-        return Reply::refusal(8);
-    }
-    if opposite(held.outcome, verdict) {
-        return Reply::refusal(6);
-    }
-    let h = header::read(table);
-    edit::state::set_outcome(table, index, verdict + 2);
-    Reply {
-        number: 0,
-        kind: 4,
-        boxnumber: h.boxnumber,
-        state: verdict + 2,
-        view: h.view,
-        stamp,
-        value: 0,
-    }
-}
-
-// Message 4.
-pub fn finalise_outcome(table: &mut [u8], stamp: u64, view: u32, verdict: u8) -> Reply
-    requires { ⌜ Lawful valley (now table) × (verdictByCode verdict ≡ true) ⌝ }
-    ensures { λ r. ⌜ r ≡ servedReply valley (finaliseOutcome stamp view (verdictNumbered verdict)) (now (table .entry)) ⌝ }
-    ensures { λ _. ⌜ now (table .exit) ≡ servedBuffer valley (finaliseOutcome stamp view (verdictNumbered verdict)) (now (table .entry)) ⌝ }
-{
-    let finding = seek::row_to_finalise(table, stamp, view);
-    match finding {
-        Finding::Refused { number } => Reply::refusal(number),
-        Finding::Known { index } => finalise_held(table, index, stamp, verdict),
-    }
-}
-
 // The outcome byte that a row has after a verdict was noted: a held one stays.
 fn noted_as(verdict: u8, outcome: u8) -> u8
     requires { ⌜ (outcome ≤ 4) × (verdictByCode verdict ≡ true) ⌝ }
@@ -149,10 +110,10 @@ pub fn propose_outcome(
 }
 
 // Message 4, of a row that the table holds: done, if an outcome is held and not the opposite one.
-fn finalise_held(table: &mut [u8], index: usize, stamp: u64, view: u32, verdict: u8) -> Reply
-    requires { ⌜ Lawful valley (now table) × (toFinalise (tableAt formatOne (now table)) stamp view ≡ Known index) × (verdictByCode verdict ≡ true) ⌝ }
-    ensures { λ r. ⌜ r ≡ servedReply valley (finaliseOutcome stamp view (verdictNumbered verdict)) (now (table .entry)) ⌝ }
-    ensures { λ _. ⌜ now (table .exit) ≡ servedBuffer valley (finaliseOutcome stamp view (verdictNumbered verdict)) (now (table .entry)) ⌝ }
+fn finalise_held(table: &mut [u8], index: usize, stamp: u64, verdict: u8) -> Reply
+    requires { ⌜ Lawful valley (now table) × (placeOf (tableAt formatOne (now table) .rows) stamp ≡ place.Held index) × (verdictByCode verdict ≡ true) ⌝ }
+    ensures { λ r. ⌜ ((view : ℕ) → toFinalise (tableAt formatOne (now (table .entry))) stamp view ≡ Known index →
+        (r ≡ servedReply valley (finaliseOutcome stamp view (verdictNumbered verdict)) (now (table .entry))) × (now (table .exit) ≡ servedBuffer valley (finaliseOutcome stamp view (verdictNumbered verdict)) (now (table .entry)))) ⌝ }
 {
     let held = row::row_at(table, header::LENGTH, index);
     if held.outcome == 0 {
@@ -183,6 +144,6 @@ pub fn finalise_outcome(table: &mut [u8], stamp: u64, view: u32, verdict: u8) ->
     let finding = seek::row_to_finalise(table, stamp, view);
     match finding {
         Finding::Refused { number } => Reply::refusal(number),
-        Finding::Known { index } => finalise_held(table, index, stamp, view, verdict),
+        Finding::Known { index } => finalise_held(table, index, stamp, verdict),
     }
 }

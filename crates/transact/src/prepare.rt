@@ -34,59 +34,6 @@ ghost use Rattle.seek.specs.Sought.{toFinalise, toPropose};
 ghost use Rattle.seek.specs.declared.Finding.the-variants.{Known};
 ghost use Rattle.seek.specs.declared.Proposal.the-variants.{Held, New};
 
-// Whether a held prepare byte with its retry stamp is a final result other than this one.
-fn unequal_final(prepare: u8, held: u64, result: u8, retry: u64) -> bool
-    requires { ⌜ (prepare ≤ 8) × (retryByCode prepare held ≡ true) × (resultByCode result retry ≡ true) ⌝ }
-    ensures { λ r. ⌜ r ≡ unequalFinal (resultNumbered result retry) (prepareNumbered prepare held) ⌝ }
-{
-    if prepare <= 4 {
-        return false;
-    }
-    if result != prepare - 4 {
-        return true;
-    }
-    retry != held
-}
-
-// Message 2, of a row that the table holds: final with this result, if a prepare is held and no other final one.
-fn finalise_held(table: &mut [u8], index: usize, stamp: u64, result: u8, retry: u64) -> Reply
-    requires { ⌜ Lawful valley (now table) × (placeOf (tableAt formatOne (now table) .rows) stamp ≡ place.Held index) × (resultByCode result retry ≡ true) ⌝ }
-    ensures { λ r. ⌜ ((view : ℕ) → toFinalise (tableAt formatOne (now (table .entry))) stamp view ≡ Known index →
-        (r ≡ servedReply valley (finalisePrepare stamp view (resultNumbered result retry)) (now (table .entry))) × (now (table .exit) ≡ servedBuffer valley (finalisePrepare stamp view (resultNumbered result retry)) (now (table .entry)))) ⌝ }
-{
-    let held = row::row_at(table, header::LENGTH, index);
-    if held.prepare == 0 {
-        return Reply::refusal(8);
-    }
-    if unequal_final(held.prepare, held.retry, result, retry) {
-        return Reply::refusal(6);
-    }
-    let h = header::read(table);
-    edit::state::set_prepare(table, index, result + 4, retry);
-    Reply {
-        number: 0,
-        kind: 2,
-        boxnumber: h.boxnumber,
-        state: result + 4,
-        view: h.view,
-        stamp,
-        value: retry,
-    }
-}
-
-// Message 2.
-pub fn finalise_prepare(table: &mut [u8], stamp: u64, view: u32, result: u8, retry: u64) -> Reply
-    requires { ⌜ Lawful valley (now table) × (resultByCode result retry ≡ true) ⌝ }
-    ensures { λ r. ⌜ r ≡ servedReply valley (finalisePrepare stamp view (resultNumbered result retry)) (now (table .entry)) ⌝ }
-    ensures { λ _. ⌜ now (table .exit) ≡ servedBuffer valley (finalisePrepare stamp view (resultNumbered result retry)) (now (table .entry)) ⌝ }
-{
-    let finding = seek::row_to_finalise(table, stamp, view);
-    match finding {
-        Finding::Refused { number } => Reply::refusal(number),
-        Finding::Known { index } => finalise_held(table, index, stamp, result, retry),
-    }
-}
-
 // The prepare byte that answers for a held row: its own, or what its outcome says if it has none.
 fn answered(prepare: u8, outcome: u8) -> u8
     ensures { λ r. ⌜ r ≡ answeredByte prepare outcome ⌝ }
@@ -205,17 +152,10 @@ fn unequal_final(prepare: u8, held: u64, result: u8, retry: u64) -> bool
 }
 
 // Message 2, of a row that the table holds: final with this result, if a prepare is held and no other final one.
-fn finalise_held(
-    table: &mut [u8],
-    index: usize,
-    stamp: u64,
-    view: u32,
-    result: u8,
-    retry: u64,
-) -> Reply
-    requires { ⌜ Lawful valley (now table) × (toFinalise (tableAt formatOne (now table)) stamp view ≡ Known index) × (resultByCode result retry ≡ true) ⌝ }
-    ensures { λ r. ⌜ r ≡ servedReply valley (finalisePrepare stamp view (resultNumbered result retry)) (now (table .entry)) ⌝ }
-    ensures { λ _. ⌜ now (table .exit) ≡ servedBuffer valley (finalisePrepare stamp view (resultNumbered result retry)) (now (table .entry)) ⌝ }
+fn finalise_held(table: &mut [u8], index: usize, stamp: u64, result: u8, retry: u64) -> Reply
+    requires { ⌜ Lawful valley (now table) × (placeOf (tableAt formatOne (now table) .rows) stamp ≡ place.Held index) × (resultByCode result retry ≡ true) ⌝ }
+    ensures { λ r. ⌜ ((view : ℕ) → toFinalise (tableAt formatOne (now (table .entry))) stamp view ≡ Known index →
+        (r ≡ servedReply valley (finalisePrepare stamp view (resultNumbered result retry)) (now (table .entry))) × (now (table .exit) ≡ servedBuffer valley (finalisePrepare stamp view (resultNumbered result retry)) (now (table .entry)))) ⌝ }
 {
     let held = row::row_at(table, header::LENGTH, index);
     if held.prepare == 0 {
@@ -246,6 +186,6 @@ pub fn finalise_prepare(table: &mut [u8], stamp: u64, view: u32, result: u8, ret
     let finding = seek::row_to_finalise(table, stamp, view);
     match finding {
         Finding::Refused { number } => Reply::refusal(number),
-        Finding::Known { index } => finalise_held(table, index, stamp, view, result, retry),
+        Finding::Known { index } => finalise_held(table, index, stamp, result, retry),
     }
 }
