@@ -1,13 +1,13 @@
 -- 01, number 7, "full": a box refuses a new stamp with as many rows held as it may have, and no other message; a stamp that it holds is served as ever.
 use mathlib.Core.Path.{_≡_, refl, sym, _∙_}
-use mathlib.Core.Bool.{true, false, cond}
+use mathlib.Core.Bool.{true, cond}
 use mathlib.Core.List.{List}
 use mathlib.Core.Option.{Option, none, some}
 use Prim.Native.Nat.{ℕ, _≤_}
 use native.Mathlib.Omega.{arith}
 use lib.ListN.{length}
 use borrow.Author.Tests.{ltb-false, le-ltb, not-true}
-use Rattle.rules.specs.Tests.{both, either, isSome}
+use Rattle.rules.specs.Tests.{both, either}
 use Rattle.rules.specs.Stamps.{Body}
 use Rattle.rules.specs.Tables.{Result, Verdict, Row, Model, Table}
 use Rattle.rules.specs.Numbers.{Number.full, applies}
@@ -15,7 +15,7 @@ use Rattle.rules.specs.Messages.{Message, Message.proposePrepare, Message.final
 use Rattle.rules.specs.Circumstances.{tooSmall, replyTooSmall, belowLimit, messageByRule, isChanging, heldWithOtherBody, heldOppositeOutcome, newButFull, furtherCircumstances, circumstances}
 use Rattle.rules.specs.Answers.{answerNumber, answer}
 use Rattle.rules.specs.Check.{check}
-use Rattle.rules.proofs.Logic.{impossible, none-some, both-left, both-right, both-true, not-true-of, either-none}
+use Rattle.rules.proofs.Logic.{impossible, none-some, both-right, both-true, not-true-of, either-none}
 use Rattle.rules.proofs.Tables.{table-facts}
 use Rattle.rules.proofs.NumberExactly.{number-exactly}
 use Rattle.table.specs.Images.{formatOne}
@@ -23,6 +23,7 @@ use Rattle.table.specs.Parse.{parse}
 use Rattle.table.proofs.Images.{parse-by-rule}
 use Rattle.message.specs.Messages.{messageAt}
 use Rattle.transact.specs.Served.{servedNumber}
+use Rattle.transact.proofs.Proposals.{new-unheld}
 use Rattle.transact.proofs.Serving.{number-1, number-3}
 use Rattle.answer.specs.Calls.{callNumber}
 use Rattle.answer.proofs.AnswerCall.{numberFor, call-number, not-small}
@@ -46,11 +47,7 @@ pub data About : Message → ℕ → Type 0 where
 module _ (M : Model) (T : Table) (s : ℕ) where
   new-but-full : newButFull M belowLimit T s ≡ true → (held (T .rows) s ≡ none) × (M .rowLimit ≤ length (T .rows))
   unfolding newButFull belowLimit
-  new-but-full h = (new (held (T .rows) s) refl (not-true _ (both-left _ _ h)), ltb-false _ _ (not-true _ (both-right _ _ h)))
-    where
-      new : (r : Option Row) → held (T .rows) s ≡ r → isSome r ≡ false → held (T .rows) s ≡ none
-      new none e i = e
-      new (some q) e i = impossible refl i
+  new-but-full h = (new-unheld M T s h, ltb-false _ _ (not-true _ (both-right _ _ h)))
 
   full-and-new : held (T .rows) s ≡ none → M .rowLimit ≤ length (T .rows) → newButFull M belowLimit T s ≡ true
   unfolding newButFull belowLimit

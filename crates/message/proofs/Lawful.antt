@@ -17,7 +17,7 @@ use Rattle.rules.specs.Stamps.{isStamp, isRegister, bodyByRule}
 use Rattle.rules.specs.Tables.{Model, Prepare.tentative, resultCode, resultRetry, isView, resultByRule, retryByRule, tableByRule}
 use Rattle.rules.specs.Messages.{Message, Message.proposePrepare, Message.finalisePrepare, Message.proposeOutcome, Message.finaliseOutcome, Message.changeView, Message.startView, Message.readRegister}
 use Rattle.rules.specs.Circumstances.{startsView, messageByRule}
-use Rattle.rules.proofs.Logic.{both-left, both-right, both-true, both-false, both-whole, both-comm, both-assoc, same-test}
+use Rattle.rules.proofs.Logic.{both-left, both-right, both-true, both-false, both-whole, both-comm, both-assoc, same-test, both-swap}
 use Rattle.rows.specs.Bytes.{bodyLength}
 use Rattle.rows.specs.Fields.{resultNumbered, verdictNumbered, prepareNumbered, codesByRule}
 use Rattle.rows.specs.Read.{bodyAt, begins}
@@ -35,12 +35,6 @@ lawful-provided : (M : Model) (n : ℕ) (t : Bool) (m : Message) → lawful M n 
 unfolding both
 lawful-provided M n true m = refl
 lawful-provided M n false m = refl
-
-both-swap : (a b c : Bool) → both a (both b c) ≡ both b (both a c)
-unfolding both
-both-swap true b c = refl
-both-swap false true c = refl
-both-swap false false c = refl
 
 both-across : (a b c d : Bool) → both (both a b) (both c d) ≡ both (both c b) (both a d)
 unfolding both

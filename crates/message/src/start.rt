@@ -38,7 +38,7 @@ fn outcome_settled(outcome: u8) -> bool
     3 <= outcome
 }
 
-// A row that takes no part in what is still open.
+// Both bytes of a row are settled: nothing of it is tentative or only noted.
 fn codes_settled(prepare: u8, outcome: u8) -> bool
     ensures { λ r. ⌜ r ≡ both (either (eqb prepare 0) (leb 5 prepare)) (either (eqb outcome 0) (leb 3 outcome)) ⌝ }
 {

@@ -44,6 +44,12 @@ unfolding both
 both-whole true = refl
 both-whole false = refl
 
+pub both-swap : (a b c : Bool) → both a (both b c) ≡ both b (both a c)
+unfolding both
+both-swap true b c = refl
+both-swap false true c = refl
+both-swap false false c = refl
+
 pub both-comm : (a b : Bool) → both a b ≡ both b a
 unfolding both
 both-comm true true = refl

@@ -10,7 +10,7 @@ use native.Mathlib.Nat.{max-comm}
 use lib.Dec.{eqb}
 use lib.ListN.{length}
 use Rattle.rules.specs.Tests.{both, either, bit, any, every, count, kept, those, greatest, somePair, twice, andAlso, firstOf, allOf}
-use Rattle.rules.proofs.Logic.{either-assoc, either-comm, eqb-sym}
+use Rattle.rules.proofs.Logic.{either-assoc, either-comm, eqb-sym, both-swap}
 use Rattle.rules.proofs.Lists.{_∈_, max-assoc, first-from, first-none, none-first, first-is}
 
 -- the same elements, as often, in any order
@@ -31,10 +31,7 @@ either-swaps : Swaps either
 either-swaps = swaps either either-assoc either-comm
 
 both-swaps : Swaps both
-unfolding both
-both-swaps true b c = refl
-both-swaps false true c = refl
-both-swaps false false c = refl
+both-swaps = both-swap
 
 module _ {A : Type 0} where
   pub reordered-back : {xs ys : List A} → Reordered xs ys → Reordered ys xs

@@ -36,7 +36,7 @@ begins-none a b i e = let none : drop i b ≡ [] = drop-of-length-le b {i = i} (
 begins-same : (a b : List ℕ) → length a ≡ length b → begins a b ≡ true → a ≡ b
 begins-same a b e h = let none : drop (length b) a ≡ [] = drop-of-length-le a {i = length b} (omega arith) in begins-is a b h ∙ rw none (append-nil b)
 
-same-begins : (a b : List ℕ) → a ≡ b → begins a b ≡ true
+pub same-begins : (a b : List ℕ) → a ≡ b → begins a b ≡ true
 same-begins a b e = rw e (rw (append-nil b) at (begins-with b []))
 
 -- ---- bodies

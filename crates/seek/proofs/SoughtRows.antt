@@ -2,11 +2,12 @@
 use mathlib.Core.Path.{_≡_, refl, sym, ap, _∙_}
 use mathlib.Core.Bool.{Bool, true, false, not}
 use mathlib.Core.List.{List}
+use mathlib.Core.Logic.{_⊎_, inl, inr}
 use mathlib.Core.Option.{none, some}
 use Prim.Native.Nat.{ℕ, _+_, _*_, _≤_}
-use lib.Dec.{ltb}
+use lib.Dec.{eqb, ltb}
 use lib.ListN.{length}
-use borrow.Author.Tests.{eq-eqb, ne-eqb}
+use borrow.Author.Tests.{eq-eqb, ne-eqb, eqb-true}
 use Rattle.wire.specs.Numbers.{AllBytes}
 use Rattle.rules.specs.Groups.{fOf}
 use Rattle.rules.specs.Tables.{Row, Model, valley, rising}
@@ -14,6 +15,7 @@ use Rattle.rules.specs.Circumstances.{belowLimit, isChanging, forOtherView, hel
 use Rattle.rules.specs.Tests.{both}
 use Rattle.rules.specs.Stamps.{Body, sameBody}
 use Rattle.rules.specs.Messages.{held}
+use Rattle.rules.proofs.Logic.{cases, impossible, both-left, both-right, both-true}
 use Rattle.rules.proofs.Same.{same-body}
 use Rattle.rows.specs.declared.lookup.Place.{Place}
 use Rattle.rows.specs.declared.lookup.Place.the-variants.{Held, Absent}
@@ -21,6 +23,7 @@ use Rattle.rows.specs.declared.row.RowFields.{RowFields}
 use Rattle.rows.specs.Fields.{fieldsAt}
 use Rattle.rows.proofs.Sought.{absent-none}
 use Rattle.rows.proofs.Bodies.{length-accessesAt}
+use Rattle.rows.proofs.Turns.{length-body-part}
 use Rattle.rows.specs.Places.{placeOf}
 use Rattle.rows.specs.Read.{rowsAt, begins, bodyAt, rowOf}
 use Rattle.rows.specs.Rows.{RowsInside, BodyInside, bodyPart}
@@ -29,13 +32,17 @@ use Rattle.table.specs.Headers.{headerAt}
 use Rattle.table.specs.Images.{formatOne}
 use Rattle.table.specs.Parse.{tableAt}
 use Rattle.table.proofs.Images.{Sound, Parsed, parsed, valley-sound}
-use Rattle.edit.proofs.Holding.{holds-rows, holds-rows-at}
+use Rattle.edit.proofs.Holding.{one-starts, holds-rows, holds-rows-at, holds-row-inside}
 use Rattle.seek.specs.Lent.{Lawful, limited}
 use Rattle.seek.specs.declared.Proposal.the-variants as propose
 use Rattle.seek.specs.declared.Finding.the-variants.{Refused}
-use Rattle.seek.specs.Sought.{rowOrUnknown, toFinalise, toPropose}
-use Rattle.seek.proofs.HeldRows.{held-here, index-here}
-use Rattle.seek.proofs.BodiesAlike.{bodies-alike}
+use Rattle.seek.specs.Sought.{rowOrUnknown, toFinalise, toPropose, RowInside, neededBody, NeededInside, otherCounts}
+use Rattle.seek.proofs.HeldRows.{held-here, index-here, lawful-holds}
+use Rattle.seek.proofs.BodiesAlike.{bodies-alike, same-begins}
+
+not-false : (b : Bool) → not b ≡ false → b ≡ true
+not-false true h = refl
+not-false false h = impossible refl h
 
 not-true : (b : Bool) → (b ≡ true → ⊥) → b ≡ false
 not-true true n = absurd (n refl)
@@ -157,3 +164,43 @@ module _ (s m : List ℕ) (i : ℕ) (g : RowFields) (bytes : AllBytes s) (given 
   pub other-writes : (fieldsAt s (24 + 24 * i) .writes ≡ g .writes → ⊥) → heldWithOtherBody (tableAt formatOne s) (g .stamp) (bodyAt m (g .offset) (g .reads) (g .writes)) ≡ true
   unfolding bodyAt
   other-writes n = other-counts (λ e. n (sym (sym (length-accessesAt m _ (g .writes)) ∙ ap (λ (b : Body). length (b .writes)) (same-body _ _ e) ∙ length-accessesAt s _ (f .writes))))
+
+-- ---- the same, of any place that was found
+
+module _ (s m : List ℕ) (g : RowFields) (bytes : AllBytes s) (given : AllBytes m) (lawful : Lawful valley s) (inside : BodyInside m g) where
+  abbrev other : Bool
+  other = heldWithOtherBody (tableAt formatOne s) (g .stamp) (bodyAt m (g .offset) (g .reads) (g .writes))
+
+  pub needed-inside : (place : Place) → place ≡ placeOf (tableAt formatOne s .rows) (g .stamp) → NeededInside s m g place
+  needed-inside (Held i) e = (holds-row-inside formatOne s i one-starts (lawful-holds valley s lawful) (index-here valley s (g .stamp) i bytes lawful (sym e)), body-inside-here s m i g bytes given lawful (sym e) inside)
+  needed-inside (Absent i) e = inside
+
+  pub row-inside : (place : Place) → place ≡ placeOf (tableAt formatOne s .rows) (g .stamp) → RowInside s place
+  row-inside (Held i) e = needed-inside (Held i) e .0
+  row-inside (Absent i) e = tt
+
+  pub counts-differ : (place : Place) → place ≡ placeOf (tableAt formatOne s .rows) (g .stamp) → otherCounts s g place ≡ true → true ≡ heldWithOtherBody (tableAt formatOne s) (g .stamp) (bodyAt m (g .offset) (g .reads) (g .writes))
+  counts-differ (Absent i) e h = impossible h refl
+  counts-differ (Held i) e h = go (cases (eqb (fieldsAt s (24 + 24 * i) .reads) (g .reads))) (cases (eqb (fieldsAt s (24 + 24 * i) .writes) (g .writes)))
+    where
+      go : (eqb (fieldsAt s (24 + 24 * i) .reads) (g .reads) ≡ true) ⊎ (eqb (fieldsAt s (24 + 24 * i) .reads) (g .reads) ≡ false) → (eqb (fieldsAt s (24 + 24 * i) .writes) (g .writes) ≡ true) ⊎ (eqb (fieldsAt s (24 + 24 * i) .writes) (g .writes) ≡ false) → true ≡ other
+      go (inr r) w = sym (other-reads s m i g bytes given lawful (sym e) inside (λ same. impossible (eq-eqb _ _ same) r))
+      go (inl r) (inr w) = sym (other-writes s m i g bytes given lawful (sym e) inside (λ same. impossible (eq-eqb _ _ same) w))
+      go (inl r) (inl w) = impossible h (ap not (both-true r w))
+
+  module _ (same : otherCounts s g (placeOf (tableAt formatOne s .rows) (g .stamp)) ≡ false) where
+    held-counts : (i : ℕ) → placeOf (tableAt formatOne s .rows) (g .stamp) ≡ Held i → (fieldsAt s (24 + 24 * i) .reads ≡ g .reads) × (fieldsAt s (24 + 24 * i) .writes ≡ g .writes)
+    held-counts i e =
+        let both-same = not-false _ (rw e at same) in
+        (eqb-true _ _ (both-left _ _ both-same), eqb-true _ _ (both-right _ _ both-same))
+
+    pub needed-length : (place : Place) → place ≡ placeOf (tableAt formatOne s .rows) (g .stamp) → length (neededBody s m g place) ≡ length (bodyPart m g)
+    needed-length (Absent i) e = refl
+    needed-length (Held i) e =
+        let (r, w) = held-counts i (sym e) in
+        length-body-part s _ (needed-inside (Held i) e .1) ∙ rw (r, w) (sym (length-body-part m g inside))
+
+    pub bytes-tell : (place : Place) → place ≡ placeOf (tableAt formatOne s .rows) (g .stamp) → not (begins (neededBody s m g place) (bodyPart m g)) ≡ heldWithOtherBody (tableAt formatOne s) (g .stamp) (bodyAt m (g .offset) (g .reads) (g .writes))
+    unfolding heldWithOtherBody
+    bytes-tell (Held i) e = let (r, w) = held-counts i (sym e) in sym (same-counts s m i g bytes given lawful (sym e) inside r w)
+    bytes-tell (Absent i) e = rw (absent-none (tableAt formatOne s .rows) (g .stamp) i (sym e), same-begins (bodyPart m g) (bodyPart m g) refl)

@@ -6,19 +6,17 @@ use rows::row::RowFields;
 use table::header;
 use table::header::Header;
 ghost use mathlib.Core.Path.{_≡_};
-ghost use mathlib.Core.Bool.{cond};
 ghost use lib.ListN.{length};
 ghost use Rattle.rules.specs.Groups.{fOf};
 ghost use Rattle.rules.specs.Tables.{valley};
 ghost use Rattle.rules.specs.Circumstances.{belowLimit, heldWithOtherBody};
 ghost use Rattle.rows.specs.Places.{placeOf};
 ghost use Rattle.rows.specs.Read.{begins, bodyAt};
-ghost use Rattle.rows.specs.Rows.{BodyInside, bodyPart};
-ghost use Rattle.rows.specs.declared.lookup.Place.the-variants.{Held};
+ghost use Rattle.rows.specs.Rows.{BodyInside};
 ghost use Rattle.table.specs.Images.{formatOne};
 ghost use Rattle.table.specs.Parse.{tableAt};
 ghost use Rattle.seek.specs.Lent.{limited, Lawful};
-ghost use Rattle.seek.specs.Sought.{toFinalise, toPropose};
+ghost use Rattle.seek.specs.Sought.{RowInside, neededBody, NeededInside, otherCounts, toFinalise, toPropose};
 
 // What is found for a message that finalises.
 pub enum Finding {
@@ -53,14 +51,19 @@ pub fn row_to_finalise(table: &[u8], stamp: u64, view: u32) -> Finding
 }
 
 // A body that is needed for an answer: the table's if the stamp is known, else the message's.
-pub fn needed_body<'a>(table: &'a [u8], message: &'a [u8], known: bool, row: RowFields) -> &'a [u8]
-    requires { ⌜ BodyInside (cond known (now table) (now message)) row ⌝ }
-    ensures { λ r. ⌜ now r ≡ bodyPart (cond known (now (table .entry)) (now (message .entry))) row ⌝ }
+pub fn needed_body<'a>(
+    table: &'a [u8],
+    message: &'a [u8],
+    place: Place,
+    given: RowFields,
+) -> &'a [u8]
+    requires { ⌜ NeededInside (now table) (now message) given place ⌝ }
+    ensures { λ r. ⌜ now r ≡ neededBody (now (table .entry)) (now (message .entry)) given place ⌝ }
 {
-    if known {
-        return row::body_of(table, row);
-    }
-    row::body_of(message, row)
+    let Place::Held { row: index } = place else {
+        return row::body_of(message, given);
+    };
+    row::body_at(table, header::LENGTH, index)
 }
 
 // Whether two parts of the same length hold the same bytes.
@@ -79,25 +82,33 @@ fn same_bytes(a: &[u8], b: &[u8]) -> bool
     true
 }
 
-// Whether the row at an index holds its stamp with another body than a message has. A body split otherwise into reads and writes is another.
-fn other_body<'a>(table: &'a [u8], message: &'a [u8], index: usize, given: RowFields) -> bool
-    requires { ⌜ Lawful valley (now table) × (placeOf (tableAt formatOne (now table) .rows) (given .stamp) ≡ Held index) × BodyInside (now message) given ⌝ }
-    ensures { λ r. ⌜ r ≡ heldWithOtherBody (tableAt formatOne (now (table .entry))) (given .stamp) (bodyAt (now (message .entry)) (given .offset) (given .reads) (given .writes)) ⌝ }
+// Whether the row of a stamp has other counts than a message. A body split otherwise into reads and writes is another.
+fn other_counts(table: &[u8], place: Place, given: RowFields) -> bool
+    requires { ⌜ RowInside (now table) place ⌝ }
+    ensures { λ r. ⌜ r ≡ otherCounts (now (table .entry)) given place ⌝ }
 {
+    let Place::Held { row: index } = place else {
+        return false;
+    };
     let held = row::row_at(table, header::LENGTH, index);
     if held.reads != given.reads {
         return true;
     }
-    if held.writes != given.writes {
+    held.writes != given.writes
+}
+
+// Whether a stamp is held with another body than a message has: what is needed for the answer is then not what the message says.
+fn other_body<'a>(table: &'a [u8], message: &'a [u8], place: Place, given: RowFields) -> bool
+    requires { ⌜ Lawful valley (now table) × (place ≡ placeOf (tableAt formatOne (now table) .rows) (given .stamp)) × BodyInside (now message) given ⌝ }
+    ensures { λ r. ⌜ r ≡ heldWithOtherBody (tableAt formatOne (now (table .entry))) (given .stamp) (bodyAt (now (message .entry)) (given .offset) (given .reads) (given .writes)) ⌝ }
+{
+    if other_counts(table, place, given) {
         return true;
     }
-    if same_bytes(
-        needed_body(table, message, true, held),
+    !same_bytes(
+        needed_body(table, message, place, given),
         row::body_of(message, given),
-    ) {
-        return false;
-    }
-    true
+    )
 }
 
 // Whether one more row has room. This is asked here and nowhere else.
@@ -122,13 +133,11 @@ pub fn row_to_propose<'a>(
         return Proposal::Against { number: 4 };
     }
     let place = lookup::find(table, header::LENGTH, h.rows as usize, given.stamp);
+    if other_body(table, message, place, given) {
+        return Proposal::Against { number: 5 };
+    }
     match place {
-        Place::Held { row: index } => {
-            if other_body(table, message, index, given) {
-                return Proposal::Against { number: 5 };
-            }
-            Proposal::Held { index }
-        }
+        Place::Held { row: index } => Proposal::Held { index },
         Place::Absent { row: index } => {
             if has_room(h, limit) {
                 return Proposal::New { index };

@@ -92,7 +92,7 @@ module _ (M : Model) (T : Table) (s : ℕ) (x : Body) (i : ℕ) where
       go (new j a b c p) same = ((a, b, c), p ∙ ap place.Absent (new-same same))
 
 -- a stamp that is new has no row
-new-unheld : (M : Model) (T : Table) (s : ℕ) → newButFull M belowLimit T s ≡ true → held (T .rows) s ≡ none
+pub new-unheld : (M : Model) (T : Table) (s : ℕ) → newButFull M belowLimit T s ≡ true → held (T .rows) s ≡ none
 unfolding newButFull
 new-unheld M T s h = go (held (T .rows) s) (both-left _ _ h)
   where

@@ -2,6 +2,7 @@
 use crate::add;
 use crate::reply::Reply;
 use checks::pass::Checked;
+use rows::lookup::Place;
 use rows::row;
 use rows::row::RowFields;
 use seek::Finding;
@@ -72,7 +73,7 @@ fn answer_held(table: &mut [u8], index: usize, stamp: u64) -> Reply
 }
 
 // The check's result for a stamp that the table does not hold: its body lies in the message.
-fn check_new<'a>(table: &'a [u8], message: &'a [u8], row: RowFields) -> Checked
+fn check_new<'a>(table: &'a [u8], message: &'a [u8], index: usize, row: RowFields) -> Checked
     requires { ⌜ Lawful valley (now table) × BodyInside (now message) row ⌝ }
     ensures { λ r. ⌜ r ≡ checkedAs (check (tableAt formatOne (now (table .entry)) .rows) (row .stamp) (bodyAt (now (message .entry)) (row .offset) (row .reads) (row .writes))) ⌝ }
 {
@@ -82,7 +83,7 @@ fn check_new<'a>(table: &'a [u8], message: &'a [u8], row: RowFields) -> Checked
         header::LENGTH,
         h.rows as usize,
         row.stamp,
-        seek::needed_body(table, message, false, row),
+        seek::needed_body(table, message, Place::Absent { row: index }, row),
         row.reads as usize,
         row.writes as usize,
     )
@@ -95,7 +96,7 @@ fn add_checked(table: &mut [u8], message: &[u8], index: usize, row: RowFields) -
     ensures { λ r. ⌜ ((M : Model) → toPropose M (tableAt formatOne (now (table .entry))) (row .stamp) (bodyAt (now (message .entry)) (row .offset) (row .reads) (row .writes)) ≡ New index →
         (r ≡ servedReply M (proposePrepare (row .stamp) (bodyAt (now (message .entry)) (row .offset) (row .reads) (row .writes))) (now (table .entry))) × (now (table .exit) ≡ servedBuffer M (proposePrepare (row .stamp) (bodyAt (now (message .entry)) (row .offset) (row .reads) (row .writes))) (now (table .entry)))) ⌝ }
 {
-    let checked = check_new(table, message, row);
+    let checked = check_new(table, message, index, row);
     add::add_new(
         table,
         index,
