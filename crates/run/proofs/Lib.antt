@@ -1,0 +1,3 @@
+pub mod RunTurns
+pub mod Walks
+pub mod Wrongs
