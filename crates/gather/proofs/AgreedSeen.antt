@@ -1,0 +1,121 @@
+-- The agreed result of one stamp, row by row.
+use mathlib.Core.Path.{_≡_, refl, sym, ap, ap₂, _∙_}
+use mathlib.Core.Bool.{Bool, true, false, cond}
+use mathlib.Core.Logic.{_⊎_, inl, inr}
+use mathlib.Core.List.{List, [], _∷_}
+use mathlib.Core.Option.{Option, none, some}
+use Prim.Native.Nat.{ℕ, _+_, _*_, _<_, _≤_}
+use native.Mathlib.Omega.{arith}
+use lib.Dec.{eqb, leb}
+use borrow.Author.Tests.{ne-eqb, ltb-true}
+use Rattle.wire.specs.Numbers.{AllBytes}
+use Rattle.rules.specs.Tests.{both, bit, count, provided, orElse, firstOf}
+use Rattle.rules.specs.Tables.{Result, Result.OK, Result.ABORT, Result.ABSTAIN, Result.RETRY, Prepare, Prepare.noPrepare, Prepare.tentative, Prepare.final, Row, Table, valley, resultCode, resultRetry, prepareCode, prepareRetry, sameResult}
+use Rattle.rules.specs.Merge.{rowsOf, holdsTentative, isAgreed, tentativeResult, ifAgreed, agreedOf}
+use Rattle.rules.proofs.Logic.{eqb-sym, both-left}
+use Rattle.rows.specs.Fields.{fieldsAt}
+use Rattle.rows.specs.Read.{rowOf}
+use Rattle.seek.specs.Lent.{Lawful}
+use Rattle.seek.proofs.HeldRows.{prepare-here, retry-here}
+use Rattle.gather.specs.declared.agreed.Agreed.{Agreed}
+use Rattle.gather.specs.Agreed.{isTentative, holdsCodes, isEnough, agreedAs}
+use Rattle.gather.proofs.UsedRows.{rowsNow, rowsLater, fields, Told, told}
+
+-- ---- a result by its codes
+
+result-least : (q : Result) → (0 < resultCode q) × (resultCode q ≤ 4)
+result-least OK = (omega arith, omega arith)
+result-least ABORT = (omega arith, omega arith)
+result-least ABSTAIN = (omega arith, omega arith)
+result-least (RETRY t) = (omega arith, omega arith)
+
+-- no other prepare byte is a tentative one's
+holds-codes : (q : Result) (p : Prepare) → holdsTentative q p ≡ both (eqb (prepareCode p) (resultCode q)) (eqb (prepareRetry p) (resultRetry q))
+unfolding sameResult both
+holds-codes q noPrepare = let l = result-least q .0 in let n : eqb 0 (resultCode q) ≡ false = ne-eqb 0 (resultCode q) (λ e. absurd (omega arith)) in rw n refl
+holds-codes q (tentative r) = ap₂ both (eqb-sym (resultCode q) (resultCode r)) (eqb-sym (resultRetry q) (resultRetry r))
+holds-codes q (final r) =
+    let l = result-least q .1 in
+    let k = result-least r .0 in
+    let n : eqb (4 + resultCode r) (resultCode q) ≡ false = ne-eqb (4 + resultCode r) (resultCode q) (λ e. absurd (omega arith)) in
+    rw n refl
+
+votes-codes : (q : Result) (rs : List Row) → count (λ r. holdsTentative q (r .prepare)) rs ≡ count (holdsCodes (resultCode q) (resultRetry q)) rs
+unfolding count
+votes-codes q [] = refl
+votes-codes q (r ∷ rs) = rw (holds-codes q (r .prepare), votes-codes q rs) refl
+
+tentative-code : (q : Result) → isTentative (resultCode q) ≡ true
+unfolding both
+tentative-code OK = refl
+tentative-code ABORT = refl
+tentative-code ABSTAIN = refl
+tentative-code (RETRY t) = refl
+
+final-code : (q : Result) → isTentative (4 + resultCode q) ≡ false
+unfolding both
+final-code OK = refl
+final-code ABORT = refl
+final-code ABSTAIN = refl
+final-code (RETRY t) = refl
+
+-- ---- the first that enough rows hold
+
+-- the first result of these rows that enough of all rows hold
+abbrev pub agreedAmong : ℕ → List Row → List Row → Option Result
+agreedAmong agreement all rs = firstOf (λ r. ifAgreed agreement all (tentativeResult (r .prepare))) rs
+
+pub agreed-all : (agreement : ℕ) (rs : List Row) → agreedOf agreement rs ≡ agreedAmong agreement rs rs
+unfolding agreedOf
+agreed-all agreement rs = refl
+
+pub agreed-none : (agreement : ℕ) (all : List Row) → agreedAmong agreement all [] ≡ none
+unfolding firstOf
+agreed-none agreement all = refl
+
+abbrev codesOf : ℕ → ℕ → Agreed
+codesOf prepare retry = record { code = prepare; retry = retry }
+
+one-agreed : (agreement : ℕ) (all : List Row) (p : Prepare) (rest : Option Result) → agreedAs (orElse (ifAgreed agreement all (tentativeResult p)) rest) ≡ cond (isEnough agreement all (prepareCode p) (prepareRetry p)) (codesOf (prepareCode p) (prepareRetry p)) (agreedAs rest)
+unfolding isAgreed both
+one-agreed agreement all noPrepare rest = refl
+one-agreed agreement all (tentative q) rest = rw (votes-codes q all, tentative-code q) (go (leb agreement (count (holdsCodes (resultCode q) (resultRetry q)) all)))
+  where
+    go : (b : Bool) → agreedAs (orElse (provided b q) rest) ≡ cond b (codesOf (resultCode q) (resultRetry q)) (agreedAs rest)
+    go true = refl
+    go false = refl
+one-agreed agreement all (final q) rest = rw (final-code q) refl
+
+row-agreed : (agreement : ℕ) (all : List Row) (q : Row) (prepare retry : ℕ) (rs : List Row) → prepareCode (q .prepare) ≡ prepare → prepareRetry (q .prepare) ≡ retry → agreedAs (agreedAmong agreement all (q ∷ rs)) ≡ cond (isEnough agreement all prepare retry) (codesOf prepare retry) (agreedAs (agreedAmong agreement all rs))
+unfolding firstOf
+row-agreed agreement all q prepare retry rs p t = rw (← p, ← t) (one-agreed agreement all (q .prepare) (agreedAmong agreement all rs))
+
+-- bytes that hold nothing say nothing
+nothing-agreed : (agreement retry : ℕ) (all : List Row) → isEnough agreement all 0 retry ≡ false
+unfolding both
+nothing-agreed agreement retry all = refl
+
+module _ (newest stamp : ℕ) (s : List ℕ) (bytes : AllBytes s) (lawful : Lawful valley s) (Ts : List Table) where
+  pub agreed-turn : (agreement : ℕ) (all : List Row) →
+      let f = fields newest stamp s bytes lawful Ts in
+      agreedAs (agreedAmong agreement all (rowsNow newest stamp s bytes lawful Ts)) ≡ cond (isEnough agreement all (f .prepare) (f .retry)) (record { code = f .prepare; retry = f .retry }) (agreedAs (agreedAmong agreement all (rowsLater newest stamp s bytes lawful Ts)))
+  agreed-turn agreement all = go (told newest stamp s bytes lawful Ts)
+    where
+      go : Told newest stamp s bytes lawful Ts →
+          let f = fields newest stamp s bytes lawful Ts in
+          agreedAs (agreedAmong agreement all (rowsNow newest stamp s bytes lawful Ts)) ≡ cond (isEnough agreement all (f .prepare) (f .retry)) (record { code = f .prepare; retry = f .retry }) (agreedAs (agreedAmong agreement all (rowsLater newest stamp s bytes lawful Ts)))
+      go (inr (i, w)) = rw (w .place, w .rows, nothing-agreed agreement 0 all) refl
+      go (inl (i, h)) = rw (h .place, h .rows) (row-agreed agreement all (rowOf s (fieldsAt s (24 + 24 * i))) _ _ (rowsLater newest stamp s bytes lawful Ts) (prepare-here valley s stamp i bytes lawful (h .index)) (retry-here valley s stamp i bytes lawful (h .index)))
+
+-- ---- by the bytes of a row
+
+pub tentative-counts : (prepare : ℕ) → isTentative prepare ≡ true → 0 < prepare
+tentative-counts prepare h = ltb-true 0 prepare (both-left _ _ h)
+
+pub enough-votes : (agreement prepare retry votes : ℕ) (rs : List Row) → isTentative prepare ≡ true → votes ≡ count (holdsCodes prepare retry) rs → leb agreement votes ≡ isEnough agreement rs prepare retry
+unfolding both
+enough-votes agreement prepare retry votes rs h e = rw (h, e) refl
+
+pub enough-not : (agreement prepare retry : ℕ) (rs : List Row) → isTentative prepare ≡ false → false ≡ isEnough agreement rs prepare retry
+unfolding both
+enough-not agreement prepare retry rs h = rw h refl

@@ -1,0 +1,104 @@
+-- One lent table of a run, by the header h that was read from it.
+use mathlib.Core.Path.{_≡_, refl, sym, ap, _∙_}
+use mathlib.Core.Bool.{true, false}
+use mathlib.Core.List.{List}
+use Prim.Native.Nat.{ℕ, _+_, _*_, _≤_, _<_, _^_}
+use native.Mathlib.Omega.{arith}
+use lib.Dec.{eqb}
+use lib.ListN.{length}
+use borrow.Author.Tests.{eq-eqb, ne-eqb}
+use Rattle.wire.specs.Numbers.{AllBytes}
+use Rattle.rules.specs.Tests.{both}
+use Rattle.rules.specs.Stamps.{Body}
+use Rattle.rules.specs.Tables.{valley, rising}
+use Rattle.rules.specs.Circumstances.{heldWithOtherBody}
+use Rattle.rows.specs.declared.lookup.Place.{Place}
+use Rattle.rows.specs.declared.lookup.Place.the-variants.{Held, Absent}
+use Rattle.rows.specs.Fields.{fieldsAt}
+use Rattle.rows.specs.Places.{placeOf}
+use Rattle.rows.specs.Read.{rowsAt}
+use Rattle.rows.specs.Rows.{BodyInside}
+use Rattle.rows.proofs.Sought.{not-absent}
+use Rattle.table.specs.declared.header.Header.{Header}
+use Rattle.table.specs.Headers.{headerAt}
+use Rattle.table.specs.Images.{formatOne}
+use Rattle.table.specs.Parse.{tableAt}
+use Rattle.table.proofs.Images.{valley-sound}
+use Rattle.edit.proofs.Holding.{one-starts, holds-least, holds-rows-at, holds-row-inside}
+use Rattle.seek.specs.Lent.{Lawful}
+use Rattle.seek.proofs.HeldRows.{lawful-holds, lawful-regular, index-here}
+use Rattle.seek.proofs.SoughtRows.{can-be-sought, rows-inside}
+use Rattle.gather.specs.Held.{placeIn, otherIn}
+use Rattle.gather.specs.Stamps.{stampAbove, indexOf}
+use Rattle.gather.proofs.UsedRows.{place-not, place-too}
+use Rattle.gather.proofs.NextStamps.{index-above}
+
+pub header-inside : (s : List ℕ) → Lawful valley s → 24 ≤ length s
+header-inside s lawful = holds-least formatOne s one-starts (lawful-holds valley s lawful)
+
+module _ (s : List ℕ) (h : Header) (told : h ≡ headerAt s) (newest : ℕ) where
+  pub other-view : (h .view ≡ newest → ⊥) → eqb (tableAt formatOne s .view) newest ≡ false
+  unfolding tableAt
+  other-view d = ne-eqb _ _ (λ e. d (ap (λ (x : Header). x .view) told ∙ e))
+
+  pub this-view : h .view ≡ newest → eqb (tableAt formatOne s .view) newest ≡ true
+  unfolding tableAt
+  this-view e = eq-eqb _ _ (sym (ap (λ (x : Header). x .view) told) ∙ e)
+
+  pub sought-in : Lawful valley s → (24 + 24 * h .rows ≤ length s) × (rising 0 (rowsAt s 24 (h .rows)) ≡ true)
+  sought-in lawful = rw told (can-be-sought valley s valley-sound lawful)
+
+  -- the rows are the table's
+  pub rows-told : rowsAt s 24 (h .rows) ≡ tableAt formatOne s .rows
+  rows-told = rw told (sym (holds-rows-at formatOne s))
+
+  pub place-elsewhere : (stamp : ℕ) → (h .view ≡ newest → ⊥) → Absent 0 ≡ placeIn newest (tableAt formatOne s) stamp
+  place-elsewhere stamp d = sym (place-not newest stamp (tableAt formatOne s) (other-view d))
+
+  pub place-found : (stamp : ℕ) (p : Place) → h .view ≡ newest → p ≡ placeOf (rowsAt s 24 (h .rows)) stamp → p ≡ placeIn newest (tableAt formatOne s) stamp
+  place-found stamp p e f = f ∙ ap (λ rows. placeOf rows stamp) rows-told ∙ sym (place-too newest stamp (tableAt formatOne s) (this-view e))
+
+  pub above-elsewhere : (last : ℕ) → (h .view ≡ newest → ⊥) → 2 ^ 48 ≡ stampAbove newest (tableAt formatOne s) last
+  above-elsewhere last d = rw (other-view d) refl
+
+  -- the row that the look-up for last + 1 points at, or none
+  module _ (last : ℕ) (lawful : Lawful valley s) (e : h .view ≡ newest) (p : Place) (found : p ≡ placeOf (rowsAt s 24 (h .rows)) (last + 1)) (i : ℕ) (index : i ≡ indexOf p) where
+    pub above-there : i < h .rows → fieldsAt s (24 + 24 * i) .stamp ≡ stampAbove newest (tableAt formatOne s) last
+    above-there l =
+        let a = index-above s 24 (h .rows) last (sought-in lawful .1) in
+        let f : i ≡ indexOf (placeOf (rowsAt s 24 (h .rows)) (last + 1)) = index ∙ ap indexOf found in
+        rw (this-view e, ← rows-told) (rw (← f) at (a .there) l)
+
+    pub above-none : h .rows ≤ i → 2 ^ 48 ≡ stampAbove newest (tableAt formatOne s) last
+    above-none l =
+        let a = index-above s 24 (h .rows) last (sought-in lawful .1) in
+        let f : i ≡ indexOf (placeOf (rowsAt s 24 (h .rows)) (last + 1)) = index ∙ ap indexOf found in
+        rw (this-view e, ← rows-told) (sym (rw (← f) at (a .none-there) l))
+
+  pub other-elsewhere : (stamp : ℕ) (x : Body) → (h .view ≡ newest → ⊥) → false ≡ otherIn newest stamp x (tableAt formatOne s)
+  unfolding both
+  other-elsewhere stamp x d = rw (other-view d) refl
+
+  pub other-here : (stamp : ℕ) (x : Body) → h .view ≡ newest → heldWithOtherBody (tableAt formatOne s) stamp x ≡ otherIn newest stamp x (tableAt formatOne s)
+  unfolding both
+  other-here stamp x e = rw (this-view e) refl
+
+-- ---- a row that was found
+
+-- it is one of a used table
+held-used : (s : List ℕ) (newest stamp i : ℕ) → placeIn newest (tableAt formatOne s) stamp ≡ Held i → placeOf (tableAt formatOne s .rows) stamp ≡ Held i
+held-used s newest stamp i h = go (eqb (tableAt formatOne s .view) newest) refl
+  where
+    go : (b : _) → eqb (tableAt formatOne s .view) newest ≡ b → placeOf (tableAt formatOne s .rows) stamp ≡ Held i
+    go true e = sym (place-too newest stamp (tableAt formatOne s) e) ∙ h
+    go false e = absurd (not-absent (sym h ∙ place-not newest stamp (tableAt formatOne s) e))
+
+module _ (s : List ℕ) (newest stamp i : ℕ) (bytes : AllBytes s) (lawful : Lawful valley s) (place : placeIn newest (tableAt formatOne s) stamp ≡ Held i) where
+  index-there : i < headerAt s .rows
+  index-there = index-here valley s stamp i bytes lawful (held-used s newest stamp i place)
+
+  pub row-there : 24 + 24 * i + 24 ≤ length s
+  row-there = holds-row-inside formatOne s i one-starts (lawful-holds valley s lawful) index-there
+
+  pub body-there : BodyInside s (fieldsAt s (24 + 24 * i))
+  body-there = rows-inside valley s valley-sound lawful .1 i index-there

@@ -1,0 +1,182 @@
+-- One table of a run more: what it adds to the rows of a stamp, if it is used and holds one.
+use mathlib.Core.Path.{_≡_, refl, sym, ap, _∙_}
+use mathlib.Core.Bool.{Bool, true, false, not, cond}
+use mathlib.Core.Logic.{_⊎_, inl, inr}
+use mathlib.Core.List.{List, [], _∷_}
+use mathlib.Core.Option.{Option, none, some}
+use Prim.Native.Nat.{ℕ, _+_, _*_, _≤_, _<_}
+use native.Mathlib.Omega.{arith}
+use lib.Dec.{eqb}
+use lib.ListN.{length, drop, length-drop}
+use borrow.Author.Tests.{ne-eqb}
+use Rattle.wire.specs.Numbers.{AllBytes}
+use Rattle.wire.proofs.Numbers.{all-drop}
+use Rattle.rules.specs.Tests.{both, either, any, bit, count, kept, those, andAlso, allOf}
+use Rattle.rules.specs.Stamps.{Body}
+use Rattle.rules.specs.Tables.{Row, Table, Model, valley, prepareCode, prepareRetry, outcomeCode}
+use Rattle.rules.specs.Messages.{held}
+use Rattle.rules.specs.Circumstances.{unlike, heldWithOtherBody}
+use Rattle.rules.specs.Merge.{rowsOf}
+use Rattle.rules.proofs.Logic.{cases}
+use Rattle.rows.specs.declared.row.RowFields.{RowFields}
+use Rattle.rows.specs.declared.lookup.Place.{Place}
+use Rattle.rows.specs.declared.lookup.Place.the-variants.{Held, Absent}
+use Rattle.rows.specs.Fields.{fieldsAt}
+use Rattle.rows.specs.Places.{placeOf}
+use Rattle.rows.specs.Read.{rowOf}
+use Rattle.rows.proofs.Sought.{absent-none}
+use Rattle.table.specs.Headers.{headerAt}
+use Rattle.table.specs.Images.{formatOne, imageLength}
+use Rattle.table.specs.Parse.{parse, tableAt}
+use Rattle.table.proofs.Images.{parse-reads}
+use Rattle.seek.specs.Lent.{Lawful}
+use Rattle.seek.proofs.HeldRows.{held-here, prepare-here, retry-here, outcome-here}
+use Rattle.run.specs.Runs.{images}
+use Rattle.run.proofs.RunTurns.{First, first, images-none}
+use Rattle.gather.specs.declared.state.State.{State}
+use Rattle.gather.specs.Held.{usedOf, placeIn, isHeld, noFields, fieldsFor, fromFirst, otherIn}
+use Rattle.gather.specs.State.{sawPrepare, sawOutcome}
+use Rattle.gather.specs.Agreed.{holdsCodes}
+use Rattle.gather.proofs.StateSeen.{sawRow, sawRows}
+
+-- ---- a table that is used, and one that is not
+
+pub used-not : (newest stamp : ℕ) (T : Table) (Ts : List Table) → eqb (T .view) newest ≡ false → rowsOf (usedOf newest (T ∷ Ts)) stamp ≡ rowsOf (usedOf newest Ts) stamp
+unfolding those
+used-not newest stamp T Ts e = rw e refl
+
+pub used-too : (newest stamp : ℕ) (T : Table) (Ts : List Table) → eqb (T .view) newest ≡ true → rowsOf (usedOf newest (T ∷ Ts)) stamp ≡ andAlso (held (T .rows) stamp) (rowsOf (usedOf newest Ts) stamp)
+unfolding those rowsOf allOf
+used-too newest stamp T Ts e = rw e refl
+
+-- where a table that is not used holds a stamp, and where one does that is used
+pub place-not : (newest stamp : ℕ) (T : Table) → eqb (T .view) newest ≡ false → placeIn newest T stamp ≡ Absent 0
+place-not newest stamp T e = rw e refl
+
+pub place-too : (newest stamp : ℕ) (T : Table) → eqb (T .view) newest ≡ true → placeIn newest T stamp ≡ placeOf (T .rows) stamp
+place-too newest stamp T e = rw e refl
+
+-- bytes that hold nothing
+seen-nothing : (x : State) → sawOutcome 0 (sawPrepare 0 0 x) ≡ x
+unfolding sawPrepare sawOutcome
+seen-nothing x = refl
+
+-- bytes that are a row's
+row-seen : (q : Row) (prepare retry outcome : ℕ) (x : State) (rs : List Row) → prepareCode (q .prepare) ≡ prepare → prepareRetry (q .prepare) ≡ retry → outcomeCode (q .outcome) ≡ outcome → sawRows x (q ∷ rs) ≡ sawRows (sawOutcome outcome (sawPrepare prepare retry x)) rs
+unfolding sawRows sawRow
+row-seen q prepare retry outcome x rs p t o = rw (← p, ← t, ← o) refl
+
+-- ---- a table that stands at the start of bytes, before others
+
+module _ (newest stamp : ℕ) (s : List ℕ) (bytes : AllBytes s) (lawful : Lawful valley s) (Ts : List Table) where
+  abbrev pub here : Table
+  here = tableAt formatOne s
+
+  abbrev pub rowsNow : List Row
+  rowsNow = rowsOf (usedOf newest (tableAt formatOne s ∷ Ts)) stamp
+
+  abbrev pub rowsLater : List Row
+  rowsLater = rowsOf (usedOf newest Ts) stamp
+
+  -- it holds the stamp
+  pub record Holding (i : ℕ) : Type 0 where
+    pub place : placeIn newest (tableAt formatOne s) stamp ≡ Held i
+    pub index : placeOf (tableAt formatOne s .rows) stamp ≡ Held i
+    pub rows : rowsNow ≡ rowOf s (fieldsAt s (24 + 24 * i)) ∷ rowsLater
+
+  -- or it does not
+  pub record Without (i : ℕ) : Type 0 where
+    pub place : placeIn newest (tableAt formatOne s) stamp ≡ Absent i
+    pub rows : rowsNow ≡ rowsLater
+
+  abbrev pub Told : Type 0
+  Told = ((i : ℕ) × Holding i) ⊎ ((i : ℕ) × Without i)
+
+  pub told : Told
+  told = go (cases (eqb (here .view) newest)) (placeOf (here .rows) stamp) refl
+    where
+      go : (eqb (here .view) newest ≡ true) ⊎ (eqb (here .view) newest ≡ false) → (p : Place) → placeOf (here .rows) stamp ≡ p → Told
+      go (inr e) p k = inr (0, record { place = place-not newest stamp here e; rows = used-not newest stamp here Ts e })
+      go (inl e) (Held i) k = inl (i, record { place = place-too newest stamp here e ∙ k; index = k; rows = used-too newest stamp here Ts e ∙ rw (held-here valley s stamp i bytes lawful k) refl })
+      go (inl e) (Absent i) k = inr (i, record { place = place-too newest stamp here e ∙ k; rows = used-too newest stamp here Ts e ∙ rw (absent-none (here .rows) stamp i k) refl })
+
+  abbrev pub fields : RowFields
+  fields = fieldsFor s (placeIn newest (tableAt formatOne s) stamp)
+
+  -- what is seen by its bytes is what is seen of its row
+  pub state-turn : (x : State) → sawRows x rowsNow ≡ sawRows (sawOutcome (fields .outcome) (sawPrepare (fields .prepare) (fields .retry) x)) rowsLater
+  state-turn x = go told
+    where
+      go : Told → sawRows x rowsNow ≡ sawRows (sawOutcome (fields .outcome) (sawPrepare (fields .prepare) (fields .retry) x)) rowsLater
+      go (inr (i, w)) = rw (w .place, w .rows, seen-nothing x) refl
+      go (inl (i, h)) =
+          let k = h .index in
+          rw (h .place, h .rows) (row-seen (rowOf s (fieldsAt s (24 + 24 * i))) _ _ _ x rowsLater (prepare-here valley s stamp i bytes lawful k) (retry-here valley s stamp i bytes lawful k) (outcome-here valley s stamp i bytes lawful k))
+
+  -- and what is counted by its bytes is counted of its row
+  pub votes-turn : (prepare retry : ℕ) → 0 < prepare → count (holdsCodes prepare retry) rowsNow ≡ bit (both (eqb (fields .prepare) prepare) (eqb (fields .retry) retry)) + count (holdsCodes prepare retry) rowsLater
+  unfolding count both
+  votes-turn prepare retry l = go told
+    where
+      go : Told → count (holdsCodes prepare retry) rowsNow ≡ bit (both (eqb (fields .prepare) prepare) (eqb (fields .retry) retry)) + count (holdsCodes prepare retry) rowsLater
+      go (inr (i, w)) = let n : eqb 0 prepare ≡ false = ne-eqb 0 prepare (λ e. absurd (omega arith)) in rw (w .place, w .rows, n) (omega arith)
+      go (inl (i, h)) =
+          let k = h .index in
+          rw (h .place, h .rows, prepare-here valley s stamp i bytes lawful k, retry-here valley s stamp i bytes lawful k) refl
+
+-- ---- the first image that holds a stamp
+
+pub record FirstHeld (newest stamp : ℕ) (Ts : List Table) (s t : List ℕ) : Type 0 where
+  pub lawful : Lawful valley t
+  pub bytes : AllBytes t
+  pub i : ℕ
+  pub place : placeIn newest (tableAt formatOne t) stamp ≡ Held i
+  pub index : placeOf (tableAt formatOne t .rows) stamp ≡ Held i
+  pub others : List Row
+  pub rows : rowsOf (usedOf newest Ts) stamp ≡ rowOf t (fieldsAt t (24 + 24 * i)) ∷ others
+
+from-here : (newest stamp i : ℕ) (T : Table) (Ts : List Table) (s : List ℕ) → placeIn newest T stamp ≡ Held i → fromFirst newest stamp (T ∷ Ts) s ≡ s
+unfolding fromFirst
+from-here newest stamp i T Ts s e = rw e refl
+
+from-later : (newest stamp i : ℕ) (T : Table) (Ts : List Table) (s : List ℕ) → placeIn newest T stamp ≡ Absent i → fromFirst newest stamp (T ∷ Ts) s ≡ fromFirst newest stamp Ts (drop (imageLength formatOne T) s)
+unfolding fromFirst
+from-later newest stamp i T Ts s e = rw e refl
+
+some-left : (T : Table) (Ts : List Table) (s : List ℕ) → images valley s ≡ some (T ∷ Ts) → 0 < length s
+some-left T Ts [] h =
+    let e : some [] ≡ some (T ∷ Ts) = sym (images-none valley) ∙ h in
+    let c : _≡_ {A = ℕ} 0 1 = cc in
+    absurd (omega arith)
+some-left T Ts (b ∷ s) h = omega arith
+
+first-parts : (T : Table) (Ts : List Table) (s : List ℕ) → First valley s (T ∷ Ts) → (parse formatOne valley s ≡ some T) × (images valley (drop (imageLength formatOne T) s) ≡ some Ts)
+first-parts T Ts s f =
+    let e = f .are in
+    let t : f .table ≡ T = cc in
+    let o : f .others ≡ Ts = cc in
+    (rw t at (f .begins), rw (t, o) at (f .behind))
+
+pub first-held : (newest stamp : ℕ) (Ts : List Table) (s : List ℕ) → AllBytes s → images valley s ≡ some Ts → 0 < length (rowsOf (usedOf newest Ts) stamp) → FirstHeld newest stamp Ts s (fromFirst newest stamp Ts s)
+unfolding those rowsOf allOf
+first-held newest stamp [] s bytes h l = absurd (omega arith)
+first-held newest stamp (T ∷ Ts) s bytes h l =
+    let (p, b) = first-parts T Ts s (first valley s (T ∷ Ts) (some-left T Ts s h) h) in
+    go p (first-held newest stamp Ts (drop (imageLength formatOne T) s) (all-drop (imageLength formatOne T) s bytes) b)
+  where
+    go : parse formatOne valley s ≡ some T → (0 < length (rowsOf (usedOf newest Ts) stamp) → FirstHeld newest stamp Ts (drop (imageLength formatOne T) s) (fromFirst newest stamp Ts (drop (imageLength formatOne T) s))) → FirstHeld newest stamp (T ∷ Ts) s (fromFirst newest stamp (T ∷ Ts) s)
+    go p later =
+        let e : tableAt formatOne s ≡ T = parse-reads formatOne valley s T p .0 in
+        let lawful : Lawful valley s = p ∙ ap some (sym e) in
+        by lawful e (told newest stamp s bytes lawful Ts)
+      where
+        by : (lawful : Lawful valley s) → tableAt formatOne s ≡ T → Told newest stamp s bytes lawful Ts → FirstHeld newest stamp (T ∷ Ts) s (fromFirst newest stamp (T ∷ Ts) s)
+        by lawful e (inl (i, w)) =
+            let k : placeIn newest T stamp ≡ Held i = rw e at (w .place) in
+            rw (from-here newest stamp i T Ts s k) (record { lawful = lawful; bytes = bytes; i = i; place = w .place; index = w .index; others = rowsOf (usedOf newest Ts) stamp; rows = rw e at (w .rows) })
+        by lawful e (inr (i, w)) =
+            let k : placeIn newest T stamp ≡ Absent i = rw e at (w .place) in
+            let m : rowsOf (usedOf newest (T ∷ Ts)) stamp ≡ rowsOf (usedOf newest Ts) stamp = rw e at (w .rows) in
+            let n : 0 < length (rowsOf (usedOf newest Ts) stamp) = rw m at l in
+            let u = later n in
+            rw (from-later newest stamp i T Ts s k) (record { lawful = u .lawful; bytes = u .bytes; i = u .i; place = u .place; index = u .index; others = u .others; rows = m ∙ u .rows })

@@ -1,0 +1,4 @@
+pub mod Held
+pub mod Stamps
+pub mod State
+pub mod Agreed

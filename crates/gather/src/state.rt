@@ -1,0 +1,130 @@
+// What the rows of one stamp hold together: its outcome, its final result, and whether they contradict each other.
+use crate::held;
+use rows::row::RowFields;
+use table::header;
+ghost use mathlib.Core.Path.{_≡_};
+ghost use Rattle.rules.specs.Tables.{valley};
+ghost use Rattle.rules.specs.Merge.{rowsOf};
+ghost use Rattle.run.specs.Runs.{tablesOf, Images};
+ghost use Rattle.gather.specs.Held.{usedOf};
+ghost use Rattle.gather.specs.State.{stateOf, sawFinal, sawPrepare, sawOutcome, contradicts, outcomeHeld};
+
+// The first final result, with its retry stamp, or 0; whether a prepare byte is held at all; whether another final result is held; whether a commit is, and whether an abort is.
+pub struct State {
+    pub prepare: u8,
+    pub retry: u64,
+    pub held: bool,
+    pub unequal: bool,
+    pub commit: bool,
+    pub abort: bool,
+}
+
+// One more final result: the first is kept, and another one is told.
+fn saw_final(mut state: State, prepare: u8, retry: u64) -> State
+    ensures { λ r. ⌜ r ≡ sawFinal prepare retry state ⌝ }
+{
+    if state.prepare == 0 {
+        state.prepare = prepare;
+        state.retry = retry;
+        return state;
+    }
+    if state.prepare != prepare {
+        state.unequal = true;
+        return state;
+    }
+    if state.retry != retry {
+        state.unequal = true;
+        return state;
+    }
+    state
+}
+
+// One more prepare byte.
+fn saw_prepare(mut state: State, prepare: u8, retry: u64) -> State
+    ensures { λ r. ⌜ r ≡ sawPrepare prepare retry state ⌝ }
+{
+    if prepare == 0 {
+        return state;
+    }
+    state.held = true;
+    if prepare < 5 {
+        return state;
+    }
+    saw_final(state, prepare, retry)
+}
+
+// One more outcome byte.
+fn saw_outcome(mut state: State, outcome: u8) -> State
+    ensures { λ r. ⌜ r ≡ sawOutcome outcome state ⌝ }
+{
+    if outcome == 0 {
+        return state;
+    }
+    if outcome == 1 {
+        state.commit = true;
+        return state;
+    }
+    if outcome == 3 {
+        state.commit = true;
+        return state;
+    }
+    state.abort = true;
+    state
+}
+
+// One more row, by its bytes.
+fn saw_row(state: State, row: RowFields) -> State
+    ensures { λ r. ⌜ r ≡ sawOutcome (row .outcome) (sawPrepare (row .prepare) (row .retry) state) ⌝ }
+{
+    saw_outcome(saw_prepare(state, row.prepare, row.retry), row.outcome)
+}
+
+// What the used tables of a run hold of a stamp.
+pub fn state_of(run: &[u8], newest: u32, stamp: u64) -> State
+    requires { ⌜ Images valley (now run) ⌝ }
+    ensures { λ r. ⌜ r ≡ stateOf (rowsOf (usedOf newest (tablesOf valley (now (run .entry)))) stamp) ⌝ }
+{
+    let mut state = State {
+        prepare: 0,
+        retry: 0,
+        held: false,
+        unequal: false,
+        commit: false,
+        abort: false,
+    };
+    let mut at: usize = 0;
+    while at < run.len() {
+        let image = &run[at..];
+        state = saw_row(state, held::fields_in(image, newest, stamp));
+        at += header::read(image).length as usize;
+    }
+    state
+}
+
+impl State {
+    // Two unequal finals, or opposite outcomes.
+    pub fn contradicts(self) -> bool
+        ensures { λ r. ⌜ r ≡ contradicts self ⌝ }
+    {
+        if self.unequal {
+            return true;
+        }
+        if self.commit {
+            return self.abort;
+        }
+        false
+    }
+
+    // Any commit or abort held becomes done.
+    pub fn outcome(self) -> u8
+        ensures { λ r. ⌜ r ≡ outcomeHeld self ⌝ }
+    {
+        if self.commit {
+            return 3;
+        }
+        if self.abort {
+            return 4;
+        }
+        0
+    }
+}
