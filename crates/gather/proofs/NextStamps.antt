@@ -57,11 +57,11 @@ next-most last (s ∷ ss) h = go (ltb last s) (h s (List·Memᴰ·head refl) .1)
 
 -- ---- one stamp more
 
-next-here : (last s : ℕ) (ss : List ℕ) → last < s → nextAfter last (s ∷ ss) ≡ s
+pub next-here : (last s : ℕ) (ss : List ℕ) → last < s → nextAfter last (s ∷ ss) ≡ s
 unfolding nextAfter
 next-here last s ss l = rw (lt-ltb last s l) refl
 
-next-past : (last s : ℕ) (ss : List ℕ) → s ≤ last → nextAfter last (s ∷ ss) ≡ nextAfter last ss
+pub next-past : (last s : ℕ) (ss : List ℕ) → s ≤ last → nextAfter last (s ∷ ss) ≡ nextAfter last ss
 unfolding nextAfter
 next-past last s ss l = rw (le-ltb last s l) refl
 

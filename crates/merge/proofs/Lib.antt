@@ -1,0 +1,12 @@
+pub mod StampsInTurn
+pub mod SurveySeen
+pub mod UncheckedBytes
+pub mod ChecksInTurn
+pub mod CheckedInPlace
+pub mod RowsWritten
+pub mod BuffersWritten
+pub mod WritingRows
+pub mod MergedBuffers
+pub mod MergeCall
+pub mod MergeWays
+pub mod MergeSteps

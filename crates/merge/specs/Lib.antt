@@ -1,0 +1,4 @@
+pub mod Surveyed
+pub mod Unsettled
+pub mod Turns
+pub mod Calls

@@ -1,0 +1,79 @@
+// The merge: the public call, which ends with a number of 01's list.
+use crate::settle;
+use crate::survey;
+use crate::write;
+use run::counts;
+use run::newest;
+use run::whole;
+use run::wrong;
+use table::header;
+use table::header::Header;
+use table::model::Model;
+ghost use mathlib.Core.Path.{_≡_};
+ghost use mathlib.Core.Bool.{false};
+ghost use Prim.Native.Nat.{_≤_, _<_};
+ghost use lib.ListN.{length};
+ghost use Rattle.wire.specs.Parts.{replaced};
+ghost use Rattle.rules.specs.Tables.{valley};
+ghost use Rattle.rules.specs.Check.{check};
+ghost use Rattle.rules.specs.Merge.{areWrong, used, stamps, mergedTable};
+ghost use Rattle.table.specs.Images.{formatOne, headerOf, image};
+ghost use Rattle.run.specs.Runs.{tablesOf, Images};
+ghost use Rattle.gather.specs.Held.{usedOf};
+ghost use Rattle.merge.specs.Calls.{callNumber, callOutput, beginning};
+
+// The header of a table that starts a view with so many rows, while it has none yet.
+fn first_header(n: u8, view: u32, rows: u32) -> Header
+    requires { ⌜ 0 < n ⌝ }
+    ensures { λ r. ⌜ r ≡ headerOf formatOne (beginning n view rows) ⌝ }
+{
+    Header {
+        format: header::FORMAT_ONE,
+        boxnumber: (view % (n as u32)) as u8,
+        n,
+        mode: 0,
+        rows: 0,
+        view,
+        promised: view,
+        start: rows,
+        length: 24,
+    }
+}
+
+// Writes the merged table of a run that is not refused: rows as they are before any check, then the agreed ones that wait are checked, then the open ones.
+fn write_merged(out: &mut [u8], run: &[u8], view: u32, newest: u32, rows: u32)
+    requires { ⌜ Images valley (now run) × (0 < length (now run)) × (49176 ≤ length (now out)) ⌝ }
+    requires { ⌜ (areWrong view (tablesOf valley (now run)) ≡ false) × (usedOf newest (tablesOf valley (now run)) ≡ used (tablesOf valley (now run))) × (rows ≡ length (stamps (used (tablesOf valley (now run))))) × (rows ≤ 512) ⌝ }
+    ensures { λ _. ⌜ now (out .exit) ≡ replaced (now (out .entry)) 0 (image formatOne (mergedTable check view (tablesOf valley (now (run .entry))))) ⌝ }
+{
+    let n = header::read(run).n;
+    let agreement = counts::agreement(n);
+    header::write(out, first_header(n, view, rows));
+    write::write_rows(out, run, newest, agreement);
+    settle::check_rows(out, run, newest, agreement, false);
+    settle::check_rows(out, run, newest, agreement, true);
+}
+
+// The merge for a view of the images laid end to end in a run, written at the start of an output buffer.
+pub fn merge(run: &[u8], view: u32, out: &mut [u8]) -> u8
+    ensures { λ r. ⌜ r ≡ callNumber valley (now (run .entry)) view (now (out .entry)) ⌝ }
+    ensures { λ _. ⌜ now (out .exit) ≡ callOutput valley (now (run .entry)) view (now (out .entry)) ⌝ }
+{
+    let model = Model::valley();
+    if out.len() < model.least {
+        return 1;
+    }
+    if !whole::is_whole(run, model) {
+        return 2;
+    }
+    if wrong::are_wrong(run, view) {
+        return 11;
+    }
+    let newest = newest::newest_view(run);
+    let seen = survey::survey_stamps(run, newest);
+    let number = seen.number(model.limit);
+    if number == 0 {
+        write_merged(out, run, view, newest, seen.stamps as u32);
+    }
+    number
+}
