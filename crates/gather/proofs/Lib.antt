@@ -6,3 +6,4 @@ pub mod NextStamps
 pub mod Gathered
 pub mod OneTable
 pub mod FirstImages
+pub mod StampsInTurn

@@ -31,7 +31,7 @@ use Rattle.edit.proofs.Holding.{one-starts, holds-header}
 use Rattle.edit.proofs.RowsJoined.{bodies-length-joined}
 use Rattle.edit.proofs.EditedBuffers.{edited-same, edited-as, edited-holds, edited-twice, edited-length}
 use Rattle.gather.proofs.NextStamps.{AllRegular, Stamped, stamps-stamped}
-use Rattle.merge.proofs.StampsInTurn.{below, below-all, below-first, below-next, next-in}
+use Rattle.gather.proofs.StampsInTurn.{below, below-all, below-first, below-next, next-in}
 use Rattle.merge.proofs.RowsWritten.{AllLower, added-last, place-last, rising-last, rowsFor, rows-for-all, rows-for-last, rows-for-length, rows-for-lower, some-held}
 
 -- ---- bodies

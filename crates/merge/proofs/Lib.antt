@@ -1,8 +1,3 @@
-pub mod StampsInTurn
-pub mod SurveySeen
-pub mod UncheckedBytes
-pub mod ChecksInTurn
-pub mod CheckedInPlace
 pub mod RowsWritten
 pub mod BuffersWritten
 pub mod WritingRows

@@ -20,8 +20,8 @@ use Rattle.table.specs.Images.{formatOne, image}
 use Rattle.run.specs.Runs.{tablesOf, Images, runTables, orNone}
 use Rattle.run.proofs.RunTurns.{run-told, not-run}
 use Rattle.gather.specs.Held.{usedOf}
-use Rattle.merge.specs.declared.survey.Survey.{Survey}
-use Rattle.merge.specs.Surveyed.{surveyed, surveyNumber}
+use Rattle.decide.specs.declared.survey.Survey.{Survey}
+use Rattle.decide.specs.Surveyed.{surveyed, surveyNumber}
 use Rattle.merge.specs.Calls.{callNumber, callOutput}
 use Rattle.merge.proofs.MergeCall.{merge-number, merge-refused, tables-number, somewhere}
 

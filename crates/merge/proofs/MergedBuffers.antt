@@ -27,8 +27,8 @@ use Rattle.edit.proofs.Holding.{one-starts}
 use Rattle.edit.proofs.EditedBuffers.{edited-grown, edited-holds, edited-twice, edited-as}
 use Rattle.gather.proofs.NextStamps.{AllRegular}
 use Rattle.merge.specs.Calls.{beginning}
-use Rattle.merge.specs.Turns.{hasStamp, checkedRows}
-use Rattle.merge.proofs.ChecksInTurn.{merged-in-turn, checked-rising, checked-stamped, checked-length, checked-image-length, unchecked-rising, unchecked-stamped, unchecked-length}
+use Rattle.settle.specs.Turns.{hasStamp, checkedRows}
+use Rattle.settle.proofs.ChecksInTurn.{merged-in-turn, checked-rising, checked-stamped, checked-length, checked-image-length, unchecked-rising, unchecked-stamped, unchecked-length}
 
 -- an image without rows is a header
 bare-image : (T : Table) → T .rows ≡ [] → image formatOne T ≡ headerBytes (headerOf formatOne T)

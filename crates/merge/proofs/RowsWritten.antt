@@ -29,7 +29,6 @@ use Rattle.rows.specs.Rows.{sizeOf, BodyInside}
 use Rattle.rows.proofs.Bodies.{length-accessesAt}
 use Rattle.edit.specs.Changes.{Storable, adding}
 use Rattle.edit.specs.Edited.{Holds, edited}
-use Rattle.seek.proofs.HeldRows.{by-rule-here}
 use Rattle.gather.specs.Held.{usedOf, placeIn, fieldsFor}
 use Rattle.gather.proofs.NextStamps.{AllRegular, used-regular}
 use Rattle.gather.proofs.UsedRows.{FirstHeld}
@@ -37,10 +36,10 @@ use Rattle.gather.proofs.FirstImages.{first-fields, first-body, first-stamp, fi
 use Rattle.table.specs.Headers.{headerAt}
 use Rattle.table.specs.Parse.{tableAt}
 use Rattle.table.specs.Images.{formatOne}
-use Rattle.merge.specs.declared.unchecked.Unchecked.{Unchecked}
-use Rattle.merge.specs.Unsettled.{uncheckedAs}
-use Rattle.merge.proofs.UncheckedBytes.{unchecked-codes, unchecked-numbered}
-use Rattle.merge.proofs.StampsInTurn.{below}
+use Rattle.decide.specs.declared.unchecked.Unchecked.{Unchecked}
+use Rattle.decide.specs.Unsettled.{uncheckedAs}
+use Rattle.decide.proofs.UncheckedBytes.{unchecked-codes, unchecked-numbered}
+use Rattle.gather.proofs.StampsInTurn.{below}
 
 -- ---- a row behind all others
 

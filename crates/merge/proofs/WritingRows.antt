@@ -24,7 +24,7 @@ use Rattle.edit.specs.Changes.{adding}
 use Rattle.edit.specs.Edited.{Holds, edited}
 use Rattle.gather.specs.Stamps.{nextAfter}
 use Rattle.gather.proofs.NextStamps.{AllRegular, Stamped, stamps-stamped}
-use Rattle.merge.proofs.StampsInTurn.{below, below-all, below-first, below-next, next-in}
+use Rattle.gather.proofs.StampsInTurn.{below, below-all, below-first, below-next, next-in}
 use Rattle.merge.proofs.RowsWritten.{place-last, rowsFor, rows-for-all, rows-for-length, rows-for-lower, some-held}
 use Rattle.merge.proofs.BuffersWritten.{withStamps, none-yet, holds-now, rows-now, room-now, one-more}
 

@@ -1,7 +1,6 @@
 // The merge: the public call, which ends with a number of 01's list.
-use crate::settle;
-use crate::survey;
 use crate::write;
+use decide::survey;
 use run::counts;
 use run::newest;
 use run::whole;

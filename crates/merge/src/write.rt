@@ -1,5 +1,5 @@
 // The rows of a merge as they are before any check, added one behind the other in the order of their stamps.
-use crate::unchecked;
+use decide::unchecked;
 use edit::add;
 use gather::held;
 use gather::stamps;

@@ -9,6 +9,7 @@ ghost use Rattle.table.specs.Images.{formatOne};
 ghost use Rattle.table.specs.Parse.{parse, imageFound};
 ghost use Rattle.table.specs.Fresh.{freshNumber, freshBuffer};
 ghost use Rattle.answer.specs.Calls.{callNumber, callTable, callReply};
+ghost use Rattle.merge.specs.Calls as merging;
 ghost use Rattle.sprondilu.specs.Calls.{validAnswer};
 
 // The fresh table of a box, at the start of a table buffer; the answer is the number.
@@ -28,6 +29,15 @@ pub extern "C" fn sprondilu_answer(table: &mut [u8], message: &[u8], reply: &mut
     ensures { λ _. ⌜ now (reply .exit) ≡ callReply valley (now (table .entry)) (now (message .entry)) (now (reply .entry)) ⌝ }
 {
     answer::call::answer(table, message, reply)
+}
+
+// The merge for a view of the images laid end to end in a run: the number. The merged image is left at the start of the output buffer.
+#[no_mangle]
+pub extern "C" fn sprondilu_merge(run: &[u8], view: u32, out: &mut [u8]) -> u8
+    ensures { λ r. ⌜ r ≡ merging.callNumber valley (now (run .entry)) view (now (out .entry)) ⌝ }
+    ensures { λ _. ⌜ now (out .exit) ≡ merging.callOutput valley (now (run .entry)) view (now (out .entry)) ⌝ }
+{
+    merge::call::merge(run, view, out)
 }
 
 // Whether lent bytes begin with an image, and how long it is: number and length in one word.

@@ -13,7 +13,7 @@ use Rattle.run.specs.Runs.{tablesOf, runTables}
 use Rattle.run.proofs.RunTurns.{run-told}
 use Rattle.merge.proofs.MergeSteps.{used-is, kept-small, kept-bad, kept-wrong, kept-survey, kept-done, stamps-counted, stamps-few}
 use Rattle.rules.specs.Tests.{isSome}
-use Rattle.merge.specs.Surveyed.{surveyNumber}
+use Rattle.decide.specs.Surveyed.{surveyNumber}
 use Rattle.merge.proofs.call.merge.Statement.{statement}
 use Rattle.merge.proofs.call.merge.Tie as tie
 

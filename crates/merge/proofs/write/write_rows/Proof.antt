@@ -16,8 +16,8 @@ use Rattle.run.specs.Runs.{tablesOf}
 use Rattle.gather.specs.Held.{usedOf}
 use Rattle.gather.proofs.Gathered.{all-regular}
 use Rattle.gather.proofs.NextStamps.{AllRegular, used-regular}
-use Rattle.merge.proofs.StampsInTurn.{below, next-above}
-use Rattle.merge.proofs.SurveySeen.{stamp-held}
+use Rattle.gather.proofs.StampsInTurn.{below, next-above}
+use Rattle.decide.proofs.SurveySeen.{stamp-held}
 use Rattle.merge.proofs.RowsWritten.{rowsFor}
 use Rattle.merge.proofs.WritingRows.{few-below, write-start, turn-ready, turn-written, write-end}
 use Rattle.merge.proofs.write.write_rows.Statement.{statement}

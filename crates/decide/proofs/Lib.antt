@@ -1,0 +1,2 @@
+pub mod SurveySeen
+pub mod UncheckedBytes

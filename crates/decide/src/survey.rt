@@ -1,0 +1,71 @@
+// What all stamps of the used tables say together, before anything is written: 5, 6 and 7.
+use gather::bodies;
+use gather::stamps;
+use gather::state;
+ghost use mathlib.Core.Path.{_≡_};
+ghost use Prim.Native.Nat.{_^_, _<_};
+ghost use lib.ListN.{length};
+ghost use Rattle.rules.specs.Tables.{valley};
+ghost use Rattle.rules.specs.Merge.{rowsOf, stamps};
+ghost use Rattle.run.specs.Runs.{tablesOf, Images};
+ghost use Rattle.gather.specs.Held.{usedOf};
+ghost use Rattle.decide.specs.Surveyed.{surveyed, withStamp, surveyNumber};
+
+// Whether a stamp has two bodies, whether one is held with a contradiction, and how many stamps there are.
+pub struct Survey {
+    pub bodies: bool,
+    pub contradiction: bool,
+    pub stamps: usize,
+}
+
+// One more stamp.
+fn with_stamp(mut survey: Survey, run: &[u8], newest: u32, stamp: u64) -> Survey
+    requires { ⌜ Images valley (now run) × (0 < length (rowsOf (usedOf newest (tablesOf valley (now run))) stamp)) ⌝ }
+    requires { ⌜ (survey .stamps < stamp) × (stamp < 2 ^ 48) ⌝ }
+    ensures { λ r. ⌜ r ≡ withStamp (rowsOf (usedOf newest (tablesOf valley (now (run .entry)))) stamp) survey ⌝ }
+{
+    if bodies::two_bodies(run, newest, stamp) {
+        survey.bodies = true;
+    }
+    if state::state_of(run, newest, stamp).contradicts() {
+        survey.contradiction = true;
+    }
+    survey.stamps += 1;
+    survey
+}
+
+// All stamps of the used tables of a run.
+pub fn survey_stamps(run: &[u8], newest: u32) -> Survey
+    requires { ⌜ Images valley (now run) ⌝ }
+    ensures { λ r. ⌜ r ≡ surveyed (usedOf newest (tablesOf valley (now (run .entry)))) (stamps (usedOf newest (tablesOf valley (now (run .entry))))) ⌝ }
+{
+    let mut seen = Survey {
+        bodies: false,
+        contradiction: false,
+        stamps: 0,
+    };
+    let mut stamp = stamps::next_stamp(run, newest, 0);
+    while stamp < stamps::NO_STAMP {
+        seen = with_stamp(seen, run, newest, stamp);
+        stamp = stamps::next_stamp(run, newest, stamp);
+    }
+    seen
+}
+
+impl Survey {
+    // What refuses a merge, of the stamps alone.
+    pub fn number(self, limit: u16) -> u8
+        ensures { λ r. ⌜ r ≡ surveyNumber limit self ⌝ }
+    {
+        if self.bodies {
+            return 5;
+        }
+        if self.contradiction {
+            return 6;
+        }
+        if (limit as usize) < self.stamps {
+            return 7;
+        }
+        0
+    }
+}

@@ -1,0 +1,2 @@
+pub mod ChecksInTurn
+pub mod CheckedInPlace

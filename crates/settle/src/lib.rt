@@ -1,0 +1,83 @@
+// The checks of a merge, over the merged table where it stands. A row that waits for its check holds nothing yet, so that a check sees the rows settled before it and no other.
+use checks::pass;
+use edit::state;
+use gather::agreed;
+use rows::row;
+use table::header;
+ghost use mathlib.Core.Path.{_≡_};
+ghost use mathlib.Core.Bool.{true};
+ghost use Prim.Native.Nat.{_+_, _*_, _≤_, _<_};
+ghost use lib.ListN.{length};
+ghost use Rattle.rules.specs.Tests.{every};
+ghost use Rattle.rules.specs.Tables.{valley, rising};
+ghost use Rattle.rules.specs.Messages.{withRows};
+ghost use Rattle.rows.specs.Fields.{fieldsAt};
+ghost use Rattle.rows.specs.Read.{rowOf};
+ghost use Rattle.table.specs.Headers.{headerAt};
+ghost use Rattle.table.specs.Images.{formatOne};
+ghost use Rattle.table.specs.Parse.{tableAt};
+ghost use Rattle.edit.specs.Changes.{onRow};
+ghost use Rattle.edit.specs.Edited.{Holds, edited};
+ghost use Rattle.run.specs.Runs.{tablesOf, Images};
+ghost use Rattle.gather.specs.Held.{usedOf};
+ghost use Rattle.settle.specs.Turns.{hasStamp, waits, checkedBy, checkedRows};
+
+// Gives the row at an index what the check says of it, final.
+fn check_row(out: &mut [u8], index: usize)
+    requires { ⌜ Holds formatOne (now out) × (index < headerAt (now out) .rows) × (every hasStamp (tableAt formatOne (now out) .rows) ≡ true) ⌝ }
+    ensures { λ _. ⌜ now (out .exit) ≡ edited formatOne (onRow index (checkedBy (tableAt formatOne (now (out .entry)) .rows))) (now (out .entry)) ⌝ }
+{
+    let rows = header::read(out).rows as usize;
+    let row = row::row_at(out, header::LENGTH, index);
+    let checked = pass::check(
+        out,
+        header::LENGTH,
+        rows,
+        row.stamp,
+        row::body_of(out, row),
+        row.reads as usize,
+        row.writes as usize,
+    );
+    state::set_prepare(out, index, checked.code + 4, checked.retry);
+}
+
+// Whether the row at an index waits for a check, as an open one (not agreed) or as an agreed one.
+fn row_waits(
+    out: &[u8],
+    index: usize,
+    run: &[u8],
+    newest: u32,
+    agreement: usize,
+    unagreed: bool,
+) -> bool
+    requires { ⌜ Images valley (now run) × (24 + 24 * index + 24 ≤ length (now out)) × (fieldsAt (now out) (24 + 24 * index) .prepare ≤ 8) × (fieldsAt (now out) (24 + 24 * index) .outcome ≤ 4) ⌝ }
+    ensures { λ r. ⌜ r ≡ waits unagreed agreement (usedOf newest (tablesOf valley (now (run .entry)))) (rowOf (now (out .entry)) (fieldsAt (now (out .entry)) (24 + 24 * index))) ⌝ }
+{
+    let row = row::row_at(out, header::LENGTH, index);
+    if row.prepare != 0 {
+        return false;
+    }
+    if row.outcome != 0 {
+        return false;
+    }
+    if agreed::agreed_result(run, newest, row.stamp, agreement).code == 0 {
+        return unagreed;
+    }
+    !unagreed
+}
+
+// Checks the agreed rows that wait, or the open ones, in rising stamp order.
+pub fn check_rows(out: &mut [u8], run: &[u8], newest: u32, agreement: usize, unagreed: bool)
+    requires { ⌜ Images valley (now run) ⌝ }
+    requires { ⌜ Holds formatOne (now out) × (rising 0 (tableAt formatOne (now out) .rows) ≡ true) × (every hasStamp (tableAt formatOne (now out) .rows) ≡ true) ⌝ }
+    ensures { λ _. ⌜ now (out .exit) ≡ edited formatOne (λ T. withRows T (checkedRows unagreed agreement (usedOf newest (tablesOf valley (now (run .entry)))) (T .rows))) (now (out .entry)) ⌝ }
+{
+    let rows = header::read(out).rows as usize;
+    let mut i: usize = 0;
+    while i < rows {
+        if row_waits(out, i, run, newest, agreement, unagreed) {
+            check_row(out, i);
+        }
+        i += 1;
+    }
+}
