@@ -213,3 +213,26 @@ pub fn likely_headers(dice: &mut Dice, judge: &mut Judge) {
     bytes.extend(dice.bytes(behind));
     judge("likely headers", &bytes);
 }
+
+/// Breaks a rule of the header, or of the first row and its body.
+pub fn spoil(dice: &mut Dice, image: &mut [u8]) {
+    let rows = u32::from_be_bytes(image[4..8].try_into().expect("four bytes"));
+    let body = 24 + 24 * rows as usize;
+    let which = if rows == 0 { 7 } else { 14 };
+    match dice.index(which) {
+        0 => image[0] = dice.one_of(&[0, 2, 255]),
+        1 => image[1] = dice.one_of(&[7, 255]),
+        2 => image[2] = dice.one_of(&[0, 4, 6, 8]),
+        3 => image[3] = dice.one_of(&[2, 255]),
+        4 => image[7] ^= 1,
+        5 => image[16..20].copy_from_slice(&(rows + 1).to_be_bytes()),
+        6 => image[23] ^= 1 << dice.below(8),
+        7 => image[24] = 1,
+        8 => image[24..32].fill(0),
+        9 => image[43] ^= 1 << dice.below(8),
+        10 => image[44 + dice.index(2)] = 5,
+        11 => image[46] = 9,
+        12 => image[47] = 5,
+        _ => image[body] = 64,
+    }
+}

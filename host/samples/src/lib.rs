@@ -1,4 +1,4 @@
-//! Tables of document 01 for tests and measurements: random ones by its rules, and images that break one of them.
+//! Tables and messages of document 01 for tests and measurements: random ones by its rules, and some that break one of them.
 //!
 //! Images are put together here byte by byte, apart from the second program, so that neither can hide a mistake of the
 //! other. A sample has a kind, in words, by which whoever judges samples counts them.
@@ -7,15 +7,19 @@
 //! - [`table`]: a table as plain numbers, which keeps no rule by itself, and its image
 //! - [`random`]: random tables by the rules
 //! - [`field`]: where the fields of an image stand, and values about the limits of each
+//! - [`transactions`]: transactions that clash often
 //! - [`damage`]: images of many kinds, good and bad
+//! - [`message`]: messages to a box
 //! - [`tally`]: how many samples of each kind were images
 
 pub mod damage;
 pub mod dice;
 pub mod field;
+pub mod message;
 pub mod random;
 pub mod table;
 pub mod tally;
+pub mod transactions;
 
 pub use dice::Dice;
 pub use table::{Access, Row, Table};

@@ -3,10 +3,7 @@
 
 use crate::lent::Lent;
 use crate::messages as make;
-use samples::{Access, Dice, Row, Table, GREATEST_STAMP};
-use std::collections::BTreeSet;
-
-const REGISTERS: [u8; 4] = [0, 1, 2, 63];
+use samples::{transactions, Dice, Row, Table, GREATEST_STAMP};
 
 /// The fresh table of a box, and then so many messages.
 pub fn history(lent: &mut Lent, length: usize) {
@@ -21,68 +18,11 @@ pub fn history(lent: &mut Lent, length: usize) {
         rows: Vec::new(),
     };
     lent.hold(&fresh.image());
-    let transactions = transactions(&mut lent.dice);
+    let transactions = transactions::some(&mut lent.dice);
     for _ in 0..length {
         let message = message(lent, &transactions);
         lent.ask(&message);
     }
-}
-
-/// Transactions that may meet in one table, in the order of their stamps.
-fn transactions(dice: &mut Dice) -> Vec<Row> {
-    let count = 4 + dice.below(10);
-    let apart = dice.one_of(&[1, 2, 65_536]);
-    let first = dice.one_of(&[1, 1, 65_537, GREATEST_STAMP - apart * (count - 1)]);
-    let stamps: Vec<u64> = (0..count).map(|place| first + apart * place).collect();
-    let row = |stamp: &u64| transaction(dice, *stamp, &stamps);
-    stamps.iter().map(row).collect()
-}
-
-fn transaction(dice: &mut Dice, stamp: u64, stamps: &[u64]) -> Row {
-    let mut reads = registers(dice);
-    let writes = registers(dice);
-    if reads.is_empty() && writes.is_empty() {
-        reads.insert(0);
-    }
-    let lower: Vec<u64> = stamps.iter().copied().filter(|s| *s < stamp).collect();
-    let read = |register| Access {
-        register,
-        number: version(dice, stamp, &lower),
-    };
-    let reads = reads.into_iter().map(read).collect();
-    let write = |register| Access {
-        register,
-        number: dice.wide(),
-    };
-    Row {
-        stamp,
-        retry: 0,
-        reads,
-        writes: writes.into_iter().map(write).collect(),
-        prepare: 0,
-        outcome: 0,
-    }
-}
-
-/// None, one or some of the few registers.
-fn registers(dice: &mut Dice) -> BTreeSet<u8> {
-    let count = dice.one_of(&[0, 1, 1, 2, 4]);
-    (0..count).map(|_| dice.one_of(&REGISTERS)).collect()
-}
-
-/// A version below the stamp: none, one that another transaction may write, or one beside it.
-fn version(dice: &mut Dice, stamp: u64, lower: &[u64]) -> u64 {
-    if lower.is_empty() {
-        return dice.one_of(&[0, stamp - 1]);
-    }
-    let written = dice.one_of(lower);
-    dice.one_of(&[
-        0,
-        written,
-        written,
-        written - 1,
-        (written + 1).min(stamp - 1),
-    ])
 }
 
 /// A message that a box in this state may well get.

@@ -4,7 +4,7 @@ use crate::lent::{
     Lent, REPLIES_LONG_ENOUGH, REPLIES_TOO_SHORT, TABLES_LONG_ENOUGH, TABLES_TOO_SHORT,
 };
 use crate::messages as make;
-use samples::{random, Dice, Row, Table, MOST_ROWS};
+use samples::{damage, random, Dice, Row, Table, MOST_ROWS};
 
 /// "The first that applies wins, in this order".
 const ORDER: [u8; 11] = [1, 2, 3, 4, 9, 10, 11, 8, 5, 6, 7];
@@ -60,7 +60,7 @@ fn asked(lent: &mut Lent, kind: u8, wanted: &[u8]) {
         message = make::spoiled(&mut lent.dice, &message);
     }
     if wanted.contains(&2) {
-        spoil(&mut lent.dice, &mut image);
+        damage::spoil(&mut lent.dice, &mut image);
     }
     lent.hold(&image);
     let lengths = lengths(&mut lent.dice, wanted.contains(&1));
@@ -224,27 +224,4 @@ fn start(dice: &mut Dice, wanted: &[u8], table: &mut Table) -> Vec<u8> {
     let mut image = random::table(dice, rows);
     image.n = table.n;
     make::start_view(view, &make::settled(&image.image(), view))
-}
-
-/// Breaks a rule of the header, or of the first row and its body.
-fn spoil(dice: &mut Dice, image: &mut [u8]) {
-    let rows = u32::from_be_bytes(image[4..8].try_into().expect("four bytes"));
-    let body = 24 + 24 * rows as usize;
-    let which = if rows == 0 { 7 } else { 14 };
-    match dice.index(which) {
-        0 => image[0] = dice.one_of(&[0, 2, 255]),
-        1 => image[1] = dice.one_of(&[7, 255]),
-        2 => image[2] = dice.one_of(&[0, 4, 6, 8]),
-        3 => image[3] = dice.one_of(&[2, 255]),
-        4 => image[7] ^= 1,
-        5 => image[16..20].copy_from_slice(&(rows + 1).to_be_bytes()),
-        6 => image[23] ^= 1 << dice.below(8),
-        7 => image[24] = 1,
-        8 => image[24..32].fill(0),
-        9 => image[43] ^= 1 << dice.below(8),
-        10 => image[44 + dice.index(2)] = 5,
-        11 => image[46] = 9,
-        12 => image[47] = 5,
-        _ => image[body] = 64,
-    }
 }
