@@ -118,6 +118,28 @@ uint64_t sprondilu_valid(const uint8_t *bytes, size_t bytes_len);
 uint8_t sprondilu_answer(uint8_t *table, size_t table_len, const uint8_t *message, size_t message_len, uint8_t *reply,
                          size_t reply_len);
 
+/*
+ * The merge for view `view`: of the tables of f+1 boxes that promised it, laid end to end in one run, it makes the table
+ * with which that view begins, and writes its image at the start of an output buffer. A run may be any bytes that arrived,
+ * of any length, also none; an image in it may begin at any byte.
+ *
+ * Returns the first of these that applies, and SPRONDILU_DONE if none does:
+ *   SPRONDILU_SMALL_BUFFER   out_len is below SPRONDILU_TABLE_BYTES, whatever the run is
+ *   SPRONDILU_BAD_TABLE      the run is not one or more whole images by 01's rules, with no byte before, between or behind
+ *   SPRONDILU_WRONG_TABLES   the images are not exactly f+1, or their n are not equal, or a box is there twice, or one is
+ *                            not between two views, or one promised another view
+ *   SPRONDILU_OTHER_BODY     a stamp is held with two bodies
+ *   SPRONDILU_CONTRADICTION  of a stamp two unequal final results are held, or opposite outcomes
+ *   SPRONDILU_FULL           there are more than 512 stamps
+ * The last three look at the tables of the greatest last normal view only, as the merge itself does, and each at all
+ * stamps of them: the order holds over all stamps, not at each.
+ *
+ * Done, the output buffer begins with the merged image, which does not depend on the order of the tables, and which
+ * sprondilu_answer takes in message 6 for that view; no other byte has changed: what the buffer held is neither looked at
+ * nor cleared. Refused, no byte has changed. The run never changes.
+ */
+uint8_t sprondilu_merge(const uint8_t *run, size_t run_len, uint32_t view, uint8_t *out, size_t out_len);
+
 #ifdef __cplusplus
 }
 #endif

@@ -13,6 +13,13 @@ mod library {
             reply: *mut u8,
             reply_len: usize,
         ) -> u8;
+        pub fn sprondilu_merge(
+            run: *const u8,
+            run_len: usize,
+            view: u32,
+            out: *mut u8,
+            out_len: usize,
+        ) -> u8;
     }
 }
 
@@ -50,4 +57,10 @@ pub fn answer(table: &mut [u8], message: &[u8], reply: &mut [u8]) -> u8 {
             reply.len(),
         )
     }
+}
+
+/// The merge for a view of the images laid end to end in a run, written at the output's start; returns the number.
+pub fn merge(run: &[u8], view: u32, out: &mut [u8]) -> u8 {
+    // Slices are valid for their lengths; nobody else has the one that is written, so the two do not overlap.
+    unsafe { library::sprondilu_merge(run.as_ptr(), run.len(), view, out.as_mut_ptr(), out.len()) }
 }

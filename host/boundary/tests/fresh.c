@@ -1,6 +1,6 @@
 /*
  * The worked example of the C boundary: a fresh table in a lent buffer, the image in it, the paper's message answered by
- * that box, and refusals of each call.
+ * that box, the merge of its table and another box's fresh one, and refusals of each call.
  * It prints what the calls answered; whoever runs it compares that with the paper.
  */
 #include "sprondilu.h"
@@ -17,12 +17,17 @@ _Static_assert(_Generic(&sprondilu_valid, uint64_t (*)(const uint8_t *, size_t):
 _Static_assert(_Generic(&sprondilu_answer,
                         uint8_t (*)(uint8_t *, size_t, const uint8_t *, size_t, uint8_t *, size_t): 1, default: 0),
                "sprondilu_answer has another type");
+_Static_assert(_Generic(&sprondilu_merge, uint8_t (*)(const uint8_t *, size_t, uint32_t, uint8_t *, size_t): 1,
+                        default: 0),
+               "sprondilu_merge has another type");
 
 /* What stands in the buffer before a call, so that every byte written is seen. */
 #define DIRT 0xee
 
 static uint8_t table[SPRONDILU_TABLE_BYTES];
 static uint8_t reply[SPRONDILU_REPLY_BYTES + 1];
+static uint8_t run[200];
+static size_t run_length = 0;
 
 /* The paper's message 1: stamp 65,537 and one write, register 5, value 7. A byte follows it that is no part of it. */
 static const uint8_t message[21] = {1, 0, 0, 0, 0, 0, 1, 0, 1, 0, 1, 5, 0, 0, 0, 0, 0, 0, 0, 7, 0};
@@ -87,6 +92,42 @@ static void answer_all(void)
     answer("with a retry stamp for OK", sizeof table, 20, SPRONDILU_REPLY_BYTES);
 }
 
+/* The box in the buffer promises view 7, and its image is laid behind the others of the run. */
+static void promise(void)
+{
+    static const uint8_t change_view[5] = {5, 0, 0, 0, 7};
+    unsigned int number = sprondilu_answer(table, sizeof table, change_view, sizeof change_view, reply, sizeof reply);
+    size_t length = SPRONDILU_LENGTH_OF(sprondilu_valid(table, sizeof table));
+    memcpy(run + run_length, table, length);
+    run_length += length;
+    printf("answer, a view promised: number %u, a run of %zu bytes\n", number, run_length);
+}
+
+/* The output is printed as far as it has changed. */
+static void merge(const char *what, size_t length, uint32_t view, size_t out_len)
+{
+    memset(table, DIRT, sizeof table);
+    unsigned int number = sprondilu_merge(run, length, view, table, out_len);
+    printf("merge, %s: number %u, %zu bytes changed\n", what, number, bytes_changed());
+}
+
+/* Box 2 fresh, and box 0 with the row of the paper, which one table of two holds: it is open, and its check is OK. */
+static void merge_all(void)
+{
+    fresh("box 0 of 3", table, sizeof table, 3, 0);
+    answer("the message of the paper", sizeof table, 20, sizeof reply);
+    promise();
+    fresh("box 2 of 3", table, sizeof table, 3, 2);
+    promise();
+    merge("an output too short", run_length, 7, sizeof table - 1);
+    merge("no run", 0, 7, sizeof table);
+    merge("a byte too few", run_length - 1, 7, sizeof table);
+    merge("one table", 57, 7, sizeof table);
+    merge("another view", run_length, 8, sizeof table);
+    merge("two tables", run_length, 7, sizeof table);
+    print_bytes(table, bytes_changed());
+}
+
 int main(void)
 {
     fresh("a null pointer", NULL, 0, 3, 0);
@@ -102,5 +143,6 @@ int main(void)
     valid("its image alone", table, 24);
     valid("a byte too short", table, 23);
     answer_all();
+    merge_all();
     return 0;
 }

@@ -6,7 +6,8 @@ use std::path::{Path, PathBuf};
 use std::process::{Command, Output};
 use std::{env, fs};
 
-/// What `fresh.c` has to print; the two images are those of the paper, and so is the reply.
+/// What `fresh.c` has to print; the images are those of the paper, and so is the reply, but for the last image: the paper's
+/// row as a merge settles it.
 const PRINTED: &str = "\
 fresh, a null pointer: number 1, 0 bytes changed
 fresh, a byte too short: number 1, 0 bytes changed
@@ -38,6 +39,21 @@ valid, with the row of the paper: an image of 57 bytes
 valid, with a retry stamp for OK: number 2, answer 2
 answer, with a retry stamp for OK: number 2, reply
 02 00 00 00 00 00 00 00 00 00 00 00 00 00 00 00 00 00 00 00 00 00 00 00 ee
+fresh, box 0 of 3: number 0, 24 bytes changed
+answer, the message of the paper: number 0, reply
+00 01 00 01 00 00 00 00 00 00 00 00 00 01 00 01 00 00 00 00 00 00 00 00 ee
+answer, a view promised: number 0, a run of 57 bytes
+fresh, box 2 of 3: number 0, 24 bytes changed
+answer, a view promised: number 0, a run of 81 bytes
+merge, an output too short: number 1, 0 bytes changed
+merge, no run: number 2, 0 bytes changed
+merge, a byte too few: number 2, 0 bytes changed
+merge, one table: number 11, 0 bytes changed
+merge, another view: number 11, 0 bytes changed
+merge, two tables: number 0, 57 bytes changed
+01 01 03 00 00 00 00 01 00 00 00 07 00 00 00 07 00 00 00 01 00 00 00 39 \
+00 00 00 00 00 01 00 01 00 00 00 00 00 00 00 00 00 00 00 30 00 01 05 00 \
+05 00 00 00 00 00 00 00 07
 ";
 
 const WARNINGS: [&str; 6] = [
@@ -97,7 +113,8 @@ const CPP: &str = "#include \"sprondilu.h\"\n\
     int main() {\n\
     return SPRONDILU_NUMBER_OF(sprondilu_valid(nullptr, 0)) == SPRONDILU_BAD_TABLE\n\
     && sprondilu_fresh(nullptr, 0, 3, 0) == SPRONDILU_SMALL_BUFFER\n\
-    && sprondilu_answer(nullptr, 0, nullptr, 0, nullptr, 0) == SPRONDILU_SMALL_BUFFER ? 0 : 1;\n\
+    && sprondilu_answer(nullptr, 0, nullptr, 0, nullptr, 0) == SPRONDILU_SMALL_BUFFER\n\
+    && sprondilu_merge(nullptr, 0, 1, nullptr, 0) == SPRONDILU_SMALL_BUFFER ? 0 : 1;\n\
     }\n";
 
 #[test]

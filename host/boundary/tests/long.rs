@@ -40,3 +40,24 @@ fn every_length_of_an_answer_is_taken_whole() {
     long[..5].copy_from_slice(&[5, 0, 0, 0, 9]);
     assert_eq!(boundary::answer(&mut table, &long, &mut reply), 3);
 }
+
+/// An output cut to 32 bits would be too short, and the run cut to them would be the two images alone.
+#[test]
+fn every_length_of_a_merge_is_taken_whole() {
+    let table = |box_number| {
+        let mut table = vec![0; TABLE_BYTES];
+        assert_eq!(boundary::fresh(&mut table, 3, box_number), 0);
+        let change_view = [5, 0, 0, 0, 7];
+        assert_eq!(boundary::answer(&mut table, &change_view, &mut [0; 24]), 0);
+        table[..24].to_vec()
+    };
+    let run = [table(0), table(2)].concat();
+    let mut long = longer_than_32_bits(run.len());
+    assert_eq!(boundary::merge(&run, 7, &mut long), 0);
+    let mut out = vec![0; TABLE_BYTES];
+    assert_eq!(reference::merge(&run, 7, &mut out), 0);
+    assert_eq!(long[..TABLE_BYTES], out[..]);
+    long[..run.len()].copy_from_slice(&run);
+    assert_eq!(boundary::merge(&long[..run.len()], 7, &mut out), 0);
+    assert_eq!(boundary::merge(&long, 7, &mut out), 2);
+}
