@@ -37,6 +37,13 @@ impl Dice {
         choices[self.index(choices.len())]
     }
 
+    /// Puts the items into any order.
+    pub fn shuffle<T>(&mut self, items: &mut [T]) {
+        for last in (1..items.len()).rev() {
+            items.swap(last, self.index(last + 1));
+        }
+    }
+
     pub fn byte(&mut self) -> u8 {
         self.below(256) as u8
     }
