@@ -1,18 +1,20 @@
 //! The proved library and its twin in plain safe Rust, side by side in one run: validity of an image, a row added to a
-//! table, and a box's answer to a message of each kind. What counts are ratios: both sides are built for release and work
-//! on the same bytes on the same machine, in turns.
+//! table, a box's answer to a message of each kind, and the merge. What counts are ratios: both sides are built for release
+//! and work on the same bytes on the same machine, in turns.
 //!
-//! `bench` measures times and prints tables. `bench WORK SIDE ROWS TIMES`, as `bench insert library 511 50`, only does
+//! `bench` measures times and prints tables. `bench WORK SIDE SIZE TIMES`, as `bench insert library 511 50`, only does
 //! that work so many times, on one side, for a tool that counts its instructions; `tools/bench` does both.
 
 mod answer;
 mod insert;
+mod merge;
 mod times;
 mod twin;
 mod valid;
 
 use answer::Answering;
 use insert::Inserting;
+use merge::Merging;
 use std::{env, process};
 use valid::Judging;
 
@@ -20,13 +22,20 @@ use valid::Judging;
 pub trait Work {
     /// The word for it on the command line.
     const NAME: &'static str;
-    /// The numbers of rows with which it is measured.
+    /// The sizes with which it is measured, and what they are numbers of.
     const SIZES: [usize; 3];
+    const UNIT: &'static str = "rows";
     /// What is measured, for whoever reads the figures.
     const ABOUT: &'static str;
+    /// A side that is measured beside the two, if there is one.
+    const BESIDE: Option<Side> = None;
 
-    /// The work on a table of so many rows.
-    fn of(rows: usize) -> Self;
+    /// The work of this size.
+    fn of(size: usize) -> Self;
+    /// How often it is done in one round of a side: seldom enough for a processor to keep all that it is done on at hand.
+    fn times_a_round(size: usize) -> usize {
+        16 * 512 / size
+    }
     /// How many bytes each side goes over.
     fn bytes(&self) -> usize;
     /// Gets ready what the work is done on so many times. No part of this is measured.
@@ -37,13 +46,15 @@ pub trait Work {
     fn assert_done(&self, side: Side);
 }
 
-/// A side of the comparison: its name, and its ways to judge lent bytes, to add a row to a table, and to answer a message.
+/// A side of the comparison: its name, and its ways to judge lent bytes, to add a row to a table, to answer a message, and to
+/// merge tables.
 #[derive(Clone, Copy)]
 pub struct Side {
     name: &'static str,
     valid_answer: fn(&[u8]) -> u64,
     add_row: unsafe fn(&mut [u8], usize, &[u8]),
     answer: fn(&mut [u8], &[u8], &mut [u8]) -> u8,
+    merge: fn(&[u8], u32, &mut [u8]) -> u8,
 }
 
 pub const LIBRARY: Side = Side {
@@ -51,6 +62,7 @@ pub const LIBRARY: Side = Side {
     valid_answer: boundary::valid_answer,
     add_row: trial::add_row,
     answer: boundary::answer,
+    merge: boundary::merge,
 };
 
 pub const TWIN: Side = Side {
@@ -58,6 +70,14 @@ pub const TWIN: Side = Side {
     valid_answer: twin::valid::valid_answer,
     add_row: twin::insert::add_row,
     answer: twin::answer::answer,
+    merge: twin::merge::merge,
+};
+
+/// The twin, but for a merge by another algorithm.
+pub const CURSORS: Side = Side {
+    name: "cursors",
+    merge: twin::cursors::merge,
+    ..TWIN
 };
 
 /// A work by its name, and what can be had of it.
@@ -75,7 +95,7 @@ const fn named<W: Work>() -> Named {
     }
 }
 
-const WORKS: [Named; 9] = [
+const WORKS: [Named; 11] = [
     named::<Judging>(),
     named::<Inserting>(),
     named::<Answering<1>>(),
@@ -85,6 +105,8 @@ const WORKS: [Named; 9] = [
     named::<Answering<5>>(),
     named::<Answering<6>>(),
     named::<Answering<7>>(),
+    named::<Merging<true>>(),
+    named::<Merging<false>>(),
 ];
 
 fn main() {
@@ -93,10 +115,15 @@ fn main() {
     let work = |name: &str| WORKS.iter().find(|work| work.name == name);
     match (&words[..], words.first().and_then(|name| work(name))) {
         ([], _) => print_all(),
-        ([_, side, rows, times], Some(work)) => (work.one_side)(side, rows, times),
-        _ => refuse(
-            "give no word, or valid, insert or answer1 to answer7, a side, a number of rows and how often",
-        ),
+        ([_, side, size, times], Some(work)) => (work.one_side)(side, size, times),
+        _ => {
+            let names: Vec<&str> = WORKS.iter().map(|work| work.name).collect();
+            let names = names.join(", ");
+            refuse(&format!(
+                "give no word, or one of {}, a side, a size and how often",
+                names
+            ))
+        }
     }
 }
 
@@ -113,22 +140,26 @@ fn print_all() {
 const MOST_TIMES: usize = 100;
 
 /// Does the work so many times and nothing else that depends on how many.
-fn one_side<W: Work>(name: &str, rows: &str, times: &str) {
-    let most_rows = W::SIZES[W::SIZES.len() - 1];
-    let rows = number(rows, 1, most_rows);
-    let times = number(times, 0, MOST_TIMES);
-    let mut work = W::of(rows);
+fn one_side<W: Work>(name: &str, size: &str, times: &str) {
+    let size = number(size, &W::SIZES);
+    let times = number(times, &(0..=MOST_TIMES).collect::<Vec<usize>>());
+    let mut work = W::of(size);
     work.get_ready(MOST_TIMES);
-    match [LIBRARY, TWIN].into_iter().find(|side| side.name == name) {
+    match sides::<W>().into_iter().find(|side| side.name == name) {
         Some(side) => work.done_by(side, times),
-        None => refuse("the side is library or twin"),
+        None => refuse("no such side does this work"),
     }
 }
 
-fn number(word: &str, least: usize, most: usize) -> usize {
+/// The sides that do a work.
+fn sides<W: Work>() -> Vec<Side> {
+    [LIBRARY, TWIN].into_iter().chain(W::BESIDE).collect()
+}
+
+fn number(word: &str, possible: &[usize]) -> usize {
     match word.parse() {
-        Ok(number) if (least..=most).contains(&number) => number,
-        _ => refuse(&format!("{} is no number from {} to {}", word, least, most)),
+        Ok(number) if possible.contains(&number) => number,
+        _ => refuse(&format!("{} is none of {:?}", word, possible)),
     }
 }
 

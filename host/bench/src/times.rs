@@ -1,16 +1,13 @@
-//! Times of both sides, taken in turns.
+//! Times of all sides, taken in turns.
 
-use crate::{Side, Work, LIBRARY, TWIN};
+use crate::{sides, Side, Work};
 use std::time::Instant;
 
 const ROUNDS: usize = 101;
-/// So many rows are worked on in one round of a side, whatever the size of the table: few enough for a processor to keep
-/// all copies of the table at hand.
-const ROWS_A_ROUND: usize = 16 * 512;
 
 /// Nanoseconds for the work once, in the middle of all rounds.
 struct Medians {
-    rows: usize,
+    size: usize,
     library: f64,
     twin: f64,
 }
@@ -19,41 +16,54 @@ pub fn print<W: Work>() {
     println!("{}", W::ABOUT);
     println!("{} rounds, medians.", ROUNDS);
     println!();
-    println!("rows   bytes   library ns   twin ns   library / twin   library bytes / ns");
+    let beside = W::BESIDE.map_or(String::new(), |side| format!("   {} ns", side.name));
+    println!(
+        "{:5}  bytes   library ns   twin ns   library / twin   library bytes / ns{}",
+        W::UNIT,
+        beside
+    );
     let medians = W::SIZES.map(measured::<W>);
     let least = &medians[0];
     let most = &medians[medians.len() - 1];
     println!();
     println!(
-        "From {} to {} rows, {:.2} times as many: library {:.2} times as long, twin {:.2} times.",
-        least.rows,
-        most.rows,
-        most.rows as f64 / least.rows as f64,
+        "From {} to {} {}, {:.2} times as many: library {:.2} times as long, twin {:.2} times.",
+        least.size,
+        most.size,
+        W::UNIT,
+        most.size as f64 / least.size as f64,
         most.library / least.library,
         most.twin / least.twin
     );
 }
 
-fn measured<W: Work>(rows: usize) -> Medians {
-    let mut work = W::of(rows);
-    let mut library = Vec::with_capacity(ROUNDS);
-    let mut twin = Vec::with_capacity(ROUNDS);
+fn measured<W: Work>(size: usize) -> Medians {
+    let mut work = W::of(size);
+    let times = W::times_a_round(size);
+    let sides = sides::<W>();
+    let mut taken: Vec<Vec<f64>> = vec![Vec::with_capacity(ROUNDS); sides.len()];
     for _ in 0..ROUNDS {
-        library.push(nanoseconds(&mut work, LIBRARY, ROWS_A_ROUND / rows));
-        twin.push(nanoseconds(&mut work, TWIN, ROWS_A_ROUND / rows));
+        for (side, taken) in sides.iter().zip(&mut taken) {
+            taken.push(nanoseconds(&mut work, *side, times));
+        }
     }
-    let (library, twin) = (median(library), median(twin));
+    let medians: Vec<f64> = taken.into_iter().map(median).collect();
+    let (library, twin) = (medians[0], medians[1]);
+    let beside = medians
+        .get(2)
+        .map_or(String::new(), |ns| format!("{:13.0}", ns));
     println!(
-        "{:4} {:7} {:12.0} {:9.0} {:16.2} {:20.1}",
-        rows,
+        "{:4} {:7} {:12.0} {:9.0} {:16.2} {:20.2}{}",
+        size,
         work.bytes(),
         library,
         twin,
         library / twin,
-        work.bytes() as f64 / library
+        work.bytes() as f64 / library,
+        beside
     );
     Medians {
-        rows,
+        size,
         library,
         twin,
     }

@@ -3,8 +3,12 @@
 
 pub mod answer;
 mod check;
+pub mod cursors;
+mod gather;
 pub mod insert;
+pub mod merge;
 mod message;
+mod run;
 pub mod valid;
 
 const HEADER_LENGTH: usize = 24;

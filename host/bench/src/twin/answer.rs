@@ -6,7 +6,7 @@ use super::message::{self, Message};
 use super::valid::{image_length, Header, Row, MOST_ROWS};
 use super::{put_u32, put_u64, u64_at, HEADER_LENGTH, ROW_LENGTH};
 
-const TABLE_BYTES: usize = 49_176;
+pub(super) const TABLE_BYTES: usize = 49_176;
 const REPLY_LENGTH: usize = 24;
 
 /// What a reply says of a message that was done, beside its kind and the box.
@@ -81,7 +81,7 @@ fn judged(table: &mut [u8], message: &[u8]) -> Answered {
 }
 
 /// The index of the stamp's row, or else the one that its row would have.
-fn find(table: &[u8], rows: u32, stamp: u64) -> Result<usize, usize> {
+pub(super) fn find(table: &[u8], rows: u32, stamp: u64) -> Result<usize, usize> {
     for index in 0..rows as usize {
         let held = u64_at(table, HEADER_LENGTH + ROW_LENGTH * index);
         if held == stamp {
@@ -237,7 +237,7 @@ fn start_view(table: &mut [u8], header: &Header, view: u32, image: &[u8]) -> Ans
     })
 }
 
-fn put_prepare(table: &mut [u8], index: usize, prepare: u8, retry: u64) {
+pub(super) fn put_prepare(table: &mut [u8], index: usize, prepare: u8, retry: u64) {
     let at = HEADER_LENGTH + ROW_LENGTH * index;
     put_u64(table, at + 8, retry);
     table[at + 22] = prepare;

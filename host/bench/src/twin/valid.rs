@@ -64,6 +64,7 @@ impl Header {
     }
 }
 
+#[derive(Clone, Copy)]
 pub(super) struct Row {
     pub(super) stamp: u64,
     pub(super) retry: u64,

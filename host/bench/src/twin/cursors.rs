@@ -1,0 +1,167 @@
+//! The merge as one would write it by hand for speed: a cursor in each used table goes up once to decide and once to write,
+//! and every row is written where it stays.
+
+use super::answer::TABLE_BYTES;
+use super::gather::{same_body, tentative, State};
+use super::merge::{check_row, put_header, unchecked, waits, Survey};
+use super::run::{agreement, are_wrong, is_whole, newest_view, Images};
+use super::valid::{Row, MOST_ROWS};
+use super::{put_u32, put_u64, u32_at, u64_at, HEADER_LENGTH, ROW_LENGTH};
+
+/// At most so many tables are a quorum.
+const MOST_TABLES: usize = 4;
+
+/// The output written, if nothing refuses it; returns the number.
+pub fn merge(run: &[u8], view: u32, out: &mut [u8]) -> u8 {
+    if out.len() < TABLE_BYTES {
+        return 1;
+    }
+    if !is_whole(run) {
+        return 2;
+    }
+    if are_wrong(run, view) {
+        return 11;
+    }
+    let seen = survey(Cursors::of(run));
+    let number = seen.number();
+    if number == 0 {
+        put_header(out, run[2], view, seen.stamps);
+        let rows = seen.stamps as usize;
+        let agreed = write(Cursors::of(run), rows, out, agreement(run[2]));
+        settle(out, rows, &agreed);
+    }
+    number
+}
+
+/// A place in a table: the row there is the next one.
+#[derive(Clone, Copy, Default)]
+struct Cursor<'a> {
+    table: &'a [u8],
+    index: usize,
+    rows: usize,
+}
+
+impl Cursor<'_> {
+    /// The stamp of its row, or a number above all stamps.
+    fn stamp(&self) -> u64 {
+        if self.index == self.rows {
+            return u64::MAX;
+        }
+        u64_at(self.table, HEADER_LENGTH + ROW_LENGTH * self.index)
+    }
+}
+
+/// A cursor for each used table. Those that are left over stand at the end of no rows.
+struct Cursors<'a>([Cursor<'a>; MOST_TABLES]);
+
+/// The rows of one stamp, each with the table that holds it.
+#[derive(Default)]
+struct Held<'a>([Option<(&'a [u8], Row)>; MOST_TABLES]);
+
+impl<'a> Cursors<'a> {
+    fn of(run: &'a [u8]) -> Cursors<'a> {
+        let newest = newest_view(run);
+        let used = Images(run).filter(|image| u32_at(image, 8) == newest);
+        let mut cursors = [Cursor::default(); MOST_TABLES];
+        for (cursor, table) in cursors.iter_mut().zip(used) {
+            cursor.table = table;
+            cursor.rows = u32_at(table, 4) as usize;
+        }
+        Cursors(cursors)
+    }
+}
+
+impl<'a> Iterator for Cursors<'a> {
+    type Item = (u64, Held<'a>);
+
+    /// The least stamp of all cursors, and those that stand there go on.
+    fn next(&mut self) -> Option<(u64, Held<'a>)> {
+        let stamps = self.0.map(|cursor| cursor.stamp());
+        let least = stamps.into_iter().fold(u64::MAX, u64::min);
+        if least == u64::MAX {
+            return None;
+        }
+        let mut held = Held::default();
+        for (place, cursor) in self.0.iter_mut().enumerate() {
+            if stamps[place] == least {
+                held.0[place] = Some((cursor.table, Row::read(cursor.table, cursor.index)));
+                cursor.index += 1;
+            }
+        }
+        Some((least, held))
+    }
+}
+
+impl<'a> Held<'a> {
+    fn rows(&self) -> impl Iterator<Item = (&'a [u8], &Row)> {
+        let held = self.0.iter().flatten();
+        held.map(|(table, row)| (*table, row))
+    }
+
+    fn state(&self) -> State {
+        let rows = self.rows();
+        rows.fold(State::default(), |state, (_, row)| state.with(row))
+    }
+
+    fn two_bodies(&self) -> bool {
+        let mut rows = self.rows();
+        let first = rows.next();
+        first.map_or(false, |first| rows.any(|other| !same_body(first, other)))
+    }
+
+    fn agreed(&self, agreement: usize) -> Option<(u8, u64)> {
+        let results = || self.rows().filter_map(|(_, row)| tentative(row));
+        let votes = |result| results().filter(|other| *other == result).count();
+        results().find(|result| votes(*result) >= agreement)
+    }
+}
+
+fn survey(cursors: Cursors) -> Survey {
+    let mut seen = Survey::default();
+    for (_, held) in cursors {
+        seen.bodies |= held.two_bodies();
+        seen.contradiction |= held.state().contradicts();
+        seen.stamps += 1;
+    }
+    seen
+}
+
+/// Which rows are agreed.
+type Agreed = [bool; MOST_ROWS as usize];
+
+/// All rows with their bodies, each in its place.
+fn write(cursors: Cursors, rows: usize, out: &mut [u8], agreement: usize) -> Agreed {
+    let mut are_agreed = [false; MOST_ROWS as usize];
+    let mut body_at = HEADER_LENGTH + ROW_LENGTH * rows;
+    for (index, (stamp, held)) in cursors.enumerate() {
+        let agreed = held.agreed(agreement);
+        are_agreed[index] = agreed.is_some();
+        if let Some((table, row)) = held.rows().next() {
+            let state = held.state();
+            let (prepare, retry) = unchecked(&state, || agreed);
+            let at = HEADER_LENGTH + ROW_LENGTH * index;
+            put_u64(out, at, stamp);
+            put_u64(out, at + 8, retry);
+            put_u32(out, at + 16, body_at as u32);
+            let codes = [row.reads, row.writes, prepare, state.outcome()];
+            out[at + 20..at + 24].copy_from_slice(&codes);
+            let body = row.body(table);
+            out[body_at..body_at + body.len()].copy_from_slice(body);
+            body_at += body.len();
+        }
+    }
+    put_u32(out, 4, rows as u32);
+    put_u32(out, 20, body_at as u32);
+    are_agreed
+}
+
+/// The checks: the agreed rows, then the open ones.
+fn settle(out: &mut [u8], rows: usize, agreed: &Agreed) {
+    for turn in [true, false] {
+        for index in (0..rows).filter(|index| agreed[*index] == turn) {
+            if waits(&Row::read(out, index)) {
+                check_row(out, rows, index);
+            }
+        }
+    }
+}
