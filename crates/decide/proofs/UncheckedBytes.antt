@@ -11,6 +11,7 @@ use Rattle.rules.specs.Tests.{both, any}
 use Rattle.rules.specs.Tables.{Result, Result.OK, Result.ABORT, Result.ABSTAIN, Result.RETRY, Prepare, Prepare.final, Verdict.commit, Verdict.abort, Outcome, Outcome.noOutcome, Outcome.noted, Outcome.done, Row, resultCode, prepareCode, prepareRetry, outcomeCode, resultByRule, retryByRule, rowByRule}
 use Rattle.rules.specs.Merge.{mergedOutcome, finalOf, agreedOf, holdsPrepare, Standing, Standing.hasNone, Standing.hasFinal, Standing.hasAgreed, Standing.hasOpen, standingFrom, standing, agreedPrepare, openPrepare, uncheckedPrepare}
 use Rattle.rules.proofs.Lists.{_∈_}
+use Rattle.rules.proofs.Merge.{unchecked-retry}
 use Rattle.rules.proofs.Standings.{NoneOrDone, outcome-cases, Says, standing-says}
 use Rattle.rules.proofs.Tables.{row-facts}
 use Rattle.rows.specs.Fields.{prepareNumbered, outcomeNumbered, retryByCode}
@@ -93,31 +94,6 @@ without-final agreement rs z = go (finalOf rs) refl
         rw e (ap (together (agreedAs (agreedOf agreement rs)) held) (state-outcome rs) ∙ not-final (agreedOf agreement rs) held (mergedOutcome rs) (merged-said rs))
 
 -- ---- they can be stored, and are read as what they say
-
-agreed-retry : (q : Result) (o : Outcome) → resultByRule q ≡ true → retryByRule (agreedPrepare q o) ≡ true
-unfolding retryByRule resultByRule
-agreed-retry OK noOutcome h = refl
-agreed-retry OK (noted v) h = refl
-agreed-retry OK (done v) h = refl
-agreed-retry ABORT o h = refl
-agreed-retry ABSTAIN o h = refl
-agreed-retry (RETRY t) o h = h
-
-open-retry : (o : Outcome) → retryByRule (openPrepare o) ≡ true
-unfolding retryByRule resultByRule
-open-retry noOutcome = refl
-open-retry (noted commit) = refl
-open-retry (noted abort) = refl
-open-retry (done commit) = refl
-open-retry (done abort) = refl
-
--- results come from rows by the rule
-unchecked-retry : (rs : List Row) → ((r : Row) → r ∈ rs → rowByRule r ≡ true) → (c : Standing) (o : Outcome) → Says rs c → retryByRule (uncheckedPrepare c o) ≡ true
-unfolding retryByRule
-unchecked-retry rs good hasNone o h = refl
-unchecked-retry rs good (hasFinal q) o (r, m, e) = ap retryByRule (sym e) ∙ row-facts r (good r m) .retry
-unchecked-retry rs good (hasAgreed q) o (r, m, e) = agreed-retry q o (ap retryByRule (sym e) ∙ row-facts r (good r m) .retry)
-unchecked-retry rs good hasOpen o h = open-retry o
 
 pub unchecked-codes : (agreement : ℕ) (rs : List Row) → ((r : Row) → r ∈ rs → rowByRule r ≡ true) → (uncheckedAs agreement rs .prepare ≤ 8) × (uncheckedAs agreement rs .outcome ≤ 4) × (retryByCode (uncheckedAs agreement rs .prepare) (uncheckedAs agreement rs .retry) ≡ true)
 unfolding uncheckedAs

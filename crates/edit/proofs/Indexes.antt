@@ -43,7 +43,7 @@ at-index (x ∷ xs) ys r change = ap (λ (z : List Row). x ∷ z) (at-index xs y
 -- ---- the row of a stamp
 
 -- rows above a stamp are not changed
-none-changed : (low s : ℕ) (change : Row → Row) (rows : List Row) → s ≤ low → rising low rows ≡ true → changed s change rows ≡ rows
+pub none-changed : (low s : ℕ) (change : Row → Row) (rows : List Row) → s ≤ low → rising low rows ≡ true → changed s change rows ≡ rows
 unfolding changed rising
 none-changed low s change [] l rise = refl
 none-changed low s change (r ∷ rows) l rise =

@@ -1,5 +1,5 @@
+pub mod RowsLaid
 pub mod RowsWritten
-pub mod BuffersWritten
 pub mod WritingRows
 pub mod MergedBuffers
 pub mod MergeCall

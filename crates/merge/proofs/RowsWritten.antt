@@ -1,72 +1,38 @@
--- The rows of a merge as they are written: one behind the other, each with the body of the first used table that holds it.
+-- The rows of a merge as they are before any check: each with the body of the first used table that holds its stamp.
 use mathlib.Core.Path.{_≡_, refl, sym, ap, _∙_}
-use mathlib.Core.Bool.{Bool, true, false}
-use mathlib.Core.Logic.{_⊎_, inl, inr}
+use mathlib.Core.Bool.{true}
 use mathlib.Core.List.{List, [], _∷_, _++_, map, List·Memᴰ·head, List·Memᴰ·tail, List·Memᴰ·not-nil, Memᴰ·of-map}
-use mathlib.Core.Option.{none}
-use Prim.Native.Nat.{ℕ, suc, _+_, _*_, _≤_, _<_, _^_}
+use Prim.Native.Nat.{ℕ, _+_, _*_, _≤_, _<_}
 use native.Mathlib.Omega.{arith}
-use lib.Dec.{ltb}
 use lib.ListN.{length, length-map}
-use borrow.Author.Tests.{ltb-true, lt-ltb, le-ltb, leb-true}
-use Rattle.rules.specs.Tests.{count, bit, isSome, kept, those}
-use Rattle.rules.specs.Stamps.{Body, countsByRule}
-use Rattle.rules.specs.Tables.{Row, Table, valley, rising, rowByRule}
-use Rattle.rules.specs.Messages.{held, added, withRows}
+use borrow.Author.Tests.{leb-true}
+use Rattle.wire.specs.Parts.{replaced}
+use Rattle.wire.specs.Numbers.{AllBytes}
+use Rattle.rules.specs.Stamps.{countsByRule}
+use Rattle.rules.specs.Tables.{Row, Table, valley, rowByRule}
 use Rattle.rules.specs.Merge.{rowsOf, stamps, bodyOf, standing, mergedOutcome, uncheckedPrepare, uncheckedRow, uncheckedRows}
 use Rattle.rules.proofs.Logic.{both-left, both-right}
-use Rattle.rules.proofs.Lists.{_∈_, every-one, those-of}
-use Rattle.rules.proofs.Rows.{not-held, rising-added}
+use Rattle.rules.proofs.Lists.{_∈_, every-one}
 use Rattle.rules.proofs.Stamps.{rows-from}
 use Rattle.rules.proofs.Merge.{some-row}
-use Rattle.rules.proofs.Tables.{Regular, row-facts}
+use Rattle.rules.proofs.Tables.{row-facts}
 use Rattle.rows.specs.declared.row.RowFields.{RowFields}
-use Rattle.rows.specs.declared.lookup.Place.the-variants.{Absent}
-use Rattle.rows.specs.Fields.{withPrepareByte, withOutcomeByte, fieldsAt, prepareNumbered, outcomeNumbered, retryByCode}
-use Rattle.rows.specs.Places.{lower, heldOrNot, placeOf}
-use Rattle.rows.specs.Read.{rowOf, bodyAt}
-use Rattle.rows.specs.Rows.{sizeOf, BodyInside}
-use Rattle.rows.proofs.Bodies.{length-accessesAt}
-use Rattle.edit.specs.Changes.{Storable, adding}
-use Rattle.edit.specs.Edited.{Holds, edited}
+use Rattle.rows.specs.Bytes.{bodyBytes, lengthOf, bodiesLength, rowBytes}
+use Rattle.rows.specs.Fields.{withPrepareByte, withOutcomeByte, fieldsOf, fieldsBytes, retryByCode, prepareNumbered, outcomeNumbered}
+use Rattle.rows.specs.Read.{rowOf}
+use Rattle.rows.specs.Rows.{bodyPart}
+use Rattle.rows.proofs.Bodies.{length-body, body-part}
+use Rattle.rows.proofs.FieldsRead.{fields-of-row}
+use Rattle.table.specs.Images.{formatOne}
+use Rattle.table.specs.Parse.{tableAt}
 use Rattle.gather.specs.Held.{usedOf, placeIn, fieldsFor}
 use Rattle.gather.proofs.NextStamps.{AllRegular, used-regular}
 use Rattle.gather.proofs.UsedRows.{FirstHeld}
-use Rattle.gather.proofs.FirstImages.{first-fields, first-body, first-stamp, first-row}
-use Rattle.table.specs.Headers.{headerAt}
-use Rattle.table.specs.Parse.{tableAt}
-use Rattle.table.specs.Images.{formatOne}
+use Rattle.gather.proofs.FirstImages.{first-body, first-stamp, first-row}
 use Rattle.decide.specs.declared.unchecked.Unchecked.{Unchecked}
+use Rattle.merge.specs.Written.{rowLaid}
 use Rattle.decide.specs.Unsettled.{uncheckedAs}
 use Rattle.decide.proofs.UncheckedBytes.{unchecked-codes, unchecked-numbered}
-use Rattle.gather.proofs.StampsInTurn.{below}
-
--- ---- a row behind all others
-
-abbrev pub AllLower : ℕ → List Row → Type 0
-AllLower s rows = (r : Row) → r ∈ rows → r .stamp < s
-
-pub added-last : (r : Row) (rows : List Row) → AllLower (r .stamp) rows → added r rows ≡ rows ++ (r ∷ [])
-unfolding added
-added-last r [] h = refl
-added-last r (q ∷ rows) h =
-    let l : q .stamp < r .stamp = h q (List·Memᴰ·head refl) in
-    rw (le-ltb (r .stamp) (q .stamp) (omega arith)) (ap (λ (z : List Row). q ∷ z) (added-last r rows (λ p m. h p (List·Memᴰ·tail m))))
-
-lower-all : (s : ℕ) (rows : List Row) → AllLower s rows → lower rows s ≡ length rows
-unfolding lower count
-lower-all s [] h = refl
-lower-all s (r ∷ rows) h = let e = lower-all s rows (λ p m. h p (List·Memᴰ·tail m)) in rw (lt-ltb (r .stamp) s (h r (List·Memᴰ·head refl))) (omega (arith, e))
-
-absent-above : (s : ℕ) (rows : List Row) → AllLower s rows → held rows s ≡ none
-absent-above s rows h = not-held rows s (λ r m e. let l = h r m in absurd (omega arith))
-
-pub place-last : (s : ℕ) (rows : List Row) → AllLower s rows → placeOf rows s ≡ Absent (length rows)
-unfolding placeOf
-place-last s rows h = rw (absent-above s rows h, lower-all s rows h) refl
-
-pub rising-last : (r : Row) (rows : List Row) → 0 < r .stamp → AllLower (r .stamp) rows → rising 0 rows ≡ true → rising 0 (added r rows) ≡ true
-rising-last r rows l h rise = rising-added r 0 rows l (absent-above (r .stamp) rows h) rise
 
 -- ---- the rows of these stamps
 
@@ -84,30 +50,62 @@ rows-for-last agreement Ts (t ∷ ss) s = ap (λ (z : List Row). uncheckedRow ag
 pub rows-for-length : (agreement : ℕ) (Ts : List Table) (ss : List ℕ) → length (rowsFor agreement Ts ss) ≡ length ss
 rows-for-length agreement Ts ss = length-map ss (λ s. uncheckedRow agreement s (rowsOf Ts s))
 
-rows-for-stamp : (agreement : ℕ) (Ts : List Table) (s : ℕ) → uncheckedRow agreement s (rowsOf Ts s) .stamp ≡ s
+-- ---- their bodies are small
+
+abbrev Small : List Row → Type 0
+Small rows = (r : Row) → r ∈ rows → lengthOf (r .body) ≤ 72
+
+bodies-most : (rows : List Row) → Small rows → bodiesLength rows ≤ 72 * length rows
+unfolding bodiesLength
+bodies-most [] h = omega arith
+bodies-most (r ∷ rows) h =
+    let l = h r (List·Memᴰ·head refl) in
+    let k = bodies-most rows (λ q m. h q (List·Memᴰ·tail m)) in
+    omega arith
+
+body-most : (r : Row) → rowByRule r ≡ true → lengthOf (r .body) ≤ 72
+unfolding countsByRule
+body-most r h =
+    let c = row-facts r h .counts in
+    let a : length (r .body .reads) ≤ 4 = leb-true _ _ (both-left _ _ c) in
+    let b : length (r .body .writes) ≤ 4 = leb-true _ _ (both-left _ _ (both-right _ _ c)) in
+    omega arith
+
+unchecked-body : (agreement s : ℕ) (rs : List Row) → uncheckedRow agreement s rs .body ≡ bodyOf rs
 unfolding uncheckedRow
-rows-for-stamp agreement Ts s = refl
+unchecked-body agreement s rs = refl
 
-pub rows-for-lower : (agreement : ℕ) (Ts : List Table) (x : ℕ) (ss : List ℕ) → AllLower x (rowsFor agreement Ts (below x ss))
-unfolding below
-rows-for-lower agreement Ts x ss r m =
-    let (s, n, e) = Memᴰ·of-map (λ s. uncheckedRow agreement s (rowsOf Ts s)) (below x ss) m in
-    let l : s < x = ltb-true s x (those-of (λ t. ltb t x) ss s n .1) in
-    rw (← e, rows-for-stamp agreement Ts s) l
+module _ (agreement : ℕ) (Ts : List Table) (all : AllRegular Ts) where
+  body-small : (s : ℕ) → s ∈ stamps Ts → lengthOf (uncheckedRow agreement s (rowsOf Ts s) .body) ≤ 72
+  body-small s m = rw (unchecked-body agreement s (rowsOf Ts s)) (go (rowsOf Ts s) (some-row agreement Ts all s m) (λ r n. rows-from Ts s r n))
+    where
+      go : (rs : List Row) → (r : Row) × (r ∈ rs) → ((r : Row) → r ∈ rs → (T : Table) × (T ∈ Ts) × (r ∈ T .rows) × (r .stamp ≡ s)) → lengthOf (bodyOf rs) ≤ 72
+      go [] (r, n) from = absurd (List·Memᴰ·not-nil n)
+      go (q ∷ rs) k from =
+          let (T, n, i, e) = from q (List·Memᴰ·head refl) in
+          body-most q (every-one rowByRule (T .rows) (all T n .rows) q i)
 
--- every stamp of the tables has a row
-pub some-held : (agreement : ℕ) (Ts : List Table) → AllRegular Ts → (s : ℕ) → s ∈ stamps Ts → 0 < length (rowsOf Ts s)
-some-held agreement Ts all s m = go (rowsOf Ts s) (some-row agreement Ts all s m)
-  where
-    go : (rs : List Row) → (r : Row) × (r ∈ rs) → 0 < length rs
-    go [] (r, n) = absurd (List·Memᴰ·not-nil n)
-    go (q ∷ rs) k = omega arith
+  -- of some stamps of the tables
+  pub bodies-small : (ss : List ℕ) → ((s : ℕ) → s ∈ ss → s ∈ stamps Ts) → bodiesLength (rowsFor agreement Ts ss) ≤ 72 * length ss
+  bodies-small ss among = rw (rows-for-length agreement Ts ss) at (bodies-most (rowsFor agreement Ts ss) (λ r m. small r m))
+    where
+      small : (r : Row) → r ∈ rowsFor agreement Ts ss → lengthOf (r .body) ≤ 72
+      small r m =
+          let (s, n, e) = Memᴰ·of-map (λ s. uncheckedRow agreement s (rowsOf Ts s)) ss m in
+          rw (← e) (body-small s (among s n))
 
--- ---- the row that is added for a stamp: `first` is the first used image that holds it, and f are the fields that were read there
+  pub bodies-all : bodiesLength (uncheckedRows agreement Ts) ≤ 72 * length (stamps Ts)
+  bodies-all = rw (rows-for-all agreement Ts) at (bodies-small (stamps Ts) (λ s m. m))
 
--- one row's fields with the state u
-abbrev pub fieldsWith : RowFields → Unchecked → RowFields
-fieldsWith f u = withOutcomeByte (withPrepareByte f (u .prepare) (u .retry)) (u .outcome)
+-- ---- the row of a stamp as it is written: `first` is the first used image that holds it, and f are the fields that were read there
+
+-- these fields with the state u, and the body at `due`
+abbrev pub fieldsDue : RowFields → Unchecked → ℕ → RowFields
+fieldsDue f u due = record { stamp = f .stamp; retry = u .retry; offset = due; reads = f .reads; writes = f .writes; prepare = u .prepare; outcome = u .outcome }
+
+-- the same where the body is
+abbrev fieldsWith : RowFields → Unchecked → RowFields
+fieldsWith f u = fieldsDue f u (f .offset)
 
 row-as-read : (first : List ℕ) (f : RowFields) (p t o agreement s : ℕ) (others : List Row) →
     f .stamp ≡ s →
@@ -116,50 +114,47 @@ row-as-read : (first : List ℕ) (f : RowFields) (p t o agreement s : ℕ) (othe
 unfolding rowOf uncheckedRow
 row-as-read first f p t o agreement s others e (a, b) = rw (a, b, e) refl
 
-counts-of : (first : List ℕ) (f : RowFields) → rowByRule (rowOf first f) ≡ true → countsByRule (f .reads) (f .writes) ≡ true
-unfolding rowOf bodyAt
-counts-of first f h = rw (length-accessesAt, length-accessesAt) at (row-facts (rowOf first f) h .counts)
+offset-alone : (f : RowFields) (u : Unchecked) (due : ℕ) (r : Row) → fieldsOf (f .offset) r ≡ fieldsWith f u → fieldsOf due r ≡ fieldsDue f u due
+unfolding fieldsOf
+offset-alone f u due r e = ap (λ (x : RowFields). record { stamp = x .stamp; retry = x .retry; offset = due; reads = x .reads; writes = x .writes; prepare = x .prepare; outcome = x .outcome }) e
 
 module _ (newest stamp : ℕ) (Ts : List Table) (s t : List ℕ) (regular : AllRegular Ts) (held : FirstHeld newest stamp Ts s t) (first : List ℕ) (same : first ≡ t) (f : RowFields) (told : f ≡ fieldsFor first (placeIn newest (tableAt formatOne first) stamp)) (agreement : ℕ) (u : Unchecked) (state : u ≡ uncheckedAs agreement (rowsOf (usedOf newest Ts) stamp)) where
+  abbrev the-row : Row
+  the-row = uncheckedRow agreement stamp (rowsOf (usedOf newest Ts) stamp)
+
   rows-rule : (r : Row) → r ∈ rowsOf (usedOf newest Ts) stamp → rowByRule r ≡ true
   rows-rule r m =
       let (T, n, k, e) = rows-from (usedOf newest Ts) stamp r m in
       every-one rowByRule (T .rows) (used-regular newest Ts regular T n .rows) r k
 
-  -- it is the row of `rules`
-  pub row-added : rowOf first (fieldsWith f u) ≡ uncheckedRow agreement stamp (rowsOf (usedOf newest Ts) stamp)
-  row-added =
+  row-read : rowOf first (fieldsWith f u) ≡ the-row
+  row-read =
       let r = first-row newest stamp Ts s t held first same f told in
       let n = unchecked-numbered agreement (rowsOf (usedOf newest Ts) stamp) in
       rw (state, r) (row-as-read first f _ _ _ agreement stamp (held .others) (first-stamp newest stamp Ts s t held first same f told) (rw r at n))
 
-  counts-told : countsByRule (f .reads) (f .writes) ≡ true
-  counts-told = counts-of first f (rows-rule (rowOf first f) (rw (first-row newest stamp Ts s t held first same f told) (List·Memᴰ·head refl)))
+  codes : (u .prepare ≤ 8) × (u .outcome ≤ 4) × (retryByCode (u .prepare) (u .retry) ≡ true)
+  codes = rw state (unchecked-codes agreement (rowsOf (usedOf newest Ts) stamp) rows-rule)
 
-  pub row-storable : Storable (fieldsWith f u)
-  row-storable = let (p, o, r) = unchecked-codes agreement (rowsOf (usedOf newest Ts) stamp) rows-rule in rw state (counts-told, p, o, r)
+  -- its fields are those of the row of `rules`
+  pub row-written : (due : ℕ) → fieldsBytes (fieldsDue f u due) ≡ rowBytes due the-row
+  unfolding rowBytes
+  row-written due =
+      let e : fieldsOf (f .offset) the-row ≡ fieldsWith f u = ap (fieldsOf (f .offset)) (sym row-read) ∙ fields-of-row first (fieldsWith f u) (codes .0) (codes .1) (codes .2) in
+      ap fieldsBytes (sym (offset-alone f u due the-row e))
 
-  pub row-size : sizeOf (fieldsWith f u) ≤ 72
-  unfolding countsByRule
-  row-size =
-      let r : f .reads ≤ 4 = leb-true _ _ (both-left _ _ counts-told) in
-      let w : f .writes ≤ 4 = leb-true _ _ (both-left _ _ (both-right _ _ counts-told)) in
-      omega arith
+  -- and its body is that row's
+  pub body-written : bodyPart first f ≡ bodyBytes (the-row .body)
+  body-written =
+      let bytes : AllBytes first = rw same (held .bytes) in
+      let inside = first-body newest stamp Ts s t held first same f told in
+      let r = first-row newest stamp Ts s t held first same f told in
+      let b : the-row .body ≡ rowOf first f .body = unchecked-body agreement stamp (rowsOf (usedOf newest Ts) stamp) ∙ ap bodyOf r in
+      body-part first f bytes inside ∙ ap bodyBytes (sym b)
 
-  pub row-body : BodyInside first (fieldsWith f u)
-  row-body = first-body newest stamp Ts s t held first same f told
+  pub body-long : length (bodyPart first f) ≡ lengthOf (the-row .body)
+  body-long = ap length body-written ∙ length-body (the-row .body)
 
-  pub row-stamp : fieldsWith f u .stamp ≡ stamp
-  row-stamp = first-stamp newest stamp Ts s t held first same f told
-
-  -- a row with these fields may be added to a table that has room, behind rows with lower stamps
-  module _ (row : RowFields) (given : row ≡ fieldsWith f u) (out : List ℕ) where
-    pub add-ready : (index : ℕ) → Holds formatOne out × (rising 0 (tableAt formatOne out .rows) ≡ true) × (placeOf (tableAt formatOne out .rows) stamp ≡ Absent index) → (headerAt out .rows < 512) × (headerAt out .length + 96 ≤ length out) × (headerAt out .length + 96 < 4294967296) →
-        (Holds formatOne out × (rising 0 (tableAt formatOne out .rows) ≡ true) × (placeOf (tableAt formatOne out .rows) (row .stamp) ≡ Absent index)) × ((Storable row × BodyInside first row) × ((headerAt out .rows < 65536) × (headerAt out .length + 24 + sizeOf row ≤ length out) × (headerAt out .length + 24 + sizeOf row < 4294967296)))
-    add-ready index (h, rise, place) (few, long, short) =
-        let size = row-size in
-        let at : placeOf (tableAt formatOne out .rows) (fieldsWith f u .stamp) ≡ Absent index = rw row-stamp place in
-        rw given ((h, rise, at), ((row-storable, row-body), (omega arith, omega arith, omega arith)))
-
-    pub add-done : edited formatOne (adding (rowOf first row)) out ≡ edited formatOne (adding (uncheckedRow agreement stamp (rowsOf (usedOf newest Ts) stamp))) out
-    add-done = ap (λ r. edited formatOne (adding r) out) (ap (rowOf first) given ∙ row-added)
+  -- both written
+  pub stamp-laid : (out : List ℕ) (index due : ℕ) (row : RowFields) (body : List ℕ) → row ≡ fieldsDue f u due → body ≡ bodyPart first f → replaced (replaced out (24 + 24 * index) (fieldsBytes row)) due body ≡ rowLaid out index due the-row
+  stamp-laid out index due row body e b = rw (e, b, row-written due, body-written) refl

@@ -2,11 +2,11 @@
 use mathlib.Core.Bool.{true, cond}
 use mathlib.Core.List.{List, [], _∷_}
 use mathlib.Core.Option.{Option, none, some}
-use Prim.Native.Nat.{ℕ, _%_}
+use Prim.Native.Nat.{ℕ}
 use lib.Dec.{eqb}
 use lib.ListN.{length}
 use Rattle.wire.specs.Parts.{replaced}
-use Rattle.rules.specs.Tables.{Model, Table, normalMode}
+use Rattle.rules.specs.Tables.{Model, Table}
 use Rattle.rules.specs.Numbers.{Number.smallBuffer, Number.badTable, Circumstance, number}
 use Rattle.rules.specs.Circumstances.{tooSmall}
 use Rattle.rules.specs.Check.{check}
@@ -29,7 +29,3 @@ callNumber M run v out = number (callCircumstances M run v out)
 -- "Refusals keep the table or merge output"; "Output bytes past the image stay."
 unfoldable pub callOutput : Model → List ℕ → ℕ → List ℕ → List ℕ
 callOutput M run v out = cond (eqb (callNumber M run v out) 0) (replaced out 0 (image formatOne (mergedTable check v (orNone (runTables M run))))) out
-
--- a table that starts a view with so many rows, while it has none yet
-abbrev pub beginning : ℕ → ℕ → ℕ → Table
-beginning n v rows = record { box = v % n; n = n; mode = normalMode; view = v; promised = v; start = rows; rows = [] }

@@ -9,46 +9,46 @@ use table::header;
 use table::header::Header;
 use table::model::Model;
 ghost use mathlib.Core.Path.{_≡_};
-ghost use mathlib.Core.Bool.{false};
 ghost use Prim.Native.Nat.{_≤_, _<_};
 ghost use lib.ListN.{length};
 ghost use Rattle.wire.specs.Parts.{replaced};
 ghost use Rattle.rules.specs.Tables.{valley};
 ghost use Rattle.rules.specs.Check.{check};
-ghost use Rattle.rules.specs.Merge.{areWrong, used, stamps, mergedTable};
-ghost use Rattle.table.specs.Images.{formatOne, headerOf, image};
+ghost use Rattle.rules.specs.Merge.{used, stamps, mergedTable};
+ghost use Rattle.table.specs.Images.{formatOne, image};
 ghost use Rattle.run.specs.Runs.{tablesOf, Images};
 ghost use Rattle.gather.specs.Held.{usedOf};
-ghost use Rattle.merge.specs.Calls.{callNumber, callOutput, beginning};
+ghost use Rattle.merge.specs.Calls.{callNumber, callOutput};
+ghost use Rattle.merge.specs.Written.{startHeader};
 
-// The header of a table that starts a view with so many rows, while it has none yet.
-fn first_header(n: u8, view: u32, rows: u32) -> Header
+// The header of a table of so many rows that starts a view.
+fn start_header(n: u8, view: u32, rows: u32, length: u32) -> Header
     requires { ⌜ 0 < n ⌝ }
-    ensures { λ r. ⌜ r ≡ headerOf formatOne (beginning n view rows) ⌝ }
+    ensures { λ r. ⌜ r ≡ startHeader n view rows length ⌝ }
 {
     Header {
         format: header::FORMAT_ONE,
         boxnumber: (view % (n as u32)) as u8,
         n,
         mode: 0,
-        rows: 0,
+        rows,
         view,
         promised: view,
         start: rows,
-        length: 24,
+        length,
     }
 }
 
-// Writes the merged table of a run that is not refused: rows as they are before any check, then the agreed ones that wait are checked, then the open ones.
-fn write_merged(out: &mut [u8], run: &[u8], view: u32, newest: u32, rows: u32)
+// Writes the merged table of a run that is not refused: rows as they are before any check, and the header; then the agreed ones that wait are checked, then the open ones.
+fn write_merged(out: &mut [u8], run: &[u8], view: u32, newest: u32, rows: usize)
     requires { ⌜ Images valley (now run) × (0 < length (now run)) × (49176 ≤ length (now out)) ⌝ }
-    requires { ⌜ (areWrong view (tablesOf valley (now run)) ≡ false) × (usedOf newest (tablesOf valley (now run)) ≡ used (tablesOf valley (now run))) × (rows ≡ length (stamps (used (tablesOf valley (now run))))) × (rows ≤ 512) ⌝ }
+    requires { ⌜ (usedOf newest (tablesOf valley (now run)) ≡ used (tablesOf valley (now run))) × (rows ≡ length (stamps (used (tablesOf valley (now run))))) × (rows ≤ 512) ⌝ }
     ensures { λ _. ⌜ now (out .exit) ≡ replaced (now (out .entry)) 0 (image formatOne (mergedTable check view (tablesOf valley (now (run .entry))))) ⌝ }
 {
     let n = header::read(run).n;
     let agreement = counts::agreement(n);
-    header::write(out, first_header(n, view, rows));
-    write::write_rows(out, run, newest, agreement);
+    let end = write::write_rows(out, run, newest, agreement, rows);
+    header::write(out, start_header(n, view, rows as u32, end as u32));
     settle::check_rows(out, run, newest, agreement, false);
     settle::check_rows(out, run, newest, agreement, true);
 }
@@ -72,7 +72,7 @@ pub fn merge(run: &[u8], view: u32, out: &mut [u8]) -> u8
     let seen = survey::survey_stamps(run, newest);
     let number = seen.number(model.limit);
     if number == 0 {
-        write_merged(out, run, view, newest, seen.stamps as u32);
+        write_merged(out, run, view, newest, seen.stamps);
     }
     number
 }

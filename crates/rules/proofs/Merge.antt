@@ -16,7 +16,7 @@ use Rattle.rules.specs.Stamps.{isStamp, countsByRule, contentsByRule}
 use Rattle.rules.specs.Tables.{Result, Result.OK, Result.ABORT, Result.ABSTAIN, Result.RETRY, Prepare, Prepare.noPrepare, Prepare.final, Verdict, Verdict.commit, Verdict.abort, Outcome, Outcome.noOutcome, Outcome.noted, Outcome.done, prepareCode, outcomeCode, resultByRule, retryByRule, somethingHeld, Row, rowByRule, rising, Model, Table, normalMode, modeByRule, tableByRule}
 use Rattle.rules.specs.Messages.{Check, held, changed, withPrepare}
 use Rattle.rules.specs.Circumstances.{settled, startsView}
-use Rattle.rules.specs.Merge.{used, stamps, rowsOf, mergedOutcome, Standing, Standing.hasNone, Standing.hasFinal, Standing.hasAgreed, Standing.hasOpen, standing, uncheckedPrepare, bodyOf, uncheckedRow, uncheckedRows, amongAgreed, amongOpen, toCheck, isSettled, checkedAt, checkedInTurn, mergedRows, groupOf, mergedTable, mergeNumber, merge}
+use Rattle.rules.specs.Merge.{used, stamps, rowsOf, mergedOutcome, Standing, Standing.hasNone, Standing.hasFinal, Standing.hasAgreed, Standing.hasOpen, standing, agreedPrepare, openPrepare, uncheckedPrepare, bodyOf, uncheckedRow, uncheckedRows, amongAgreed, amongOpen, toCheck, isSettled, checkedAt, checkedInTurn, mergedRows, groupOf, mergedTable, mergeNumber, merge}
 use Rattle.rules.proofs.Logic.{impossible, both-true, either-first, eqb-self}
 use Rattle.rules.proofs.Lists.{_∈_, every-one, all-every, those-of, in-those, in-all}
 use Rattle.rules.proofs.Check.{CheckByRule}
@@ -144,24 +144,32 @@ module _ (check : Check) (checks : CheckByRule check) where
 
 -- ---- the rows before the checks
 
-module _ (agreement s : ℕ) (rs : List Row) (good : (r : Row) → r ∈ rs → (rowByRule r ≡ true) × (r .stamp ≡ s)) where
-  -- results come from rows by the rule
-  unchecked-retry : (c : Standing) (o : Outcome) → Says rs c → retryByRule (uncheckedPrepare c o) ≡ true
-  unfolding retryByRule resultByRule
-  unchecked-retry hasNone o h = refl
-  unchecked-retry (hasFinal q) o (r, m, e) = ap retryByRule (sym e) ∙ row-facts r (good r m .0) .retry
-  unchecked-retry (hasAgreed OK) noOutcome h = refl
-  unchecked-retry (hasAgreed OK) (noted v) h = refl
-  unchecked-retry (hasAgreed OK) (done v) h = refl
-  unchecked-retry (hasAgreed ABORT) o h = refl
-  unchecked-retry (hasAgreed ABSTAIN) o h = refl
-  unchecked-retry (hasAgreed (RETRY t)) o (r, m, e) = ap retryByRule (sym e) ∙ row-facts r (good r m .0) .retry
-  unchecked-retry hasOpen noOutcome h = refl
-  unchecked-retry hasOpen (noted commit) h = refl
-  unchecked-retry hasOpen (noted abort) h = refl
-  unchecked-retry hasOpen (done commit) h = refl
-  unchecked-retry hasOpen (done abort) h = refl
+agreed-retry : (q : Result) (o : Outcome) → resultByRule q ≡ true → retryByRule (agreedPrepare q o) ≡ true
+unfolding retryByRule resultByRule
+agreed-retry OK noOutcome h = refl
+agreed-retry OK (noted v) h = refl
+agreed-retry OK (done v) h = refl
+agreed-retry ABORT o h = refl
+agreed-retry ABSTAIN o h = refl
+agreed-retry (RETRY t) o h = h
 
+open-retry : (o : Outcome) → retryByRule (openPrepare o) ≡ true
+unfolding retryByRule resultByRule
+open-retry noOutcome = refl
+open-retry (noted commit) = refl
+open-retry (noted abort) = refl
+open-retry (done commit) = refl
+open-retry (done abort) = refl
+
+-- results come from rows by the rule
+pub unchecked-retry : (rs : List Row) → ((r : Row) → r ∈ rs → rowByRule r ≡ true) → (c : Standing) (o : Outcome) → Says rs c → retryByRule (uncheckedPrepare c o) ≡ true
+unfolding retryByRule
+unchecked-retry rs good hasNone o h = refl
+unchecked-retry rs good (hasFinal q) o (r, m, e) = ap retryByRule (sym e) ∙ row-facts r (good r m) .retry
+unchecked-retry rs good (hasAgreed q) o (r, m, e) = agreed-retry q o (ap retryByRule (sym e) ∙ row-facts r (good r m) .retry)
+unchecked-retry rs good hasOpen o h = open-retry o
+
+module _ (agreement s : ℕ) (rs : List Row) (good : (r : Row) → r ∈ rs → (rowByRule r ≡ true) × (r .stamp ≡ s)) where
   -- it holds something, or it waits among the agreed or the open
   abbrev ToCome : Standing → Outcome → Type 0
   ToCome c o = (somethingHeld (uncheckedPrepare c o) o ≡ true) ⊎ ((both (amongAgreed c) (not (somethingHeld (uncheckedPrepare c o) o)) ≡ true) ⊎ (both (amongOpen c) (not (somethingHeld (uncheckedPrepare c o) o)) ≡ true))
@@ -226,7 +234,7 @@ module _ (agreement : ℕ) (Ts : List Table) (rules : (T : Table) → T ∈ Ts �
       record {
         stamp = a;
         counts = b;
-        retry = unchecked-retry agreement s (rowsOf Ts s) (rows-rule s) (standing agreement (rowsOf Ts s)) (mergedOutcome (rowsOf Ts s)) says;
+        retry = unchecked-retry (rowsOf Ts s) (λ r m. rows-rule s r m .0) (standing agreement (rowsOf Ts s)) (mergedOutcome (rowsOf Ts s)) says;
         contents = c;
         waits = go (outcome-cases (rowsOf Ts s)) q i says;
       }

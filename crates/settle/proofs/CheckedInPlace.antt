@@ -21,7 +21,6 @@ use Rattle.rows.specs.Bytes.{bodiesLength}
 use Rattle.rows.specs.Fields.{fieldsAt, fieldsOf, resultNumbered, prepareNumbered, verdictNumbered, outcomeNumbered, retryByCode}
 use Rattle.rows.specs.Read.{bodyAt, rowOf, rowsAt}
 use Rattle.rows.specs.Rows.{BodyInside, RowsInside, bodyPart}
-use Rattle.rows.proofs.Codes.{prepare-code-limit, outcome-code-limit}
 use Rattle.rows.proofs.Turns.{body-of-part}
 use Rattle.table.specs.Headers.{headerAt}
 use Rattle.table.specs.Images.{formatOne, imageLength}
@@ -60,11 +59,6 @@ module _ (s : List ℕ) (a : AllBytes s) (h : Holds formatOne s) (i : ℕ) (l : 
       let n : bodiesLength (tableAt formatOne s .rows) ≡ bodiesLength (t .before) + bodiesLength (t .row ∷ t .behind) = ap bodiesLength (t .is) ∙ bodies-length-joined (t .before) (t .row ∷ t .behind) in
       let k : imageLength formatOne (tableAt formatOne s) ≤ length s = holds-long formatOne s one-starts h in
       rw fields-there (omega arith)
-
-  -- codes of the list
-  pub codes-there : (fieldsAt s (24 + 24 * i) .prepare ≤ 8) × (fieldsAt s (24 + 24 * i) .outcome ≤ 4)
-  unfolding fieldsOf
-  codes-there = let r = there .row in rw fields-there (prepare-code-limit (r .prepare), outcome-code-limit (r .outcome))
 
 pub rows-there : (s : List ℕ) → AllBytes s → Holds formatOne s → RowsInside s 24 (headerAt s .rows)
 rows-there s a h =

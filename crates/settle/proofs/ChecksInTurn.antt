@@ -29,7 +29,7 @@ use Rattle.rows.specs.Fields.{fieldsAt, prepareNumbered, resultNumbered, retryB
 use Rattle.rows.specs.Read.{rowOf, rowsAt}
 use Rattle.table.specs.Images.{formatOne, imageLength}
 use Rattle.edit.specs.Changes.{atIndex}
-use Rattle.edit.proofs.Indexes.{at-index}
+use Rattle.edit.proofs.Indexes.{at-index, none-changed}
 use Rattle.checks.specs.Given.{checkedAs}
 use Rattle.gather.proofs.NextStamps.{AllRegular, stamps-stamped}
 use Rattle.settle.specs.Turns.{hasStamp, waits, checkedBy, checkedRows}
@@ -312,13 +312,6 @@ turnsFrom isOpen agreement Ts rows i = map (λ (r : Row). r .stamp) (those (wait
 
 drop-past : (xs ys : List Row) (r : Row) (i : ℕ) → length xs ≡ i → drop (i + 1) (xs ++ (r ∷ ys)) ≡ ys
 drop-past xs ys r i e = rw (← e) (drop-append-add xs (r ∷ ys) 1)
-
-none-changed : (low s : ℕ) (change : Row → Row) (rows : List Row) → s ≤ low → rising low rows ≡ true → changed s change rows ≡ rows
-unfolding changed rising
-none-changed low s change [] l rise = refl
-none-changed low s change (r ∷ rows) l rise =
-    let m : low < r .stamp = ltb-true low (r .stamp) (both-left _ _ rise) in
-    rw (ne-eqb (r .stamp) s (λ e. absurd (omega arith)), none-changed (r .stamp) s change rows (omega arith) (both-right _ _ rise))
 
 changed-there : (low : ℕ) (change : Row → Row) (xs ys : List Row) (r : Row) → rising low (xs ++ (r ∷ ys)) ≡ true → changed (r .stamp) change (xs ++ (r ∷ ys)) ≡ xs ++ (change r ∷ ys)
 unfolding changed rising

@@ -50,7 +50,7 @@ fn row_waits(
     agreement: usize,
     unagreed: bool,
 ) -> bool
-    requires { ⌜ Images valley (now run) × (24 + 24 * index + 24 ≤ length (now out)) × (fieldsAt (now out) (24 + 24 * index) .prepare ≤ 8) × (fieldsAt (now out) (24 + 24 * index) .outcome ≤ 4) ⌝ }
+    requires { ⌜ Images valley (now run) × (24 + 24 * index + 24 ≤ length (now out)) ⌝ }
     ensures { λ r. ⌜ r ≡ waits unagreed agreement (usedOf newest (tablesOf valley (now (run .entry)))) (rowOf (now (out .entry)) (fieldsAt (now (out .entry)) (24 + 24 * index))) ⌝ }
 {
     let row = row::row_at(out, header::LENGTH, index);

@@ -1,5 +1,5 @@
 -- Laws of parts and of lists with a part replaced, each for every list, place and length.
-use mathlib.Core.Path.{_≡_, sym, ap, _∙_}
+use mathlib.Core.Path.{_≡_, refl, sym, ap, _∙_}
 use mathlib.Core.List.{List, [], _∷_, _++_, append-assoc}
 use Prim.Native.Nat.{ℕ, suc, _+_, _-_, _≤_, _<_}
 use native.Mathlib.Nat.{add-zero, zero-add}
@@ -84,7 +84,34 @@ replaced-before s at to xs ys e h =
     let f : at + length (xs ++ ys) ≡ to + length ys = simp length-append (omega arith) in
     rw (t, d, f, append-assoc xs ys r)
 
--- in a list that is put together, the piece in the middle is exchanged
+-- ---- two parts that do not meet may be written in either order
+
+-- a part put where it is
+pub replaced-same : (s : List ℕ) (at n : ℕ) → at + n ≤ length s → replaced s at (part s at n) ≡ s
+unfolding replaced
+replaced-same s at n h = rw (length-part s at n h, ← drop-drop n at s, take-append-drop n (drop at s), take-append-drop at s) refl
+
+pub replaced-apart : (s : List ℕ) (a b : ℕ) (xs ys : List ℕ) → a + length xs ≤ b → b + length ys ≤ length s → replaced (replaced s b ys) a xs ≡ replaced (replaced s a xs) b ys
+replaced-apart s a b xs ys l h =
+    let to : ℕ = a + length xs in
+    let between : List ℕ = part s (a + length xs) (b - (a + length xs)) in
+    let n : length (part s (a + length xs) (b - (a + length xs))) ≡ b - (a + length xs) = length-part s (a + length xs) (b - (a + length xs)) (omega arith) in
+    let m = length-replaced s b ys h in
+    let k = length-replaced s a xs (omega arith) in
+    let e : part (replaced s b ys) to (b - to) ≡ between = below-stays s b ys to (b - to) (omega arith) (omega arith) in
+    let f : part (replaced s a xs) to (b - to) ≡ between = ap (take (b - to)) (above-stays s a xs to (omega arith) (omega arith)) in
+    let left : replaced s b ys ≡ replaced s to (between ++ ys) = sym (rw e at (replaced-same (replaced s b ys) to (b - to) (omega arith))) ∙ replaced-before s to b between ys (omega arith) (omega arith) in
+    let right : replaced s a xs ≡ replaced s a (xs ++ between) = sym (rw f at (replaced-same (replaced s a xs) to (b - to) (omega arith))) ∙ replaced-joined s a to xs between (omega arith) refl in
+    let c = length-append xs (part s (a + length xs) (b - (a + length xs))) in
+    ap (λ z. replaced z a xs) left
+    ∙ replaced-before s a to xs (between ++ ys) refl (omega arith)
+    ∙ ap (replaced s a) (sym (append-assoc xs between ys))
+    ∙ sym (replaced-joined s a b (xs ++ between) ys (omega arith) (omega arith))
+    ∙ ap (λ z. replaced z b ys) (sym right)
+
+-- ---- in a list that is put together
+
+-- the piece in the middle is exchanged
 pub replaced-between : (p o q ws : List ℕ) (at : ℕ) → length p ≡ at → length o ≡ length ws → replaced (p ++ (o ++ q)) at ws ≡ p ++ (ws ++ q)
 unfolding replaced
 replaced-between p o q ws at e f =

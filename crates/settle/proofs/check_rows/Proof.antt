@@ -12,7 +12,7 @@ use Rattle.table.specs.Images.{formatOne}
 use Rattle.edit.proofs.Holding.{one-starts, holds-least, holds-row-inside}
 use Rattle.run.specs.Runs.{tablesOf}
 use Rattle.gather.specs.Held.{usedOf}
-use Rattle.settle.proofs.CheckedInPlace.{Turn, inside, codes-there, rows-begin, rows-passed, rows-checked, rows-end}
+use Rattle.settle.proofs.CheckedInPlace.{Turn, inside, rows-begin, rows-passed, rows-checked, rows-end}
 use Rattle.settle.proofs.check_rows.Statement.{statement}
 use Rattle.settle.proofs.check_rows.Tie as tie
 
@@ -39,8 +39,7 @@ row-waits-requires : tie.Need-row-waits-requires Inv-loop μ-loop
 row-waits-requires c κs =
     let t = (c .before .before) .loop .inv .2 in
     let k = inside _ _ _ _ _ _ _ t ((c .before) .loop-test .taken) in
-    let codes = codes-there _ (t .bytes) (t .holds) _ k in
-    ((c .before .before .before .before .before .before .before .before) .pre .0, holds-row-inside formatOne _ _ one-starts (t .holds) k, codes .0, codes .1)
+    ((c .before .before .before .before .before .before .before .before) .pre .0, holds-row-inside formatOne _ _ one-starts (t .holds) k)
 
 check-row-requires : tie.Need-check-row-requires Inv-loop μ-loop
 check-row-requires c κs =

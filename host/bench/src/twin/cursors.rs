@@ -3,10 +3,10 @@
 
 use super::answer::TABLE_BYTES;
 use super::gather::{same_body, tentative, State};
-use super::merge::{check_row, put_header, unchecked, waits, Survey};
+use super::merge::{check_row, put_header, put_row, unchecked, waits, Survey};
 use super::run::{agreement, are_wrong, is_whole, newest_view, Images};
 use super::valid::{Row, MOST_ROWS};
-use super::{put_u32, put_u64, u32_at, u64_at, HEADER_LENGTH, ROW_LENGTH};
+use super::{u32_at, u64_at, HEADER_LENGTH, ROW_LENGTH};
 
 /// At most so many tables are a quorum.
 const MOST_TABLES: usize = 4;
@@ -25,9 +25,9 @@ pub fn merge(run: &[u8], view: u32, out: &mut [u8]) -> u8 {
     let seen = survey(Cursors::of(run));
     let number = seen.number();
     if number == 0 {
-        put_header(out, run[2], view, seen.stamps);
         let rows = seen.stamps as usize;
-        let agreed = write(Cursors::of(run), rows, out, agreement(run[2]));
+        let (agreed, end) = write(Cursors::of(run), rows, out, agreement(run[2]));
+        put_header(out, run[2], view, seen.stamps, end);
         settle(out, rows, &agreed);
     }
     number
@@ -129,30 +129,21 @@ fn survey(cursors: Cursors) -> Survey {
 /// Which rows are agreed.
 type Agreed = [bool; MOST_ROWS as usize];
 
-/// All rows with their bodies, each in its place.
-fn write(cursors: Cursors, rows: usize, out: &mut [u8], agreement: usize) -> Agreed {
+/// All rows with their bodies, each in its place; also where the last body ends.
+fn write(cursors: Cursors, rows: usize, out: &mut [u8], agreement: usize) -> (Agreed, usize) {
     let mut are_agreed = [false; MOST_ROWS as usize];
-    let mut body_at = HEADER_LENGTH + ROW_LENGTH * rows;
+    let mut due = HEADER_LENGTH + ROW_LENGTH * rows;
     for (index, (stamp, held)) in cursors.enumerate() {
         let agreed = held.agreed(agreement);
         are_agreed[index] = agreed.is_some();
         if let Some((table, row)) = held.rows().next() {
             let state = held.state();
             let (prepare, retry) = unchecked(&state, || agreed);
-            let at = HEADER_LENGTH + ROW_LENGTH * index;
-            put_u64(out, at, stamp);
-            put_u64(out, at + 8, retry);
-            put_u32(out, at + 16, body_at as u32);
             let codes = [row.reads, row.writes, prepare, state.outcome()];
-            out[at + 20..at + 24].copy_from_slice(&codes);
-            let body = row.body(table);
-            out[body_at..body_at + body.len()].copy_from_slice(body);
-            body_at += body.len();
+            due = put_row(out, index, due, [stamp, retry], codes, row.body(table));
         }
     }
-    put_u32(out, 4, rows as u32);
-    put_u32(out, 20, body_at as u32);
-    are_agreed
+    (are_agreed, due)
 }
 
 /// The checks: the agreed rows, then the open ones.

@@ -1,13 +1,12 @@
-//! The merge as the proved library makes it: a survey of all stamps decides, then each stamp's row is added to the output,
-//! and the rows that still wait are checked there.
+//! The merge as the proved library makes it: a survey of all stamps decides, then each stamp's row is written in its place
+//! with its body behind all rows, and the rows that still wait are checked there.
 
 use super::answer::{put_prepare, TABLE_BYTES};
 use super::check::{check, Transaction};
 use super::gather::{State, Used};
-use super::insert::add;
 use super::run::{agreement, are_wrong, is_whole, newest_view};
 use super::valid::{Row, MOST_ROWS};
-use super::{put_u32, put_u64, u32_at, ROW_LENGTH};
+use super::{put_u32, put_u64, u32_at, HEADER_LENGTH, ROW_LENGTH};
 
 const OK: u8 = 1;
 const FINAL_OK: u8 = 5;
@@ -32,8 +31,8 @@ pub fn merge(run: &[u8], view: u32, out: &mut [u8]) -> u8 {
     let number = seen.number();
     if number == 0 {
         let n = run[2];
-        put_header(out, n, view, seen.stamps);
-        write_rows(out, used, agreement(n));
+        let end = write_rows(out, used, agreement(n), seen.stamps as usize);
+        put_header(out, n, view, seen.stamps, end);
         check_rows(out, used, agreement(n), false);
         check_rows(out, used, agreement(n), true);
     }
@@ -71,35 +70,65 @@ fn survey(used: Used) -> Survey {
     seen
 }
 
-/// A table without rows yet, with which the view begins.
-pub(super) fn put_header(out: &mut [u8], n: u8, view: u32, start_rows: u32) {
+/// The header of a table of so many rows that ends there, with which the view begins.
+pub(super) fn put_header(out: &mut [u8], n: u8, view: u32, rows: u32, end: usize) {
     let box_number = (view % u32::from(n)) as u8;
     out[..4].copy_from_slice(&[1, box_number, n, 0]);
-    for (at, number) in [(4, 0), (8, view), (12, view), (16, start_rows), (20, 24)] {
-        put_u32(out, at, number);
+    let fields = [rows, view, view, rows, end as u32];
+    for (place, number) in fields.into_iter().enumerate() {
+        put_u32(out, 4 + 4 * place, number);
     }
 }
 
-fn write_rows(out: &mut [u8], used: Used, agreement: usize) {
-    let mut rows = 0;
+/// The rows of all stamps, as many as `rows`, with their bodies behind; returns where the last body ends.
+fn write_rows(out: &mut [u8], used: Used, agreement: usize, rows: usize) -> usize {
+    let mut due = HEADER_LENGTH + ROW_LENGTH * rows;
+    let mut index = 0;
     let mut next = used.next_stamp(0);
     while let Some(stamp) = next {
-        add_stamp(out, rows, used, stamp, agreement);
-        rows += 1;
+        due = write_stamp(out, index, due, used, stamp, agreement);
+        index += 1;
         next = used.next_stamp(stamp);
     }
+    due
 }
 
-fn add_stamp(out: &mut [u8], index: usize, used: Used, stamp: u64, agreement: usize) {
-    if let Some((first, held)) = used.first(stamp) {
-        let state = used.state(stamp);
-        let (prepare, retry) = unchecked(&state, || used.agreed(stamp, agreement));
-        let mut row = [0; ROW_LENGTH];
-        put_u64(&mut row, 0, stamp);
-        put_u64(&mut row, 8, retry);
-        row[20..].copy_from_slice(&[held.reads, held.writes, prepare, state.outcome()]);
-        add(out, index, &row, held.body(first));
-    }
+fn write_stamp(
+    out: &mut [u8],
+    index: usize,
+    due: usize,
+    used: Used,
+    stamp: u64,
+    agreement: usize,
+) -> usize {
+    let (first, held) = match used.first(stamp) {
+        Some(first) => first,
+        None => return due,
+    };
+    let state = used.state(stamp);
+    let (prepare, retry) = unchecked(&state, || used.agreed(stamp, agreement));
+    let codes = [held.reads, held.writes, prepare, state.outcome()];
+    put_row(out, index, due, [stamp, retry], codes, held.body(first))
+}
+
+/// A row in its place, and its body where it is due; returns where the next one is.
+pub(super) fn put_row(
+    out: &mut [u8],
+    index: usize,
+    due: usize,
+    stamps: [u64; 2],
+    codes: [u8; 4],
+    body: &[u8],
+) -> usize {
+    let at = HEADER_LENGTH + ROW_LENGTH * index;
+    let row = &mut out[at..at + ROW_LENGTH];
+    put_u64(row, 0, stamps[0]);
+    put_u64(row, 8, stamps[1]);
+    put_u32(row, 16, due as u32);
+    row[20..].copy_from_slice(&codes);
+    let end = due + body.len();
+    out[due..end].copy_from_slice(body);
+    end
 }
 
 /// The prepare byte and the retry stamp of a stamp's row; 0 and 0 if there is none, or if a check is still to come.

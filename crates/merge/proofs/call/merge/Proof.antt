@@ -65,17 +65,14 @@ survey-stamps-requires c κs = run-told valley _ (whole (c .before .before .befo
 number-requires : tie.Need-number-requires
 number-requires c κs = search needs
 
-cast-write-merged : tie.Need-cast-write-merged
-cast-write-merged c = let e = stamps-counted _ (now ((c .before .before .before .before .before .before .before .before .before .before .before .before .before .before .before) .args .out)) ((c .before .before .before .before .before .before .before .before .before .before .before .before .before .before .before) .args .view) (long (c .before .before .before .before .before .before .before .before .before .before)) (whole (c .before .before .before .before .before .before .before .before)) (right (c .before .before .before .before .before .before)) _ ((c .before .before .before .before .before) .newest-view .ensures) _ ((c .before .before .before .before) .survey-stamps .ensures) _ (counted (c .before .before .before)) in let l = stamps-few _ (now ((c .before .before .before .before .before .before .before .before .before .before .before .before .before .before .before) .args .out)) ((c .before .before .before .before .before .before .before .before .before .before .before .before .before .before .before) .args .view) (long (c .before .before .before .before .before .before .before .before .before .before)) (whole (c .before .before .before .before .before .before .before .before)) (right (c .before .before .before .before .before .before)) _ ((c .before .before .before .before .before) .newest-view .ensures) _ ((c .before .before .before .before) .survey-stamps .ensures) _ (counted (c .before .before .before)) ((c .before .before) .if4 .taken) in omega arith
-
 write-merged-requires : tie.Need-write-merged-requires
-write-merged-requires c κs = let r = run-told valley _ (whole (c .before .before .before .before .before .before .before .before)) in let e = stamps-counted _ (now ((c .before .before .before .before .before .before .before .before .before .before .before .before .before .before .before) .args .out)) ((c .before .before .before .before .before .before .before .before .before .before .before .before .before .before .before) .args .view) (long (c .before .before .before .before .before .before .before .before .before .before)) (whole (c .before .before .before .before .before .before .before .before)) (right (c .before .before .before .before .before .before)) _ ((c .before .before .before .before .before) .newest-view .ensures) _ ((c .before .before .before .before) .survey-stamps .ensures) _ (counted (c .before .before .before)) in let l = stamps-few _ (now ((c .before .before .before .before .before .before .before .before .before .before .before .before .before .before .before) .args .out)) ((c .before .before .before .before .before .before .before .before .before .before .before .before .before .before .before) .args .view) (long (c .before .before .before .before .before .before .before .before .before .before)) (whole (c .before .before .before .before .before .before .before .before)) (right (c .before .before .before .before .before .before)) _ ((c .before .before .before .before .before) .newest-view .ensures) _ ((c .before .before .before .before) .survey-stamps .ensures) _ (counted (c .before .before .before)) ((c .before .before) .if4 .taken) in ((r .0, r .2, long (c .before .before .before .before .before .before .before .before .before .before)), (right (c .before .before .before .before .before .before), used-is _ _ ((c .before .before .before .before .before) .newest-view .ensures), e, omega arith))
+write-merged-requires c κs = let r = run-told valley _ (whole (c .before .before .before .before .before .before .before)) in let e = stamps-counted _ (now ((c .before .before .before .before .before .before .before .before .before .before .before .before .before .before) .args .out)) ((c .before .before .before .before .before .before .before .before .before .before .before .before .before .before) .args .view) (long (c .before .before .before .before .before .before .before .before .before)) (whole (c .before .before .before .before .before .before .before)) (right (c .before .before .before .before .before)) _ ((c .before .before .before .before) .newest-view .ensures) _ ((c .before .before .before) .survey-stamps .ensures) _ (counted (c .before .before)) in let l = stamps-few _ (now ((c .before .before .before .before .before .before .before .before .before .before .before .before .before .before) .args .out)) ((c .before .before .before .before .before .before .before .before .before .before .before .before .before .before) .args .view) (long (c .before .before .before .before .before .before .before .before .before)) (whole (c .before .before .before .before .before .before .before)) (right (c .before .before .before .before .before)) _ ((c .before .before .before .before) .newest-view .ensures) _ ((c .before .before .before) .survey-stamps .ensures) _ (counted (c .before .before)) ((c .before) .if4 .taken) in ((r .0, r .2, long (c .before .before .before .before .before .before .before .before .before)), (used-is _ _ ((c .before .before .before .before) .newest-view .ensures), e, omega arith))
 
 same-length : tie.Need-same-length
 same-length c = search needs
 
 returns-4 : tie.Need-returns-4
-returns-4 c = kept-done _ (now ((c .before .before .before .before .before .before .before .before .before .before .before .before .before .before .before .before .before .before) .args .out)) ((c .before .before .before .before .before .before .before .before .before .before .before .before .before .before .before .before .before .before) .args .view) (long (c .before .before .before .before .before .before .before .before .before .before .before .before .before)) (whole (c .before .before .before .before .before .before .before .before .before .before .before)) (right (c .before .before .before .before .before .before .before .before .before)) _ ((c .before .before .before .before .before .before .before .before) .newest-view .ensures) _ ((c .before .before .before .before .before .before .before) .survey-stamps .ensures) _ (counted (c .before .before .before .before .before .before)) ((c .before .before .before .before .before) .if4 .taken) _ ((c .before .before) .write-merged .ensures)
+returns-4 c = kept-done _ (now ((c .before .before .before .before .before .before .before .before .before .before .before .before .before .before .before .before .before) .args .out)) ((c .before .before .before .before .before .before .before .before .before .before .before .before .before .before .before .before .before) .args .view) (long (c .before .before .before .before .before .before .before .before .before .before .before .before)) (whole (c .before .before .before .before .before .before .before .before .before .before)) (right (c .before .before .before .before .before .before .before .before)) _ ((c .before .before .before .before .before .before .before) .newest-view .ensures) _ ((c .before .before .before .before .before .before) .survey-stamps .ensures) _ (counted (c .before .before .before .before .before)) ((c .before .before .before .before) .if4 .taken) _ ((c .before .before) .write-merged .ensures)
 
 returns-5 : tie.Need-returns-5
 returns-5 c = kept-survey _ (now ((c .before .before .before .before .before .before .before .before .before .before .before .before .before) .args .out)) ((c .before .before .before .before .before .before .before .before .before .before .before .before .before) .args .view) (long (c .before .before .before .before .before .before .before .before)) (whole (c .before .before .before .before .before .before)) (right (c .before .before .before .before)) _ ((c .before .before .before) .newest-view .ensures) _ ((c .before .before) .survey-stamps .ensures) _ (counted (c .before)) (c .if4 .left)
@@ -93,7 +90,6 @@ merge-spec =
     newest-view-requires
     survey-stamps-requires
     number-requires
-    cast-write-merged
     write-merged-requires
     same-length
     returns-4
