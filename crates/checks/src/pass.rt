@@ -18,10 +18,10 @@ pub struct Checked {
     pub retry: u64,
 }
 
-// What the rows passed say: whether A holds of one, the greatest stamp that B holds of or 0, whether C holds of one.
+// What the rows passed say: the greatest stamp that B holds of or 0, whether A holds of one, whether C holds of one. The stamp stands first so that the two marks lie side by side: apart, each would drag its padding through every turn of the loop.
 pub struct Seen {
-    pub abort: bool,
     pub retry: u64,
+    pub abort: bool,
     pub abstain: bool,
 }
 
@@ -135,8 +135,8 @@ pub fn check(
     ensures { λ r. ⌜ r ≡ checkedAs (check (rowsAt (now (image .entry)) begin rows) stamp (bodyAt (now (body .entry)) 0 reads writes)) ⌝ }
 {
     let mut seen = Seen {
-        abort: false,
         retry: 0,
+        abort: false,
         abstain: false,
     };
     let mut i = rows;
