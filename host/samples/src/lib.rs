@@ -10,18 +10,21 @@
 //! - [`transactions`]: transactions that clash often
 //! - [`damage`]: images of many kinds, good and bad
 //! - [`message`]: messages to a box
+//! - [`parts`]: a test in parts that are worked out side by side
 //! - [`tally`]: how many samples of each kind were images
 
 pub mod damage;
 pub mod dice;
 pub mod field;
 pub mod message;
+pub mod parts;
 pub mod random;
 pub mod table;
 pub mod tally;
 pub mod transactions;
 
 pub use dice::Dice;
+pub use parts::side_by_side;
 pub use table::{Access, Row, Table};
 pub use tally::Tally;
 
