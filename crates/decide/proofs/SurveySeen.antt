@@ -2,7 +2,7 @@
 use mathlib.Core.Path.{_≡_, refl, sym, ap, _∙_}
 use mathlib.Core.Bool.{Bool, true, false}
 use mathlib.Core.Logic.{_⊎_, inl, inr}
-use mathlib.Core.List.{List, [], _∷_, _++_, List·Memᴰ·head, List·Memᴰ·not-nil}
+use mathlib.Core.List.{List, [], _∷_, _++_, List·Memᴰ·not-nil}
 use Prim.Native.Nat.{ℕ, suc, _+_, _-_, _≤_, _<_, _^_}
 use native.Mathlib.Omega.{arith}
 use lib.Dec.{ltb}
@@ -13,10 +13,10 @@ use Rattle.rules.specs.Tables.{Row, Table}
 use Rattle.rules.specs.Merge.{rowsOf, twoBodies, contradictory, stamps}
 use Rattle.rules.proofs.Logic.{cases, either-none}
 use Rattle.rules.proofs.Lists.{_∈_, any-append}
-use Rattle.rules.proofs.Stamps.{RisingFrom, stamps-rising}
+use Rattle.rules.proofs.Stamps.{RisingFrom}
 use Rattle.rules.proofs.Merge.{some-row}
 use Rattle.gather.specs.Stamps.{nextAfter}
-use Rattle.gather.proofs.NextStamps.{AllRegular, Stamped, stamps-stamped}
+use Rattle.gather.proofs.NextStamps.{AllRegular, stamps-stamped, stamps-from-one}
 use Rattle.decide.specs.declared.survey.Survey.{Survey}
 use Rattle.decide.specs.Surveyed.{surveyed, withStamp}
 use Rattle.gather.proofs.StampsInTurn.{below, below-all, below-first, below-next, next-in}
@@ -50,10 +50,6 @@ some-held : (rs : List Row) (r : Row) → r ∈ rs → 0 < length rs
 some-held [] r m = absurd (List·Memᴰ·not-nil m)
 some-held (q ∷ rs) r m = omega arith
 
-from-one : (ss : List ℕ) → RisingFrom 0 ss → Stamped ss → RisingFrom 1 ss
-from-one [] h p = tt
-from-one (s ∷ ss) (l, h) p = (p s (List·Memᴰ·head refl) .0, h)
-
 -- a stamp of the tables has a row
 pub stamp-held : (Ts : List Table) → AllRegular Ts → (s : ℕ) → s ∈ stamps Ts → 0 < length (rowsOf Ts s)
 stamp-held Ts all s m = let (r, i) = some-row 0 Ts all s m in some-held (rowsOf Ts s) r i
@@ -66,7 +62,7 @@ module _ (Ts : List Table) where
 
   module _ (all : AllRegular Ts) where
     rise : RisingFrom 1 (stamps Ts)
-    rise = from-one (stamps Ts) (stamps-rising Ts) (stamps-stamped Ts all)
+    rise = stamps-from-one Ts all
 
     pub seen-first : (stamp : ℕ) → stamp ≡ nextAfter 0 (stamps Ts) → Seen (record { bodies = false; contradiction = false; stamps = 0 }) stamp
     seen-first stamp e = rw e (record { is = sym (ap (surveyed Ts) (below-first 0 (stamps Ts) rise) ∙ surveyed-none Ts); one = next-in 0 (stamps Ts) })

@@ -8,12 +8,11 @@ use Prim.Native.Nat.{ℕ, _+_, _≤_}
 use native.Mathlib.Omega.{arith}
 use lib.Dec.{eqb}
 use Rattle.rules.specs.Tests.{both, any}
-use Rattle.rules.specs.Tables.{Result, Result.OK, Result.ABORT, Result.ABSTAIN, Result.RETRY, Prepare, Prepare.final, Verdict.commit, Verdict.abort, Outcome, Outcome.noOutcome, Outcome.noted, Outcome.done, Row, resultCode, prepareCode, prepareRetry, outcomeCode, resultByRule, retryByRule, rowByRule}
-use Rattle.rules.specs.Merge.{mergedOutcome, finalOf, agreedOf, holdsPrepare, Standing, Standing.hasNone, Standing.hasFinal, Standing.hasAgreed, Standing.hasOpen, standingFrom, standing, agreedPrepare, openPrepare, uncheckedPrepare}
+use Rattle.rules.specs.Tables.{Result, Result.OK, Result.ABORT, Result.ABSTAIN, Result.RETRY, Prepare, Prepare.final, Verdict.commit, Verdict.abort, Outcome, Outcome.noOutcome, Outcome.noted, Outcome.done, Row, resultCode, prepareCode, prepareRetry, outcomeCode, rowByRule}
+use Rattle.rules.specs.Merge.{mergedOutcome, finalOf, agreedOf, holdsPrepare, standingFrom, standing, agreedPrepare, openPrepare, uncheckedPrepare}
 use Rattle.rules.proofs.Lists.{_∈_}
 use Rattle.rules.proofs.Merge.{unchecked-retry}
-use Rattle.rules.proofs.Standings.{NoneOrDone, outcome-cases, Says, standing-says}
-use Rattle.rules.proofs.Tables.{row-facts}
+use Rattle.rules.proofs.Standings.{NoneOrDone, outcome-cases, standing-says}
 use Rattle.rows.specs.Fields.{prepareNumbered, outcomeNumbered, retryByCode}
 use Rattle.rows.proofs.Codes.{prepare-read, outcome-read, retry-of-code, prepare-code-limit, outcome-code-limit}
 use Rattle.gather.specs.declared.agreed.Agreed.{Agreed}

@@ -1,17 +1,17 @@
 -- The agreed result of one stamp, row by row.
-use mathlib.Core.Path.{_≡_, refl, sym, ap, ap₂, _∙_}
+use mathlib.Core.Path.{_≡_, refl, ap₂}
 use mathlib.Core.Bool.{Bool, true, false, cond}
-use mathlib.Core.Logic.{_⊎_, inl, inr}
+use mathlib.Core.Logic.{inl, inr}
 use mathlib.Core.List.{List, [], _∷_}
-use mathlib.Core.Option.{Option, none, some}
+use mathlib.Core.Option.{Option, none}
 use Prim.Native.Nat.{ℕ, _+_, _*_, _<_, _≤_}
 use native.Mathlib.Omega.{arith}
 use lib.Dec.{eqb, leb}
 use borrow.Author.Tests.{ne-eqb, ltb-true}
 use Rattle.wire.specs.Numbers.{AllBytes}
-use Rattle.rules.specs.Tests.{both, bit, count, provided, orElse, firstOf}
+use Rattle.rules.specs.Tests.{both, count, provided, orElse, firstOf}
 use Rattle.rules.specs.Tables.{Result, Result.OK, Result.ABORT, Result.ABSTAIN, Result.RETRY, Prepare, Prepare.noPrepare, Prepare.tentative, Prepare.final, Row, Table, valley, resultCode, resultRetry, prepareCode, prepareRetry, sameResult}
-use Rattle.rules.specs.Merge.{rowsOf, holdsTentative, isAgreed, tentativeResult, ifAgreed, agreedOf}
+use Rattle.rules.specs.Merge.{holdsTentative, isAgreed, tentativeResult, ifAgreed, agreedOf}
 use Rattle.rules.proofs.Logic.{eqb-sym, both-left}
 use Rattle.rows.specs.Fields.{fieldsAt}
 use Rattle.rows.specs.Read.{rowOf}

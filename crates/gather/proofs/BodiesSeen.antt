@@ -1,12 +1,12 @@
 -- Two bodies of one stamp: one of them is not the first one's.
 use mathlib.Core.Path.{_≡_, refl, sym, ap, _∙_}
-use mathlib.Core.Bool.{Bool, true, false, not}
+use mathlib.Core.Bool.{true, false, not}
 use mathlib.Core.Logic.{_⊎_, inl, inr}
 use mathlib.Core.List.{List, [], _∷_, List·Memᴰ·head}
 use mathlib.Core.Option.{Option, none, some}
 use Prim.Native.Nat.{ℕ}
 use lib.Dec.{eqb}
-use Rattle.rules.specs.Tests.{both, either, any, somePair, kept, those, andAlso, allOf}
+use Rattle.rules.specs.Tests.{both, either, any, somePair, those, andAlso, allOf}
 use Rattle.rules.specs.Stamps.{Body, sameBody}
 use Rattle.rules.specs.Tables.{Row, Table}
 use Rattle.rules.specs.Messages.{held}

@@ -1,7 +1,7 @@
 -- The first used image that holds a stamp: its row, and whether another one has another body.
 use mathlib.Core.Path.{_≡_, refl, sym, ap, _∙_}
 use mathlib.Core.Bool.{not}
-use mathlib.Core.List.{List, [], _∷_}
+use mathlib.Core.List.{List, _∷_}
 use Prim.Native.Nat.{ℕ, _+_, _*_}
 use Rattle.rules.specs.Tests.{any}
 use Rattle.rules.specs.Stamps.{Body, sameBody}

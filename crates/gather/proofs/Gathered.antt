@@ -2,10 +2,9 @@
 use mathlib.Core.Path.{_≡_, refl, sym, ap, _∙_}
 use mathlib.Core.Bool.{Bool, true, false, cond}
 use mathlib.Core.List.{List, [], _∷_}
-use mathlib.Core.Option.{Option, none, some}
-use Prim.Native.Nat.{ℕ, _+_, _-_, _*_, _≤_, _<_, _^_, min}
+use Prim.Native.Nat.{ℕ, _+_, _-_, _≤_, _<_, _^_, min}
 use native.Mathlib.Omega.{arith}
-use lib.Dec.{eqb, ltb}
+use lib.Dec.{eqb}
 use lib.ListN.{length, take, drop}
 use lib.Seq.{drop-drop}
 use Rattle.wire.specs.Numbers.{AllBytes}
@@ -14,8 +13,7 @@ use Rattle.rules.specs.Tests.{both, either, any, bit, count, those, allOf}
 use Rattle.rules.specs.Stamps.{Body}
 use Rattle.rules.specs.Tables.{Row, Table, valley}
 use Rattle.rules.specs.Merge.{rowsOf, stamps}
-use Rattle.rules.proofs.Lists.{_∈_}
-use Rattle.rules.proofs.Tables.{Regular, table-facts}
+use Rattle.rules.proofs.Tables.{table-facts}
 use Rattle.rows.specs.declared.row.RowFields.{RowFields}
 use Rattle.table.specs.declared.header.Header.{Header}
 use Rattle.table.specs.Headers.{headerAt}
@@ -27,7 +25,6 @@ use Rattle.seek.proofs.HeldRows.{lawful-regular}
 use Rattle.run.specs.Runs.{images, tablesOf, Images}
 use Rattle.run.proofs.RunTurns.{Turn, turn, rest-of, walked, laid-images}
 use Rattle.gather.specs.declared.state.State.{State}
-use Rattle.gather.specs.declared.agreed.Agreed.{Agreed}
 use Rattle.gather.specs.Held.{usedOf, placeIn, isHeld, fieldsFor, fromFirst, otherIn}
 use Rattle.gather.specs.Stamps.{nextAfter, stampAbove}
 use Rattle.gather.specs.State.{sawPrepare, sawOutcome}

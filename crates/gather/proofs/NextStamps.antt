@@ -1,22 +1,21 @@
 -- The next of the used stamps: the least above the last one, of all used tables.
-use mathlib.Core.Path.{_≡_, refl, sym, ap, _∙_}
+use mathlib.Core.Path.{_≡_, refl, sym, _∙_}
 use mathlib.Core.Bool.{Bool, true, false, cond}
 use mathlib.Core.Logic.{_⊎_, inl, inr}
-use mathlib.Core.List.{List, [], _∷_, _++_, map, List·Memᴰ·head, List·Memᴰ·tail, List·Memᴰ·cases-cons, List·Memᴰ·not-nil}
+use mathlib.Core.List.{List, [], _∷_, map, List·Memᴰ·head, List·Memᴰ·tail}
 use Prim.Native.Nat.{ℕ, zero, suc, _+_, _*_, _<_, _≤_, _^_, min}
 use native.Mathlib.Omega.{arith}
 use lib.Dec.{eqb, ltb}
-use lib.ListN.{length}
 use borrow.Author.Tests.{ltb-true, ltb-false, eqb-true, eqb-false, lt-ltb, le-ltb}
-use Rattle.rules.specs.Tests.{kept, those}
+use Rattle.rules.specs.Tests.{those}
 use Rattle.rules.specs.Stamps.{isStamp}
 use Rattle.rules.specs.Tables.{Row, Table, rising, rowByRule}
 use Rattle.rules.specs.Merge.{withStamp, withStamps, stamps}
 use Rattle.rules.proofs.Logic.{cases, both-left, both-right}
 use Rattle.rules.proofs.Lists.{_∈_, every-one, those-of}
 use Rattle.rules.proofs.Rows.{rising-above}
-use Rattle.rules.proofs.Stamps.{RisingFrom, stamps-rising, stamps-from}
-use Rattle.rules.proofs.Tables.{Regular, row-facts, stamp-positive}
+use Rattle.rules.proofs.Stamps.{RisingFrom, rising-from-one, stamps-rising, stamps-from}
+use Rattle.rules.proofs.Tables.{Regular, row-facts}
 use Rattle.rows.specs.declared.lookup.Place.{Place}
 use Rattle.rows.specs.declared.lookup.Place.the-variants.{Held, Absent}
 use Rattle.rows.specs.Fields.{fieldsAt}
@@ -24,7 +23,7 @@ use Rattle.rows.specs.Places.{placeOf}
 use Rattle.rows.specs.Read.{rowOf, rowsAt}
 use Rattle.rows.proofs.Sought.{sought, place-sought}
 use Rattle.gather.specs.Held.{usedOf}
-use Rattle.gather.specs.Stamps.{noStamp, nextAfter, stampAbove, indexOf}
+use Rattle.gather.specs.Stamps.{nextAfter, stampAbove, indexOf}
 
 abbrev pub AllRegular : List Table → Type 0
 AllRegular Ts = (T : Table) → T ∈ Ts → Regular T
@@ -45,6 +44,10 @@ pub stamps-stamped : (Ts : List Table) → AllRegular Ts → Stamped (stamps Ts)
 stamps-stamped Ts all s m =
     let (T, n, (r, k, e)) = stamps-from Ts s m in
     rw e at (row-stamped T (all T n) r k)
+
+-- and rise from 1
+pub stamps-from-one : (Ts : List Table) → AllRegular Ts → RisingFrom 1 (stamps Ts)
+stamps-from-one Ts all = rising-from-one (stamps Ts) (stamps-rising Ts) (λ s m. stamps-stamped Ts all s m .0)
 
 pub next-most : (last : ℕ) (ss : List ℕ) → Stamped ss → nextAfter last ss ≤ 2 ^ 48
 unfolding nextAfter

@@ -3,7 +3,6 @@ use mathlib.Core.Path.{_≡_, refl, sym, ap, _∙_}
 use mathlib.Core.Bool.{true, false}
 use mathlib.Core.List.{List}
 use Prim.Native.Nat.{ℕ, _+_, _*_, _≤_, _<_, _^_}
-use native.Mathlib.Omega.{arith}
 use lib.Dec.{eqb}
 use lib.ListN.{length}
 use borrow.Author.Tests.{eq-eqb, ne-eqb}
@@ -26,7 +25,7 @@ use Rattle.table.specs.Parse.{tableAt}
 use Rattle.table.proofs.Images.{valley-sound}
 use Rattle.edit.proofs.Holding.{one-starts, holds-least, holds-rows-at, holds-row-inside}
 use Rattle.seek.specs.Lent.{Lawful}
-use Rattle.seek.proofs.HeldRows.{lawful-holds, lawful-regular, index-here}
+use Rattle.seek.proofs.HeldRows.{lawful-holds, index-here}
 use Rattle.seek.proofs.SoughtRows.{can-be-sought, rows-inside}
 use Rattle.gather.specs.Held.{placeIn, otherIn}
 use Rattle.gather.specs.Stamps.{stampAbove, indexOf}

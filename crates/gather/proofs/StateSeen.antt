@@ -1,20 +1,20 @@
 -- What the rows of one stamp hold together, row by row: the state that a walk over them ends with is theirs.
-use mathlib.Core.Path.{_≡_, refl, sym, ap, ap₂, _∙_}
+use mathlib.Core.Path.{_≡_, refl, sym, ap, _∙_}
 use mathlib.Core.Bool.{Bool, true, false, not, cond}
 use mathlib.Core.Logic.{_⊎_, inl, inr}
 use mathlib.Core.List.{List, [], _∷_, List·Memᴰ·head, List·Memᴰ·tail, List·Memᴰ·cases-cons, List·Memᴰ·not-nil}
 use mathlib.Core.Option.{Option, none, some}
-use Prim.Native.Nat.{ℕ, _+_, _<_}
+use Prim.Native.Nat.{ℕ, _+_}
 use native.Mathlib.Omega.{arith}
-use lib.Dec.{eqb, ltb}
+use lib.Dec.{eqb}
 use borrow.Author.Tests.{eqb-true, eq-eqb}
 use Rattle.rules.specs.Tests.{both, either, any, somePair, orElse, firstOf}
-use Rattle.rules.specs.Tables.{Result, Result.OK, Result.ABORT, Result.ABSTAIN, Result.RETRY, Prepare, Prepare.noPrepare, Prepare.tentative, Prepare.final, Verdict, Verdict.commit, Verdict.abort, Outcome, Outcome.noOutcome, Outcome.noted, Outcome.done, Row, resultCode, resultRetry, verdictCode, prepareCode, prepareRetry, outcomeCode, sameResult}
-use Rattle.rules.specs.Circumstances.{unequalFinal, oppositeOutcome}
+use Rattle.rules.specs.Tables.{Result, Result.OK, Result.ABORT, Result.ABSTAIN, Result.RETRY, Prepare, Prepare.noPrepare, Prepare.tentative, Prepare.final, Verdict, Verdict.commit, Verdict.abort, Outcome, Outcome.noOutcome, Outcome.noted, Outcome.done, Row, resultCode, resultRetry, prepareCode, prepareRetry, outcomeCode, sameResult}
+use Rattle.rules.specs.Circumstances.{unequalFinal}
 use Rattle.rules.specs.Merge.{holdsVerdict, holdsPrepare, finalResult, finalOf, unequalFinals, oppositeOutcomes, mergedOutcome, contradictory}
-use Rattle.rules.proofs.Logic.{impossible, none-some, cases, same-test, both-left, both-right, both-true, either-assoc, either-none, either-cases, either-first, either-second, either-left, either-right, eqb-sym}
+use Rattle.rules.proofs.Logic.{impossible, none-some, cases, same-test, both-left, both-right, both-true, either-assoc, either-none, either-second}
 use Rattle.rules.proofs.Lists.{_∈_, any-some, some-any, none-pair}
-use Rattle.rules.proofs.Same.{same-result, not-other-result, result-same}
+use Rattle.rules.proofs.Same.{same-result, result-same}
 use Rattle.gather.specs.declared.state.State.{State}
 use Rattle.gather.specs.State.{finalCode, finalRetry, stateOf, sawFinal, sawTentative, sawPrepare, sawCommit, sawAbort, sawOutcome, contradicts, outcomeHeld}
 

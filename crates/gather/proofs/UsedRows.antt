@@ -1,21 +1,19 @@
 -- One table of a run more: what it adds to the rows of a stamp, if it is used and holds one.
 use mathlib.Core.Path.{_≡_, refl, sym, ap, _∙_}
-use mathlib.Core.Bool.{Bool, true, false, not, cond}
+use mathlib.Core.Bool.{true, false, not}
 use mathlib.Core.Logic.{_⊎_, inl, inr}
 use mathlib.Core.List.{List, [], _∷_}
-use mathlib.Core.Option.{Option, none, some}
-use Prim.Native.Nat.{ℕ, _+_, _*_, _≤_, _<_}
+use mathlib.Core.Option.{some}
+use Prim.Native.Nat.{ℕ, _+_, _*_, _<_}
 use native.Mathlib.Omega.{arith}
 use lib.Dec.{eqb}
-use lib.ListN.{length, drop, length-drop}
+use lib.ListN.{length, drop}
 use borrow.Author.Tests.{ne-eqb}
 use Rattle.wire.specs.Numbers.{AllBytes}
 use Rattle.wire.proofs.Numbers.{all-drop}
-use Rattle.rules.specs.Tests.{both, either, any, bit, count, kept, those, andAlso, allOf}
-use Rattle.rules.specs.Stamps.{Body}
-use Rattle.rules.specs.Tables.{Row, Table, Model, valley, prepareCode, prepareRetry, outcomeCode}
+use Rattle.rules.specs.Tests.{both, bit, count, those, andAlso, allOf}
+use Rattle.rules.specs.Tables.{Row, Table, valley, prepareCode, prepareRetry, outcomeCode}
 use Rattle.rules.specs.Messages.{held}
-use Rattle.rules.specs.Circumstances.{unlike, heldWithOtherBody}
 use Rattle.rules.specs.Merge.{rowsOf}
 use Rattle.rules.proofs.Logic.{cases}
 use Rattle.rows.specs.declared.row.RowFields.{RowFields}
@@ -25,7 +23,6 @@ use Rattle.rows.specs.Fields.{fieldsAt}
 use Rattle.rows.specs.Places.{placeOf}
 use Rattle.rows.specs.Read.{rowOf}
 use Rattle.rows.proofs.Sought.{absent-none}
-use Rattle.table.specs.Headers.{headerAt}
 use Rattle.table.specs.Images.{formatOne, imageLength}
 use Rattle.table.specs.Parse.{parse, tableAt}
 use Rattle.table.proofs.Images.{parse-reads}
@@ -34,7 +31,7 @@ use Rattle.seek.proofs.HeldRows.{held-here, prepare-here, retry-here, outcome-h
 use Rattle.run.specs.Runs.{images}
 use Rattle.run.proofs.RunTurns.{First, first, images-none}
 use Rattle.gather.specs.declared.state.State.{State}
-use Rattle.gather.specs.Held.{usedOf, placeIn, isHeld, noFields, fieldsFor, fromFirst, otherIn}
+use Rattle.gather.specs.Held.{usedOf, placeIn, fieldsFor, fromFirst}
 use Rattle.gather.specs.State.{sawPrepare, sawOutcome}
 use Rattle.gather.specs.Agreed.{holdsCodes}
 use Rattle.gather.proofs.StateSeen.{sawRow, sawRows}

@@ -2,10 +2,10 @@
 use mathlib.Core.Bool.{Bool, true, cond, not}
 use mathlib.Core.List.{List}
 use mathlib.Core.Option.{Option, none, some}
-use Prim.Native.Nat.{ℕ, _+_}
+use Prim.Native.Nat.{ℕ}
 use lib.Dec.{eqb, ltb}
 use Rattle.rules.specs.Tests.{both, either, any, somePair}
-use Rattle.rules.specs.Tables.{Result, Prepare, Prepare.final, Verdict.commit, Verdict.abort, Row, prepareCode, prepareRetry}
+use Rattle.rules.specs.Tables.{Result, Prepare.final, Verdict.commit, Verdict.abort, Row, prepareCode, prepareRetry}
 use Rattle.rules.specs.Merge.{holdsVerdict, holdsPrepare, finalOf, unequalFinals}
 use Rattle.gather.specs.declared.state.State.{State}
 

@@ -3,7 +3,7 @@ use crate::held;
 use rows::row::RowFields;
 use table::header;
 ghost use mathlib.Core.Path.{_≡_};
-ghost use Prim.Native.Nat.{_≤_, _<_};
+ghost use Prim.Native.Nat.{_<_};
 ghost use lib.Dec.{eqb};
 ghost use Rattle.rules.specs.Tests.{both, count};
 ghost use Rattle.rules.specs.Tables.{valley};

@@ -3,10 +3,9 @@ use mathlib.Core.Path.{_≡_, refl, sym, ap, _∙_}
 use mathlib.Core.Bool.{Bool, true, false, cond}
 use mathlib.Core.Logic.{_⊎_, inl, inr}
 use mathlib.Core.List.{List}
-use mathlib.Core.Option.{Option, none, some}
 use Prim.Native.Nat.{ℕ, _≤_, _<_}
 use native.Mathlib.Omega.{arith}
-use lib.Dec.{eqb, ltb}
+use lib.Dec.{ltb}
 use lib.ListN.{length}
 use borrow.Author.Tests.{lt-ltb, le-ltb, ltb-false}
 use Rattle.wire.specs.Parts.{replaced}
@@ -14,16 +13,16 @@ use Rattle.rules.specs.Tests.{greatest, isSome}
 use Rattle.rules.specs.Tables.{Table, valley}
 use Rattle.rules.specs.Circumstances.{tooSmall}
 use Rattle.rules.specs.Check.{check}
-use Rattle.rules.specs.Merge.{used, stamps, areWrong, mergeNumber, mergedTable, twoBodies, contradictory}
+use Rattle.rules.specs.Merge.{used, stamps, areWrong, mergeNumber, mergedTable}
 use Rattle.rules.proofs.Logic.{cases}
 use Rattle.table.specs.Images.{formatOne, image}
-use Rattle.run.specs.Runs.{tablesOf, Images, runTables, orNone}
+use Rattle.run.specs.Runs.{tablesOf, runTables}
 use Rattle.run.proofs.RunTurns.{run-told, not-run}
 use Rattle.gather.specs.Held.{usedOf}
 use Rattle.decide.specs.declared.survey.Survey.{Survey}
 use Rattle.decide.specs.Surveyed.{surveyed, surveyNumber}
 use Rattle.merge.specs.Calls.{callNumber, callOutput}
-use Rattle.merge.proofs.MergeCall.{merge-number, merge-refused, tables-number, somewhere}
+use Rattle.merge.proofs.MergeCall.{merge-number, merge-refused, tables-number}
 
 -- the tables of the greatest view are those that are used
 pub used-is : (newest : ℕ) (Ts : List Table) → newest ≡ greatest (λ U. U .view) Ts → usedOf newest Ts ≡ used Ts

@@ -23,7 +23,7 @@ use Rattle.table.specs.Parse.{tableAt}
 use Rattle.table.proofs.Images.{length-image, image-among}
 use Rattle.edit.specs.Edited.{Holds, edited}
 use Rattle.edit.proofs.Holding.{one-starts}
-use Rattle.edit.proofs.EditedBuffers.{edited-grown, edited-holds}
+use Rattle.edit.proofs.EditedBuffers.{edited-grown}
 use Rattle.gather.proofs.NextStamps.{AllRegular}
 use Rattle.settle.specs.Turns.{hasStamp, checkedRows}
 use Rattle.settle.proofs.ChecksInTurn.{merged-in-turn, checked-rising, checked-stamped, checked-length, checked-image-length, unchecked-rising, unchecked-stamped, unchecked-length}

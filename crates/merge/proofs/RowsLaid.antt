@@ -1,7 +1,7 @@
 -- Rows laid down with their bodies behind the place of the last row, and the header put before them: together an image.
 use mathlib.Core.Path.{_≡_, refl, sym, ap, _∙_}
 use mathlib.Core.List.{List, [], _∷_, _++_, append-nil}
-use Prim.Native.Nat.{ℕ, _+_, _*_, _≤_, _<_}
+use Prim.Native.Nat.{ℕ, _+_, _*_, _≤_}
 use native.Mathlib.Omega.{arith}
 use lib.ListN.{length, length-append}
 use Rattle.wire.specs.Parts.{replaced}
@@ -12,7 +12,7 @@ use Rattle.rows.proofs.Bodies.{length-body}
 use Rattle.rows.proofs.FieldsRead.{length-row}
 use Rattle.rows.proofs.RowsRead.{length-rows, length-bodies}
 use Rattle.table.specs.Headers.{headerBytes}
-use Rattle.table.specs.Images.{formatOne, imageLength, headerOf, image}
+use Rattle.table.specs.Images.{formatOne, headerOf, image}
 use Rattle.table.proofs.Headers.{length-header}
 use Rattle.edit.proofs.RowsJoined.{bodies-joined, rows-joined}
 use Rattle.merge.specs.Written.{laidDown}

@@ -2,14 +2,14 @@
 use mathlib.Core.Path.{_≡_, refl, sym, ap, _∙_}
 use mathlib.Core.Bool.{true}
 use mathlib.Core.List.{List, [], _∷_, _++_, map, List·Memᴰ·head, List·Memᴰ·tail, List·Memᴰ·not-nil, Memᴰ·of-map}
-use Prim.Native.Nat.{ℕ, _+_, _*_, _≤_, _<_}
+use Prim.Native.Nat.{ℕ, _+_, _*_, _≤_}
 use native.Mathlib.Omega.{arith}
 use lib.ListN.{length, length-map}
 use borrow.Author.Tests.{leb-true}
 use Rattle.wire.specs.Parts.{replaced}
 use Rattle.wire.specs.Numbers.{AllBytes}
 use Rattle.rules.specs.Stamps.{countsByRule}
-use Rattle.rules.specs.Tables.{Row, Table, valley, rowByRule}
+use Rattle.rules.specs.Tables.{Row, Table, rowByRule}
 use Rattle.rules.specs.Merge.{rowsOf, stamps, bodyOf, standing, mergedOutcome, uncheckedPrepare, uncheckedRow, uncheckedRows}
 use Rattle.rules.proofs.Logic.{both-left, both-right}
 use Rattle.rules.proofs.Lists.{_∈_, every-one}

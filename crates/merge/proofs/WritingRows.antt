@@ -1,7 +1,7 @@
 -- Writing the rows of a merge, stamp after stamp: what holds before the first, in each turn, and after the last.
 use mathlib.Core.Path.{_≡_, refl, sym, ap, _∙_}
 use mathlib.Core.Bool.{Bool, true, false}
-use mathlib.Core.List.{List, [], _∷_, _++_, List·Memᴰ·head}
+use mathlib.Core.List.{List, [], _∷_, _++_}
 use Prim.Native.Nat.{ℕ, suc, _+_, _*_, _≤_, _<_, _^_}
 use native.Mathlib.Omega.{arith}
 use lib.Dec.{ltb}
@@ -10,20 +10,15 @@ use Rattle.rules.specs.Tests.{kept, those}
 use Rattle.rules.specs.Tables.{Row, Table}
 use Rattle.rules.specs.Merge.{rowsOf, stamps, uncheckedRow, uncheckedRows}
 use Rattle.rules.proofs.Lists.{_∈_, those-of}
-use Rattle.rules.proofs.Stamps.{RisingFrom, stamps-rising}
+use Rattle.rules.proofs.Stamps.{RisingFrom}
 use Rattle.rows.specs.Bytes.{lengthOf, bodiesLength}
 use Rattle.edit.proofs.RowsJoined.{bodies-length-joined}
 use Rattle.gather.specs.Stamps.{nextAfter}
-use Rattle.gather.proofs.NextStamps.{AllRegular, Stamped, stamps-stamped}
+use Rattle.gather.proofs.NextStamps.{AllRegular, Stamped, stamps-stamped, stamps-from-one}
 use Rattle.gather.proofs.StampsInTurn.{below, below-all, below-first, below-next, next-in}
 use Rattle.merge.specs.Written.{laidDown, rowLaid}
 use Rattle.merge.proofs.RowsWritten.{rowsFor, rows-for-all, rows-for-last, rows-for-length, bodies-small}
 use Rattle.merge.proofs.RowsLaid.{laid-none, laid-more}
-
--- stamps rise from 1
-rising-one : (ss : List ℕ) → RisingFrom 0 ss → Stamped ss → RisingFrom 1 ss
-rising-one [] rise h = tt
-rising-one (s ∷ ss) (l, rise) h = (h s (List·Memᴰ·head refl) .0, rise)
 
 few-below : (x : ℕ) (ss : List ℕ) → length (below x ss) ≤ length ss
 unfolding below those
@@ -54,7 +49,7 @@ module _ (agreement : ℕ) (Ts : List Table) (all : AllRegular Ts) (out : List �
   stamped = stamps-stamped Ts all
 
   from-one : RisingFrom 1 (stamps Ts)
-  from-one = rising-one (stamps Ts) (stamps-rising Ts) stamped
+  from-one = stamps-from-one Ts all
 
   -- before the first
   pub none-passed : (stamp : ℕ) → stamp ≡ nextAfter 0 (stamps Ts) → Passed agreement Ts out base stamp out base 0

@@ -25,7 +25,7 @@ use Rattle.rules.proofs.Tables.{stamp-positive, row-facts, row-by, Regu
 use Rattle.rules.proofs.Used.{used-newest, merge-is, merge-fits, first-table}
 use Rattle.rules.proofs.Standings.{NoneOrDone, outcome-cases, Says, standing-says}
 use Rattle.rules.proofs.Settled.{merged-settled}
-use Rattle.rules.proofs.Stamps.{RisingFrom, stamps-rising, stamps-from, rows-from}
+use Rattle.rules.proofs.Stamps.{RisingFrom, rising-from-one, stamps-rising, stamps-from, rows-from}
 
 -- ---- checks change results alone
 
@@ -269,14 +269,10 @@ module _ (agreement : ℕ) (Ts : List Table) (rules : (T : Table) → T ∈ Ts �
 
   -- stamps are above 0, and rise
   merged-rising : (check : Check) → rising 0 (mergedRows check agreement Ts) ≡ true
-  merged-rising check = rising-stamps 0 (mergedRows check agreement Ts) (rw (merged-stamps check agreement Ts) (from-one (stamps Ts) (stamps-rising Ts) (λ s m. above s (some-row s m))))
+  merged-rising check = rising-stamps 0 (mergedRows check agreement Ts) (rw (merged-stamps check agreement Ts) (rising-from-one (stamps Ts) (stamps-rising Ts) (λ s m. above s (some-row s m))))
     where
       above : (s : ℕ) → (r : Row) × (r ∈ rowsOf Ts s) → 0 < s
       above s (r, i) = let (k, e) = rows-rule s r i in rw e at (stamp-positive (r .stamp) (row-facts r k .stamp))
-
-      from-one : (ss : List ℕ) → RisingFrom 0 ss → ((s : ℕ) → s ∈ ss → 0 < s) → RisingFrom 1 ss
-      from-one [] h p = tt
-      from-one (s ∷ ss) (l, h) p = (p s (List·Memᴰ·head refl), h)
 
 -- ---- the merged table
 

@@ -33,6 +33,11 @@ rising-lower : (low high : ℕ) (xs : List ℕ) → low ≤ high → RisingFrom 
 rising-lower low high [] l h = tt
 rising-lower low high (x ∷ xs) l (k, h) = (omega arith, h)
 
+-- rising numbers that are not 0 rise from 1
+pub rising-from-one : (xs : List ℕ) → RisingFrom 0 xs → ((x : ℕ) → x ∈ xs → 0 < x) → RisingFrom 1 xs
+rising-from-one [] h p = tt
+rising-from-one (x ∷ xs) (l, h) p = (p x (List·Memᴰ·head refl), h)
+
 -- those of rising numbers that pass a test rise
 pub rising-those : (test : ℕ → Bool) (low : ℕ) (xs : List ℕ) → RisingFrom low xs → RisingFrom low (those test xs)
 unfolding those

@@ -9,18 +9,18 @@ use native.Mathlib.Omega.{arith}
 use lib.Dec.{eqb, ltb}
 use lib.ListN.{length, drop, length-map, drop-of-length-le}
 use lib.Seq.{drop-at, drop-append-add}
-use borrow.Author.Tests.{eq-eqb, ne-eqb, lt-ltb, ltb-true}
+use borrow.Author.Tests.{eq-eqb, ne-eqb, lt-ltb}
 use Rattle.rules.specs.Tests.{both, either, any, every, kept, those, isSome}
 use Rattle.rules.specs.Stamps.{Body, isStamp}
 use Rattle.rules.specs.Tables.{Result, Result.OK, Result.ABORT, Result.ABSTAIN, Result.RETRY, Prepare, Prepare.noPrepare, Prepare.final, Verdict, Outcome.noOutcome, Outcome.done, Row, Table, rising, resultCode, resultRetry, prepareCode, outcomeCode, resultByRule, somethingHeld, rowByRule}
 use Rattle.rules.specs.Messages.{changed, withPrepare, withRows}
 use Rattle.rules.specs.Check.{check}
 use Rattle.rules.specs.Merge.{stamps, rowsOf, mergedOutcome, finalOf, agreedOf, holdsPrepare, Standing, Standing.hasNone, standing, agreedPrepare, openPrepare, uncheckedPrepare, uncheckedRow, uncheckedRows, isSettled, amongAgreed, amongOpen, toCheck, checkedAt, checkedInTurn, mergedRows}
-use Rattle.rules.proofs.Logic.{impossible, both-left, both-right, both-true, both-false, both-whole, same?, eqb-self}
+use Rattle.rules.proofs.Logic.{impossible, both-right, both-true, both-false, both-whole, same?, eqb-self}
 use Rattle.rules.proofs.Lists.{_∈_, every-one, all-every, those-of}
 use Rattle.rules.proofs.Check.{Fired, by-A, by-B, by-C, by-D, check-fired, retry-is}
 use Rattle.rules.proofs.Rows.{rising-above}
-use Rattle.rules.proofs.Stamps.{RisingFrom, stamps-rising, rows-from}
+use Rattle.rules.proofs.Stamps.{RisingFrom, rows-from}
 use Rattle.rules.proofs.Standings.{NoneOrDone, outcome-cases, Says, standing-says, check-settled}
 use Rattle.rules.proofs.Tables.{row-facts}
 use Rattle.rules.proofs.Merge.{stampsOf, some-row, final-held}
@@ -31,7 +31,7 @@ use Rattle.table.specs.Images.{formatOne, imageLength}
 use Rattle.edit.specs.Changes.{atIndex}
 use Rattle.edit.proofs.Indexes.{at-index, none-changed}
 use Rattle.checks.specs.Given.{checkedAs}
-use Rattle.gather.proofs.NextStamps.{AllRegular, stamps-stamped}
+use Rattle.gather.proofs.NextStamps.{AllRegular, stamps-stamped, stamps-from-one}
 use Rattle.settle.specs.Turns.{hasStamp, waits, checkedBy, checkedRows}
 
 -- ---- which rows wait, of the rows before any check
@@ -262,15 +262,11 @@ module _ (isOpen : Bool) (agreement : ℕ) (Ts : List Table) (rows : List Row) w
 module _ (agreement : ℕ) (Ts : List Table) (all : AllRegular Ts) where
   pub unchecked-rising : rising 0 (uncheckedRows agreement Ts) ≡ true
   unfolding uncheckedRows uncheckedRow rising
-  unchecked-rising = from 0 (stamps Ts) (least (stamps Ts) (stamps-rising Ts) (λ s m. stamps-stamped Ts all s m .0))
+  unchecked-rising = from 0 (stamps Ts) (stamps-from-one Ts all)
     where
       from : (low : ℕ) (ss : List ℕ) → RisingFrom (suc low) ss → rising low (map (λ s. uncheckedRow agreement s (rowsOf Ts s)) ss) ≡ true
       from low [] h = refl
       from low (s ∷ ss) (l, h) = both-true (lt-ltb low s l) (from s ss h)
-
-      least : (ss : List ℕ) → RisingFrom 0 ss → ((s : ℕ) → s ∈ ss → 0 < s) → RisingFrom 1 ss
-      least [] h p = tt
-      least (s ∷ ss) (l, h) p = (p s (List·Memᴰ·head refl), h)
 
   pub unchecked-stamped : every hasStamp (uncheckedRows agreement Ts) ≡ true
   unfolding uncheckedRows uncheckedRow isStamp
