@@ -59,7 +59,8 @@ _Static_assert(sizeof(size_t) == 8, "libsprondilu.a takes lengths of 64 bits");
 /* wrong tables: merge: not exactly f+1 images, unequal n, a box twice, mode 0, or promised not v */
 #define SPRONDILU_WRONG_TABLES 11
 
-/* The least length of a table buffer, in bytes: as long as the image of 512 rows with the longest bodies. */
+/* The least length of a table buffer and of a merge's output, in bytes: that of the image of 512 rows with the longest
+ * bodies. */
 #define SPRONDILU_TABLE_BYTES 49176
 
 /* The length of a reply, in bytes, and the least length of a reply buffer. */
@@ -121,7 +122,7 @@ uint8_t sprondilu_answer(uint8_t *table, size_t table_len, const uint8_t *messag
 /*
  * The merge for view `view`: of the tables of f+1 boxes that promised it, laid end to end in one run, it makes the table
  * with which that view begins, and writes its image at the start of an output buffer. A run may be any bytes that arrived,
- * of any length, also none; an image in it may begin at any byte.
+ * of any length, also none; no alignment is asked of the images in it.
  *
  * Returns the first of these that applies, and SPRONDILU_DONE if none does:
  *   SPRONDILU_SMALL_BUFFER   out_len is below SPRONDILU_TABLE_BYTES, whatever the run is
@@ -134,9 +135,10 @@ uint8_t sprondilu_answer(uint8_t *table, size_t table_len, const uint8_t *messag
  * The last three look at the tables of the greatest last normal view only, as the merge itself does, and each at all
  * stamps of them: the order holds over all stamps, not at each.
  *
- * Done, the output buffer begins with the merged image, which does not depend on the order of the tables, and which
- * sprondilu_answer takes in message 6 for that view; no other byte has changed: what the buffer held is neither looked at
- * nor cleared. Refused, no byte has changed. The run never changes.
+ * Done, the output buffer begins with the merged image, which does not depend on the order of the tables, and no other
+ * byte has changed: what the buffer held is neither looked at nor cleared. Sent in message 6 for that view, the image is
+ * taken by every box of the group that is in an earlier view and has promised no later one.
+ * Refused, no byte has changed. The run never changes.
  */
 uint8_t sprondilu_merge(const uint8_t *run, size_t run_len, uint32_t view, uint8_t *out, size_t out_len);
 
