@@ -61,14 +61,14 @@ impl Group {
         }
     }
 
-    /// Some boxes promise a view, and tables of f+1 of them are merged, sometimes of others as well.
+    /// f+1 boxes or more promise a view, and tables of f+1 of them are merged; now and then one is missing.
     fn changes(&mut self, lent: &mut Lent) {
         self.view += lent.dice.one_of(&[1, 1, 1, 2]);
         let quorum = self.boxes.len() / 2 + 1;
         let mut reached: Vec<usize> = (0..self.boxes.len()).collect();
         lent.dice.shuffle(&mut reached);
-        let fewer = lent.dice.index(self.boxes.len() - quorum + 1);
-        reached.truncate(quorum + fewer);
+        let more = lent.dice.index(self.boxes.len() - quorum + 1);
+        reached.truncate(quorum + more);
         for place in &reached {
             answered(&mut self.boxes[*place], &make::change_view(self.view));
         }

@@ -153,11 +153,12 @@ fn an_open_row_is_checked_behind_an_agreed_one() {
 /// The order of numbers holds over all stamps: 5 of a late one comes before 6 of an early one.
 #[test]
 fn a_late_5_wins_over_an_early_6() {
-    let split = row(30, (&reads(30, (OK, 0)).reads, &[]), (OK, 0));
-    let mut whole = split.clone();
-    (whole.reads, whole.writes) = (whole.writes, whole.reads);
-    let one = [writes(10, (FINAL_OK, 0)), split];
-    let other = [writes(10, (FINAL_ABORT, 0)), whole];
+    let read = reads(30, (OK, 0));
+    // The same nine bytes as a write, which is another body.
+    let mut write = read.clone();
+    (write.reads, write.writes) = (write.writes, write.reads);
+    let one = [writes(10, (FINAL_OK, 0)), read];
+    let other = [writes(10, (FINAL_ABORT, 0)), write];
     assert_refused(&[changing(0, 3, 0, &one), changing(1, 3, 0, &other)], 5);
     let (one, other) = (&one[..1], &other[..1]);
     assert_refused(&[changing(0, 3, 0, one), changing(1, 3, 0, other)], 6);
