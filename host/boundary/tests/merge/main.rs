@@ -46,6 +46,8 @@ const PARTS: [fn(&mut Lent); 18] = [
 
 fn histories(lent: &mut Lent) {
     (0..6_000).for_each(|turn| histories::history(lent, 2 + turn % 9));
+    // Otherwise hardly a box would go on in a new view.
+    assert!(lent.shares.done() > lent.shares.calls() / 2);
 }
 
 /// All parts, side by side.

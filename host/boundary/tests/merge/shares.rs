@@ -156,6 +156,10 @@ impl Shares {
         self.numbers.iter().sum()
     }
 
+    pub fn done(&self) -> u64 {
+        self.numbers[0]
+    }
+
     /// That every number which a merge can be given was met at least so often, and no other was; likewise every way to
     /// settle a row, and every kind of merge.
     pub fn assert_all_met(&self, least: u64) {
@@ -195,9 +199,9 @@ impl Display for Shares {
         for (name, count) in WAYS.iter().zip(self.ways) {
             writeln!(f, "{:47} {:>9} {:5.1}%", name, count, percent(count, all))?;
         }
-        writeln!(f, "{} merges that were done", self.numbers[0])?;
+        writeln!(f, "{} merges that were done", self.done())?;
         for (name, count) in MERGES.iter().zip(self.merges) {
-            let share = percent(count, self.numbers[0]);
+            let share = percent(count, self.done());
             writeln!(f, "{:47} {:>9} {:5.1}%", name, count, share)?;
         }
         Ok(())
