@@ -123,25 +123,9 @@ rest-of s at = take-all (length s - at) (drop at s) (rw (length-drop at s) (omeg
 
 -- ---- what a table has from its header
 
-pub view-read : (s : List ℕ) → tableAt formatOne s .view ≡ headerAt s .view
-unfolding tableAt
-view-read s = refl
-
 pub n-read : (s : List ℕ) → tableAt formatOne s .n ≡ headerAt s .n
 unfolding tableAt
 n-read s = refl
-
-pub box-read : (s : List ℕ) → tableAt formatOne s .box ≡ headerAt s .boxnumber
-unfolding tableAt
-box-read s = refl
-
-pub mode-read : (s : List ℕ) → tableAt formatOne s .mode ≡ headerAt s .mode
-unfolding tableAt
-mode-read s = refl
-
-pub promised-read : (s : List ℕ) → tableAt formatOne s .promised ≡ headerAt s .promised
-unfolding tableAt
-promised-read s = refl
 
 -- ---- what a run is: the images of tables by the rules, laid end to end, and of no others
 
@@ -163,7 +147,7 @@ no-bytes M (b ∷ s) h =
     let c : _≡_ {A = ℕ} 0 1 = cc in
     absurd (omega arith)
 
-some-bytes : (M : Model) (s : List ℕ) (T : Table) (Ts : List Table) → images M s ≡ some (T ∷ Ts) → 0 < length s
+pub some-bytes : (M : Model) (s : List ℕ) (T : Table) (Ts : List Table) → images M s ≡ some (T ∷ Ts) → 0 < length s
 some-bytes M [] T Ts h =
     let e : some [] ≡ some (T ∷ Ts) = sym (images-none M) ∙ h in
     let c : _≡_ {A = ℕ} 0 1 = cc in

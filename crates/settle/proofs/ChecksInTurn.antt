@@ -251,9 +251,6 @@ module _ (isOpen : Bool) (agreement : ℕ) (Ts : List Table) (rows : List Row) w
   pub checked-length : length (checkedRows isOpen agreement Ts rows) ≡ length rows
   checked-length = alike-length (checkedRows isOpen agreement Ts rows) rows (alike-all isOpen agreement Ts rows)
 
-  pub checked-bodies-length : bodiesLength (checkedRows isOpen agreement Ts rows) ≡ bodiesLength rows
-  checked-bodies-length = alike-bodies (checkedRows isOpen agreement Ts rows) rows (alike-all isOpen agreement Ts rows)
-
   pub checked-image-length : (T : Table) → imageLength formatOne (withRows T (checkedRows isOpen agreement Ts rows)) ≡ imageLength formatOne (withRows T rows)
   checked-image-length = alike-image (checkedRows isOpen agreement Ts rows) rows (alike-all isOpen agreement Ts rows)
 
