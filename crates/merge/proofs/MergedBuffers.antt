@@ -2,7 +2,7 @@
 use mathlib.Core.Path.{_≡_, refl, sym, ap, _∙_}
 use mathlib.Core.Bool.{true, false}
 use mathlib.Core.List.{List}
-use Prim.Native.Nat.{ℕ, _+_, _*_, _≤_}
+use Prim.Native.Nat.{ℕ, _+_, _*_, _%_, _≤_}
 use native.Mathlib.Omega.{arith}
 use lib.ListN.{length, drop}
 use Rattle.wire.specs.Parts.{replaced}
@@ -10,7 +10,7 @@ use Rattle.wire.specs.Numbers.{AllBytes}
 use Rattle.wire.proofs.Parts.{replaced-start, replaced-over}
 use Rattle.rules.specs.Tests.{every}
 use Rattle.rules.specs.Groups.{fOf, agreementCount}
-use Rattle.rules.specs.Tables.{Row, Table, rising}
+use Rattle.rules.specs.Tables.{Row, Table, normalMode, rising}
 use Rattle.rules.specs.Messages.{withRows}
 use Rattle.rules.specs.Check.{check}
 use Rattle.rules.specs.Merge.{used, stamps, groupOf, uncheckedRows, mergedRows, mergedTable}
@@ -27,7 +27,7 @@ use Rattle.edit.proofs.EditedBuffers.{edited-grown}
 use Rattle.gather.proofs.NextStamps.{AllRegular}
 use Rattle.settle.specs.Turns.{hasStamp, checkedRows}
 use Rattle.settle.proofs.ChecksInTurn.{merged-in-turn, checked-rising, checked-stamped, checked-length, checked-image-length, unchecked-rising, unchecked-stamped, unchecked-length}
-use Rattle.merge.specs.Written.{laidDown, starting, startHeader}
+use Rattle.merge.specs.Written.{laidDown, startHeader}
 use Rattle.merge.proofs.RowsLaid.{laid-image}
 
 -- a table over the start of a buffer is what the buffer holds
@@ -60,6 +60,10 @@ ready out s T is bytes rise stamped =
     (holds-so out s T is bytes, rw e rise, rw e stamped)
 
 -- ---- the three buffers after the writes
+
+-- a table of these rows that starts view v in a group of n
+abbrev pub starting : ℕ → ℕ → List Row → Table
+starting n v rows = record { box = v % n; n = n; mode = normalMode; view = v; promised = v; start = length rows; rows = rows }
 
 module _ (Us : List Table) (all : AllRegular Us) (agreement n v rows length-told : ℕ) (out written first : List ℕ) (base : ℕ) (behind : base ≡ 24 + 24 * length (stamps Us)) (long : 49176 ≤ length out) (few : length (stamps Us) ≤ 512) (counted : rows ≡ length (stamps Us)) (is : written ≡ laidDown out base (uncheckedRows agreement Us)) (ends : length-told ≡ base + bodiesLength (uncheckedRows agreement Us)) (headed : first ≡ replaced written 0 (headerBytes (startHeader n v rows length-told))) (bytes : AllBytes first) where
   abbrev table₀ : Table

@@ -1,9 +1,8 @@
 -- What is written of a merge before any check.
 use mathlib.Core.List.{List}
 use Prim.Native.Nat.{ℕ, _+_, _*_, _%_}
-use lib.ListN.{length}
 use Rattle.wire.specs.Parts.{replaced}
-use Rattle.rules.specs.Tables.{Row, Table, normalMode}
+use Rattle.rules.specs.Tables.{Row, normalMode}
 use Rattle.rows.specs.Bytes.{bodyBytes, bodiesBytes, rowBytes, rowsBytes}
 use Rattle.table.specs.declared.header.Header.{Header}
 
@@ -15,10 +14,6 @@ laidDown out base rows = replaced (replaced out 24 (rowsBytes base rows)) base (
 abbrev pub rowLaid : List ℕ → ℕ → ℕ → Row → List ℕ
 rowLaid out index due r = replaced (replaced out (24 + 24 * index) (rowBytes due r)) due (bodyBytes (r .body))
 
--- "The image is normal, view v, box v mod n, start rows equal to rows.": a table of these rows that starts view v in a group of n
-abbrev pub starting : ℕ → ℕ → List Row → Table
-starting n v rows = record { box = v % n; n = n; mode = normalMode; view = v; promised = v; start = length rows; rows = rows }
-
--- its header, by how many rows it has and how long its image is
+-- "The image is normal, view v, box v mod n, start rows equal to rows.": the header of a table that starts view v in a group of n, by how many rows it has and how long its image is
 abbrev pub startHeader : ℕ → ℕ → ℕ → ℕ → Header
 startHeader n v rows length = record { format = 1; boxnumber = v % n; n = n; mode = normalMode; rows = rows; view = v; promised = v; start = rows; length = length }

@@ -15,9 +15,9 @@ use Rattle.run.proofs.Wrongs.{first-room, group-read, group-some}
 use Rattle.gather.specs.Held.{usedOf}
 use Rattle.gather.proofs.Gathered.{all-regular}
 use Rattle.gather.proofs.NextStamps.{AllRegular, used-regular}
-use Rattle.merge.specs.Written.{starting, startHeader}
+use Rattle.merge.specs.Written.{startHeader}
 use Rattle.merge.proofs.RowsWritten.{bodies-all}
-use Rattle.merge.proofs.MergedBuffers.{first-ready, second-ready, last-is, merged-is}
+use Rattle.merge.proofs.MergedBuffers.{starting, first-ready, second-ready, last-is, merged-is}
 use Rattle.table.specs.declared.header.Header.{Header}
 use Rattle.table.specs.Headers.{headerBytes}
 use Rattle.wire.specs.Parts.{replaced}
