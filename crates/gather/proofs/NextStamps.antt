@@ -2,7 +2,7 @@
 use mathlib.Core.Path.{_≡_, refl, sym, _∙_}
 use mathlib.Core.Bool.{Bool, true, false, cond}
 use mathlib.Core.Logic.{_⊎_, inl, inr}
-use mathlib.Core.List.{List, [], _∷_, map, List·Memᴰ·head, List·Memᴰ·tail}
+use mathlib.Core.List.{List, [], _∷_, List·Memᴰ·head, List·Memᴰ·tail}
 use Prim.Native.Nat.{ℕ, zero, suc, _+_, _*_, _<_, _≤_, _^_, min}
 use native.Mathlib.Omega.{arith}
 use lib.Dec.{eqb, ltb}
@@ -15,6 +15,7 @@ use Rattle.rules.proofs.Logic.{cases, both-left, both-right}
 use Rattle.rules.proofs.Lists.{_∈_, every-one, those-of}
 use Rattle.rules.proofs.Rows.{rising-above}
 use Rattle.rules.proofs.Stamps.{RisingFrom, rising-from-one, stamps-rising, stamps-from}
+use Rattle.rules.proofs.Merge.{stampsOf}
 use Rattle.rules.proofs.Tables.{Regular, row-facts}
 use Rattle.rows.specs.declared.lookup.Place.{Place}
 use Rattle.rows.specs.declared.lookup.Place.the-variants.{Held, Absent}
@@ -105,9 +106,6 @@ with-above last s (t ∷ ts) l k = go (cases (ltb s t)) (cases (eqb s t)) (cases
         rw (a, b, next-past last t (withStamp s ts) n, next-past last t ts n) later
 
 -- ---- a table more
-
-abbrev stampsOf : List Row → List ℕ
-stampsOf rows = map (λ (r : Row). r .stamp) rows
 
 -- what a stamp is next to is not below it
 next-least : (last low : ℕ) (rows : List Row) → rising low rows ≡ true → last ≤ low → low < 2 ^ 48 → ((r : Row) → r ∈ rows → r .stamp < 2 ^ 48) → low < nextAfter last (stampsOf rows)

@@ -29,7 +29,7 @@ use Rattle.table.proofs.Images.{parse-reads}
 use Rattle.seek.specs.Lent.{Lawful}
 use Rattle.seek.proofs.HeldRows.{held-here, prepare-here, retry-here, outcome-here}
 use Rattle.run.specs.Runs.{images}
-use Rattle.run.proofs.RunTurns.{First, first, images-none}
+use Rattle.run.proofs.RunTurns.{First, first, some-bytes}
 use Rattle.gather.specs.declared.state.State.{State}
 use Rattle.gather.specs.Held.{usedOf, placeIn, fieldsFor, fromFirst}
 use Rattle.gather.specs.State.{sawPrepare, sawOutcome}
@@ -140,13 +140,6 @@ from-later : (newest stamp i : ℕ) (T : Table) (Ts : List Table) (s : List ℕ)
 unfolding fromFirst
 from-later newest stamp i T Ts s e = rw e refl
 
-some-left : (T : Table) (Ts : List Table) (s : List ℕ) → images valley s ≡ some (T ∷ Ts) → 0 < length s
-some-left T Ts [] h =
-    let e : some [] ≡ some (T ∷ Ts) = sym (images-none valley) ∙ h in
-    let c : _≡_ {A = ℕ} 0 1 = cc in
-    absurd (omega arith)
-some-left T Ts (b ∷ s) h = omega arith
-
 first-parts : (T : Table) (Ts : List Table) (s : List ℕ) → First valley s (T ∷ Ts) → (parse formatOne valley s ≡ some T) × (images valley (drop (imageLength formatOne T) s) ≡ some Ts)
 first-parts T Ts s f =
     let e = f .are in
@@ -158,7 +151,7 @@ pub first-held : (newest stamp : ℕ) (Ts : List Table) (s : List ℕ) → AllBy
 unfolding those rowsOf allOf
 first-held newest stamp [] s bytes h l = absurd (omega arith)
 first-held newest stamp (T ∷ Ts) s bytes h l =
-    let (p, b) = first-parts T Ts s (first valley s (T ∷ Ts) (some-left T Ts s h) h) in
+    let (p, b) = first-parts T Ts s (first valley s (T ∷ Ts) (some-bytes valley s T Ts h) h) in
     go p (first-held newest stamp Ts (drop (imageLength formatOne T) s) (all-drop (imageLength formatOne T) s bytes) b)
   where
     go : parse formatOne valley s ≡ some T → (0 < length (rowsOf (usedOf newest Ts) stamp) → FirstHeld newest stamp Ts (drop (imageLength formatOne T) s) (fromFirst newest stamp Ts (drop (imageLength formatOne T) s))) → FirstHeld newest stamp (T ∷ Ts) s (fromFirst newest stamp (T ∷ Ts) s)

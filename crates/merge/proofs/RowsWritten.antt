@@ -5,13 +5,10 @@ use mathlib.Core.List.{List, [], _∷_, _++_, map, List·Memᴰ·head, List·Mem
 use Prim.Native.Nat.{ℕ, _+_, _*_, _≤_}
 use native.Mathlib.Omega.{arith}
 use lib.ListN.{length, length-map}
-use borrow.Author.Tests.{leb-true}
 use Rattle.wire.specs.Parts.{replaced}
 use Rattle.wire.specs.Numbers.{AllBytes}
-use Rattle.rules.specs.Stamps.{countsByRule}
 use Rattle.rules.specs.Tables.{Row, Table, rowByRule}
 use Rattle.rules.specs.Merge.{rowsOf, stamps, bodyOf, standing, mergedOutcome, uncheckedPrepare, uncheckedRow, uncheckedRows}
-use Rattle.rules.proofs.Logic.{both-left, both-right}
 use Rattle.rules.proofs.Lists.{_∈_, every-one}
 use Rattle.rules.proofs.Stamps.{rows-from}
 use Rattle.rules.proofs.Merge.{some-row}
@@ -21,7 +18,7 @@ use Rattle.rows.specs.Bytes.{bodyBytes, lengthOf, bodiesLength, rowBytes}
 use Rattle.rows.specs.Fields.{withPrepareByte, withOutcomeByte, fieldsOf, fieldsBytes, retryByCode, prepareNumbered, outcomeNumbered}
 use Rattle.rows.specs.Read.{rowOf}
 use Rattle.rows.specs.Rows.{bodyPart}
-use Rattle.rows.proofs.Bodies.{length-body, body-part}
+use Rattle.rows.proofs.Bodies.{length-body, body-size, body-part}
 use Rattle.rows.proofs.FieldsRead.{fields-of-row}
 use Rattle.table.specs.Images.{formatOne}
 use Rattle.table.specs.Parse.{tableAt}
@@ -64,12 +61,7 @@ bodies-most (r ∷ rows) h =
     omega arith
 
 body-most : (r : Row) → rowByRule r ≡ true → lengthOf (r .body) ≤ 72
-unfolding countsByRule
-body-most r h =
-    let c = row-facts r h .counts in
-    let a : length (r .body .reads) ≤ 4 = leb-true _ _ (both-left _ _ c) in
-    let b : length (r .body .writes) ≤ 4 = leb-true _ _ (both-left _ _ (both-right _ _ c)) in
-    omega arith
+body-most r h = rw (length-body (r .body)) at (body-size (r .body) (row-facts r h .counts) .1)
 
 unchecked-body : (agreement s : ℕ) (rs : List Row) → uncheckedRow agreement s rs .body ≡ bodyOf rs
 unfolding uncheckedRow

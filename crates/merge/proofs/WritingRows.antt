@@ -11,6 +11,7 @@ use Rattle.rules.specs.Tables.{Row, Table}
 use Rattle.rules.specs.Merge.{rowsOf, stamps, uncheckedRow, uncheckedRows}
 use Rattle.rules.proofs.Lists.{_∈_, those-of}
 use Rattle.rules.proofs.Stamps.{RisingFrom}
+use Rattle.rules.proofs.Votes.{those-length}
 use Rattle.rows.specs.Bytes.{lengthOf, bodiesLength}
 use Rattle.edit.proofs.RowsJoined.{bodies-length-joined}
 use Rattle.gather.specs.Stamps.{nextAfter}
@@ -21,13 +22,8 @@ use Rattle.merge.proofs.RowsWritten.{rowsFor, rows-for-all, rows-for-la
 use Rattle.merge.proofs.RowsLaid.{laid-none, laid-more}
 
 few-below : (x : ℕ) (ss : List ℕ) → length (below x ss) ≤ length ss
-unfolding below those
-few-below x [] = omega arith
-few-below x (s ∷ ss) = go (ltb s x) (few-below x ss)
-  where
-    go : (b : Bool) → length (those (λ t. ltb t x) ss) ≤ length ss → length (kept b s (those (λ t. ltb t x) ss)) ≤ suc (length ss)
-    go true l = omega arith
-    go false l = omega arith
+unfolding below
+few-below x ss = those-length (λ t. ltb t x) ss
 
 bodies-none : bodiesLength [] ≡ 0
 unfolding bodiesLength

@@ -97,7 +97,7 @@ fn other_counts(table: &[u8], place: Place, given: RowFields) -> bool
     held.writes != given.writes
 }
 
-// Whether a stamp is held with another body than a message has: what is needed for the answer is then not what the message says.
+// Whether a stamp is held with another body than a message has: what is needed for the answer is then not what the message says. A merge asks the same of two tables: the other one is lent in the message's place.
 pub fn other_body<'a>(table: &'a [u8], message: &'a [u8], place: Place, given: RowFields) -> bool
     requires { ⌜ Lawful valley (now table) × (place ≡ placeOf (tableAt formatOne (now table) .rows) (given .stamp)) × BodyInside (now message) given ⌝ }
     ensures { λ r. ⌜ r ≡ heldWithOtherBody (tableAt formatOne (now (table .entry))) (given .stamp) (bodyAt (now (message .entry)) (given .offset) (given .reads) (given .writes)) ⌝ }

@@ -1,12 +1,11 @@
--- `Stands s at ws`: ws stands in s from at. What a layout says of a buffer is said by it, piece by piece, and carried over each write.
+-- `Stands s at ws`: ws stands in s from at. What a layout says of a buffer is said by it, piece by piece.
 use mathlib.Core.Path.{_≡_, refl, sym, ap, _∙_}
 use mathlib.Core.List.{List, [], _++_}
 use Prim.Native.Nat.{ℕ, _+_, _≤_, _<_}
 use native.Mathlib.Omega.{arith}
 use lib.ListN.{length, take, drop, length-append, length-take, length-drop, take-append-drop}
 use lib.Seq.{drop-at, take-append-seam, drop-append-seam, take-take, drop-drop, take-add}
-use Rattle.wire.specs.Parts.{part, replaced}
-use Rattle.wire.proofs.Parts.{part-replaced, below-stays, above-stays}
+use Rattle.wire.specs.Parts.{part}
 
 unfoldable pub Stands : List ℕ → ℕ → List ℕ → Type 0
 Stands s at ws = part s at (length ws) ≡ ws
@@ -56,17 +55,3 @@ stands-between p ws q at e = rw (drop-at p (ws ++ q) at e) (take-append-seam ws 
 pub stands-whole : (s ws : List ℕ) → Stands s 0 ws → s ≡ ws ++ drop (length ws) s
 unfolding Stands
 stands-whole s ws h = sym (take-append-drop (length ws) s) ∙ ap (λ (z : List ℕ). z ++ drop (length ws) s) h
-
--- ---- over a write
-
-pub stands-written : (s : List ℕ) (at : ℕ) (ws : List ℕ) → at ≤ length s → Stands (replaced s at ws) at ws
-unfolding Stands
-stands-written s at ws h = part-replaced s at ws h
-
-pub stands-below : (s : List ℕ) (at : ℕ) (ws : List ℕ) (b : ℕ) (xs : List ℕ) → b + length xs ≤ at → at ≤ length s → Stands s b xs → Stands (replaced s at ws) b xs
-unfolding Stands
-stands-below s at ws b xs h l p = below-stays s at ws b (length xs) h l ∙ p
-
-pub stands-above : (s : List ℕ) (at : ℕ) (ws : List ℕ) (b : ℕ) (xs : List ℕ) → at + length ws ≤ b → at + length ws ≤ length s → Stands s b xs → Stands (replaced s at ws) b xs
-unfolding Stands
-stands-above s at ws b xs h l p = rw (above-stays s at ws b h l) p

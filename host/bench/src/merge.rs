@@ -26,7 +26,7 @@ The merge of f+1 full tables with the same 512 stamps, 'sprondilu_merge' of the 
 Input: one table by the rules, which f+1 boxes of the group hold: every row tentative OK and without an outcome, so that it
 is agreed and checked; half of the rows have 4 reads and 4 writes, half one of each; nearly all read what was written last,
 so that nearly all checks find OK. Each side writes its own outputs. Beside it the time of a merge in safe Rust that goes up
-all tables with a cursor in each and writes every row where it stays."
+all tables with a cursor in each, once to decide and once to write."
     } else {
         "The merge of f+1 tables whose stamps are disjoint and together 512, with the same rows: all are open and checked."
     };

@@ -1,5 +1,5 @@
 //! The merge as one would write it by hand for speed: a cursor in each used table goes up once to decide and once to write,
-//! and every row is written where it stays.
+//! and which rows are agreed is kept for the checks.
 
 use super::answer::TABLE_BYTES;
 use super::gather::{same_body, tentative, State};
