@@ -76,14 +76,14 @@ verdict-small : (v : Verdict) → verdictCode v < 256 ^ 1
 verdict-small commit = omega arith
 verdict-small abort = omega arith
 
-result-small : (r : Result) → resultByRule r ≡ true → (resultCode r < 256 ^ 1) × (resultRetry r < 256 ^ 8)
+pub result-small : (r : Result) → resultByRule r ≡ true → (resultCode r < 256 ^ 1) × (resultRetry r < 256 ^ 8)
 unfolding resultByRule
 result-small OK h = (omega arith, omega arith)
 result-small ABORT h = (omega arith, omega arith)
 result-small ABSTAIN h = (omega arith, omega arith)
 result-small (RETRY s) h = (omega arith, stamp-small s h)
 
-result-read : (r : Result) → resultByRule r ≡ true → (resultNumbered (resultCode r) (resultRetry r) ≡ r) × (resultByCode (resultCode r) (resultRetry r) ≡ true)
+pub result-read : (r : Result) → resultByRule r ≡ true → (resultNumbered (resultCode r) (resultRetry r) ≡ r) × (resultByCode (resultCode r) (resultRetry r) ≡ true)
 unfolding resultNumbered resultByCode retryByCode resultByRule both either
 result-read OK h = (refl, refl)
 result-read ABORT h = (refl, refl)

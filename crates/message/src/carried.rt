@@ -45,7 +45,7 @@ pub fn proposal_valid(message: &[u8], at: usize, reads: u8, writes: u8, stamp: u
 }
 
 // A result is 1 to 4, with a retry stamp by the rows' rule.
-fn result_valid(result: u8, retry: u64) -> bool
+pub fn result_valid(result: u8, retry: u64) -> bool
     ensures { λ r. ⌜ r ≡ resultByCode result retry ⌝ }
 {
     if result < 1 {

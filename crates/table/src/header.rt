@@ -124,7 +124,7 @@ pub fn write(s: &mut [u8], h: Header)
     write_four_byte_fields(s, h);
 }
 
-fn group_valid(n: u8) -> bool
+pub fn group_valid(n: u8) -> bool
     ensures { λ r. ⌜ r ≡ isGroup n ⌝ }
 {
     if n == 3 {

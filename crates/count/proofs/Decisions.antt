@@ -1,0 +1,272 @@
+-- What is decided of replies that are not bad, by what the walks over them found.
+use mathlib.Core.Path.{_≡_, refl, sym, ap, _∙_}
+use mathlib.Core.Bool.{Bool, true, false, not, cond}
+use mathlib.Core.Logic.{_⊎_, inl, inr}
+use mathlib.Core.List.{List, [], _∷_}
+use mathlib.Core.Option.{Option, none, some}
+use Prim.Native.Nat.{ℕ, _+_, _<_, _≤_, max}
+use native.Mathlib.Omega.{arith}
+use lib.Dec.{eqb, ltb, leb}
+use lib.ListN.{length}
+use borrow.Author.Tests.{ltb-true, ltb-false, not-false, lt-ltb, le-ltb, le-leb, lt-leb, eq-eqb, ne-eqb}
+use Rattle.rules.specs.Tests.{both, either, bit, any, count, greatest, somePair, provided, firstOf}
+use Rattle.rules.specs.Groups.{fOf, quorum}
+use Rattle.rules.specs.Stamps.{isStamp}
+use Rattle.rules.specs.Tables.{Result, Result.OK, Result.ABORT, Result.ABSTAIN, Result.RETRY, resultCode, resultRetry, sameResult, resultByRule}
+use Rattle.rules.specs.Count.{Heard, badReplies, agreeing, isFast, unequalFinalHeard, fastBesideFinal, Counted, Counted.fast, Counted.slow, Counted.wait, fastOf, finalHeard, greatestRetry, slowResult, slowOr, fastOr, decided}
+use Rattle.rules.proofs.Logic.{impossible, none-some, cases, both-left, both-right, both-true, both-false, either-false, either-left, either-right, either-first, either-second, not-false-of, not-true-of}
+use Rattle.rules.proofs.Lists.{_∈_, any-none, any-some, some-any, none-pair, provided-some, first-from, first-none}
+use Rattle.rules.proofs.Same.{same-result, result-same, not-other-result}
+use Rattle.rules.proofs.Votes.{fast-one}
+use Rattle.message.specs.Messages.{resultByCode}
+use Rattle.message.proofs.Forms.{result-read}
+use Rattle.message.proofs.Lawful.{result-coded}
+use Rattle.count.specs.declared.said.Said.{Said}
+use Rattle.count.specs.declared.answer.Counted.the-variants.{Fast, Slow, Wait}
+use Rattle.count.specs.Answers.{saidAs, resultOf, answerAs}
+
+not-first : {a : Bool} (b : Bool) → a ≡ false → both a b ≡ false
+unfolding both
+not-first b e = rw e refl
+
+-- ---- a result found, or none
+
+code-least : (r : Result) → 0 < resultCode r
+code-least OK = omega arith
+code-least ABORT = omega arith
+code-least ABSTAIN = omega arith
+code-least (RETRY s) = omega arith
+
+pub none-said : (a : Said) (o : Option Result) → a ≡ saidAs o → a .code ≡ 0 → o ≡ none
+none-said a none e z = refl
+none-said a (some r) e z = let k = code-least r in let c : a .code ≡ resultCode r = ap (λ (s : Said). s .code) e in absurd (omega arith)
+
+-- a result by the rules is what its code and its retry stamp mean
+said-result : (a : Said) (o : Option Result) → a ≡ saidAs o → ((r : Result) → o ≡ some r → resultByRule r ≡ true) → (a .code ≡ 0 → ⊥) → (o ≡ some (resultOf a)) × (resultByCode (a .code) (a .retry) ≡ true)
+said-result a none e h z = absurd (z (ap (λ (s : Said). s .code) e))
+said-result a (some r) e h z =
+    let k = result-read r (h r refl) in
+    (ap some (sym (k .0) ∙ sym (ap resultOf e)), ap (λ (s : Said). resultByCode (s .code) (s .retry)) e ∙ k .1)
+
+module _ (n : ℕ) (hs : List Heard) (good : badReplies n hs ≡ false) where
+  results-good : any (λ h. not (resultByRule (h .result))) hs ≡ false
+  unfolding badReplies
+  results-good = either-right _ _ (either-right _ _ (either-right _ _ (either-right _ _ good)))
+
+  by-rule : (h : Heard) → h ∈ hs → resultByRule (h .result) ≡ true
+  by-rule h m = not-false _ (any-none _ hs results-good h m)
+
+  pub final-said : (a : Said) → a ≡ saidAs (finalHeard hs) → (a .code ≡ 0 → ⊥) → (finalHeard hs ≡ some (resultOf a)) × (resultByCode (a .code) (a .retry) ≡ true)
+  unfolding finalHeard
+  final-said a e = said-result a (finalHeard hs) e from
+    where
+      from : (r : Result) → finalHeard hs ≡ some r → resultByRule r ≡ true
+      from r k =
+          let (h, m, j) = first-from (λ g. provided (g .isFinal) (g .result)) hs r k in
+          rw (← provided-some (h .isFinal) (h .result) r j .1) (by-rule h m)
+
+  pub fast-said : (a : Said) → a ≡ saidAs (fastOf n hs) → (a .code ≡ 0 → ⊥) → (fastOf n hs ≡ some (resultOf a)) × (resultByCode (a .code) (a .retry) ≡ true)
+  unfolding fastOf
+  fast-said a e = said-result a (fastOf n hs) e from
+    where
+      from : (r : Result) → fastOf n hs ≡ some r → resultByRule r ≡ true
+      from r k =
+          let (h, m, j) = first-from (λ g. provided (isFast n hs (g .result)) (g .result)) hs r k in
+          rw (← provided-some (isFast n hs (h .result)) (h .result) r j .1) (by-rule h m)
+
+-- ---- "Two unequal finals, or a fast count for a result other than a final one: 6."
+
+-- by their codes
+pub unequal-said : (a b : Said) → resultByCode (a .code) (a .retry) ≡ true → resultByCode (b .code) (b .retry) ≡ true → sameResult (resultOf a) (resultOf b) ≡ both (eqb (a .code) (b .code)) (eqb (a .retry) (b .retry))
+unfolding sameResult
+unequal-said a b h k =
+    let c = result-coded (a .code) (a .retry) h in
+    let d = result-coded (b .code) (b .retry) k in
+    rw (c .sameCode, c .sameRetry, d .sameCode, d .sameRetry)
+
+abbrev otherFinal : Result → Heard → Bool
+otherFinal q g = both (g .isFinal) (not (sameResult q (g .result)))
+
+-- a final result is the first one, if none is unequal to that
+final-is : (hs : List Heard) (q : Result) → any (otherFinal q) hs ≡ false → (h : Heard) → h ∈ hs → h .isFinal ≡ true → q ≡ h .result
+unfolding both
+final-is hs q a h m f = not-other-result q (h .result) (rw f at (any-none (otherFinal q) hs a h m))
+
+unequal-pair : (hs : List Heard) (h g : Heard) → h ∈ hs → g ∈ hs → h .isFinal ≡ true → otherFinal (h .result) g ≡ true → unequalFinalHeard hs ≡ true
+unfolding unequalFinalHeard somePair
+unequal-pair hs h g mh mg f o =
+    some-any (λ h. any (λ g. both (both (h .isFinal) (g .isFinal)) (not (sameResult (h .result) (g .result)))) hs) hs h mh
+    (some-any (λ g. both (both (h .isFinal) (g .isFinal)) (not (sameResult (h .result) (g .result)))) hs g mg (both-true (both-true f (both-left _ _ o)) (both-right _ _ o)))
+
+-- no final result is unequal to q: no two are unequal
+finals-equal : (hs : List Heard) (q : Result) → any (otherFinal q) hs ≡ false → unequalFinalHeard hs ≡ false
+unfolding unequalFinalHeard
+finals-equal hs q a = none-pair _ hs pair
+  where
+    pair : (h g : Heard) → h ∈ hs → g ∈ hs → both (both (h .isFinal) (g .isFinal)) (not (sameResult (h .result) (g .result))) ≡ false
+    pair h g mh mg = go (cases (both (h .isFinal) (g .isFinal)))
+      where
+        go : (both (h .isFinal) (g .isFinal) ≡ true) ⊎ (both (h .isFinal) (g .isFinal) ≡ false) → both (both (h .isFinal) (g .isFinal)) (not (sameResult (h .result) (g .result))) ≡ false
+        go (inl t) = rw (← final-is hs q a h mh (both-left _ _ t), ← final-is hs q a g mg (both-right _ _ t), result-same q) (both-false _)
+        go (inr f) = not-first _ f
+
+abbrev besideFinal : ℕ → List Heard → Heard → Heard → Bool
+besideFinal n hs h g = both (both (h .isFinal) (isFast n hs (g .result))) (not (sameResult (h .result) (g .result)))
+
+-- whether there is a contradiction, found from the first final result and the fast one
+module _ (n : ℕ) (hs : List Heard) (good : badReplies n hs ≡ false) where
+  abbrev Contradicts : Bool → Type 0
+  Contradicts b = b ≡ either (unequalFinalHeard hs) (fastBesideFinal n hs)
+
+  no-final : finalHeard hs ≡ none → (h : Heard) → h ∈ hs → h .isFinal ≡ false
+  unfolding finalHeard
+  no-final e h m = go (h .isFinal) (first-none (λ g. provided (g .isFinal) (g .result)) hs e h m)
+    where
+      go : (b : Bool) → provided b (h .result) ≡ none → b ≡ false
+      go true k = none-some (sym k)
+      go false k = refl
+
+  -- "none is final"
+  pub contradicts-none : finalHeard hs ≡ none → Contradicts false
+  unfolding unequalFinalHeard fastBesideFinal
+  contradicts-none e =
+      sym
+      (either-false
+      (none-pair (λ h g. both (both (h .isFinal) (g .isFinal)) (not (sameResult (h .result) (g .result)))) hs (λ h g mh mg. not-first _ (not-first _ (no-final e h mh))))
+      (none-pair (besideFinal n hs) hs (λ h g mh mg. not-first _ (not-first _ (no-final e h mh)))))
+
+  -- another is final
+  pub contradicts-other : (q : Result) → finalHeard hs ≡ some q → any (otherFinal q) hs ≡ true → Contradicts true
+  unfolding finalHeard
+  contradicts-other q e o =
+      let (h, mh, k) = first-from (λ g. provided (g .isFinal) (g .result)) hs q e in
+      let (f, i) = provided-some (h .isFinal) (h .result) q k in
+      let (g, mg, og) = any-some (otherFinal q) hs o in
+      sym (either-first _ _ (unequal-pair hs h g mh mg f (rw i og)))
+
+  is-fast : (p : Result) → fastOf n hs ≡ some p → (g : Heard) × (g ∈ hs) × (isFast n hs (g .result) ≡ true) × (g .result ≡ p)
+  unfolding fastOf
+  is-fast p e =
+      let (g, mg, k) = first-from (λ g. provided (isFast n hs (g .result)) (g .result)) hs p e in
+      let (f, i) = provided-some (isFast n hs (g .result)) (g .result) p k in
+      (g, mg, f, i)
+
+  no-fast : fastOf n hs ≡ none → (g : Heard) → g ∈ hs → isFast n hs (g .result) ≡ false
+  unfolding fastOf
+  no-fast e g m = go (isFast n hs (g .result)) (first-none (λ h. provided (isFast n hs (h .result)) (h .result)) hs e g m)
+    where
+      go : (b : Bool) → provided b (g .result) ≡ none → b ≡ false
+      go true k = none-some (sym k)
+      go false k = refl
+
+  -- none is fast
+  pub contradicts-slow : (q : Result) → any (otherFinal q) hs ≡ false → fastOf n hs ≡ none → Contradicts false
+  unfolding fastBesideFinal
+  contradicts-slow q a e = sym (either-false (finals-equal hs q a) (none-pair (besideFinal n hs) hs (λ h g mh mg. not-first _ (rw (no-fast e g mg) (both-false _)))))
+
+  -- the fast one is another than the final one, or the same
+  pub contradicts-fast : (q p : Result) → finalHeard hs ≡ some q → any (otherFinal q) hs ≡ false → fastOf n hs ≡ some p → Contradicts (not (sameResult q p))
+  unfolding fastBesideFinal somePair finalHeard
+  contradicts-fast q p eq a ep = go (cases (sameResult q p))
+    where
+      go : (sameResult q p ≡ true) ⊎ (sameResult q p ≡ false) → Contradicts (not (sameResult q p))
+      go (inr d) =
+          let (h, mh, k) = first-from (λ g. provided (g .isFinal) (g .result)) hs q eq in
+          let (f, i) = provided-some (h .isFinal) (h .result) q k in
+          let (g, mg, enough, j) = is-fast p ep in
+          let t : besideFinal n hs h g ≡ true = both-true (both-true f enough) (rw (i, j) (not-true-of _ d)) in
+          rw d (sym (either-second _ _ (some-any (λ h. any (besideFinal n hs h) hs) hs h mh (some-any (besideFinal n hs h) hs g mg t))))
+      go (inl s) = rw s (sym (either-false (finals-equal hs q a) (none-pair (besideFinal n hs) hs pair)))
+        where
+          pair : (h g : Heard) → h ∈ hs → g ∈ hs → besideFinal n hs h g ≡ false
+          pair h g mh mg = at (cases (both (h .isFinal) (isFast n hs (g .result))))
+            where
+              at : (both (h .isFinal) (isFast n hs (g .result)) ≡ true) ⊎ (both (h .isFinal) (isFast n hs (g .result)) ≡ false) → besideFinal n hs h g ≡ false
+              at (inr f) = not-first _ f
+              at (inl t) =
+                  let (k, mk, enough, j) = is-fast p ep in
+                  let e : h .result ≡ g .result = sym (final-is hs q a h mh (both-left _ _ t)) ∙ same-result q p s ∙ sym j ∙ fast-one n hs (k .result) (g .result) good enough (both-right _ _ t) in
+                  rw (e, result-same) (both-false _)
+
+-- ---- "slow ABORT if any is ABORT; slow OK if f+1 are OK; slow RETRY with the greatest stamp if any; slow ABSTAIN"
+
+any-counted : {A : Type 0} (test : A → Bool) (xs : List A) → any test xs ≡ ltb 0 (count test xs)
+unfolding any count either
+any-counted test [] = refl
+any-counted test (x ∷ xs) = go (test x) (any-counted test xs)
+  where
+    go : (b : Bool) → any test xs ≡ ltb 0 (count test xs) → either b (any test xs) ≡ ltb 0 (bit b + count test xs)
+    go true e = sym (lt-ltb 0 (1 + count test xs) (omega arith))
+    go false e = let z : count test xs ≡ 0 + count test xs = omega arith in e ∙ ap (ltb 0) z
+
+-- of results by the rules, the greatest retry stamp is above 0 if one is RETRY
+retried : (r : Result) → resultByRule r ≡ true → eqb (resultCode r) 4 ≡ ltb 0 (resultRetry r)
+unfolding resultByRule isStamp
+retried OK h = refl
+retried ABORT h = refl
+retried ABSTAIN h = refl
+retried (RETRY s) h = sym (both-left _ _ h)
+
+greater : (a b : ℕ) → either (ltb 0 a) (ltb 0 b) ≡ ltb 0 (max a b)
+unfolding either
+greater a b = go (cases (ltb 0 a))
+  where
+    go : (ltb 0 a ≡ true) ⊎ (ltb 0 a ≡ false) → either (ltb 0 a) (ltb 0 b) ≡ ltb 0 (max a b)
+    go (inl t) = let l = ltb-true 0 a t in rw t (sym (lt-ltb 0 (max a b) (omega arith)))
+    go (inr f) = let l = ltb-false 0 a f in let e : b ≡ max a b = omega arith in rw f (ap (ltb 0) e)
+
+any-retried : (hs : List Heard) → any (λ h. not (resultByRule (h .result))) hs ≡ false → any (λ h. eqb (resultCode (h .result)) 4) hs ≡ ltb 0 (greatestRetry hs)
+unfolding any greatestRetry greatest
+any-retried [] h = refl
+any-retried (g ∷ hs) h = rw (retried (g .result) (not-false _ (either-left _ _ h)), any-retried hs (either-right _ _ h)) (greater (resultRetry (g .result)) (greatestRetry hs))
+
+module _ (n : ℕ) (hs : List Heard) (aborts : ℕ) (ea : aborts ≡ agreeing hs ABORT) where
+  pub slow-abort : 0 < aborts → slowResult n hs ≡ ABORT
+  unfolding slowResult agreeing
+  slow-abort l = rw (any-counted (λ h. sameResult ABORT (h .result)) hs, ← ea, lt-ltb 0 aborts l) refl
+
+  module _ (nobody : aborts ≤ 0) (oks enough : ℕ) (eo : oks ≡ agreeing hs OK) (ee : enough ≡ quorum (fOf n)) where
+    no-abort : any (λ h. sameResult ABORT (h .result)) hs ≡ false
+    unfolding agreeing
+    no-abort = any-counted (λ h. sameResult ABORT (h .result)) hs ∙ rw (← ea) (le-ltb 0 aborts nobody)
+
+    pub slow-ok : enough ≤ oks → slowResult n hs ≡ OK
+    unfolding slowResult
+    slow-ok l = rw (no-abort, ← eo, ← ee, le-leb enough oks l) refl
+
+    module _ (few : oks < enough) (good : badReplies n hs ≡ false) (stamp : ℕ) (es : stamp ≡ greatestRetry hs) where
+      pub slow-retry : 0 < stamp → slowResult n hs ≡ RETRY stamp
+      unfolding slowResult
+      slow-retry l = rw (no-abort, ← eo, ← ee, lt-leb enough oks few, any-retried hs (results-good n hs good), ← es, lt-ltb 0 stamp l) refl
+
+      pub slow-abstain : stamp ≤ 0 → slowResult n hs ≡ ABSTAIN
+      unfolding slowResult
+      slow-abstain l = rw (no-abort, ← eo, ← ee, lt-leb enough oks few, any-retried hs (results-good n hs good), ← es, le-ltb 0 stamp l) refl
+
+-- ---- "fast with r ..; wait if fewer than f+1 replies; slow with the final result if there is one; .."
+
+fast-answer : (a : Said) (o : Option Result) → a ≡ saidAs o → (a .code ≡ 0 → ⊥) → (c : Counted) → Fast (a .code) (a .retry) ≡ answerAs (fastOr o c)
+fast-answer a none e z c = absurd (z (ap (λ (s : Said). s .code) e))
+fast-answer a (some r) e z c = ap (λ (s : Said). Fast (s .code) (s .retry)) e
+
+slow-answer : (a : Said) (o : Option Result) → a ≡ saidAs o → (a .code ≡ 0 → ⊥) → (q : Result) → Slow (a .code) (a .retry) ≡ answerAs (slowOr o q)
+slow-answer a none e z q = absurd (z (ap (λ (s : Said). s .code) e))
+slow-answer a (some r) e z q = ap (λ (s : Said). Slow (s .code) (s .retry)) e
+
+module _ (n : ℕ) (hs : List Heard) (last enough : Said) (el : last ≡ saidAs (finalHeard hs)) (ee : enough ≡ saidAs (fastOf n hs)) where
+  pub decided-fast : (enough .code ≡ 0 → ⊥) → Fast (enough .code) (enough .retry) ≡ answerAs (decided n hs)
+  unfolding decided
+  decided-fast z = fast-answer enough (fastOf n hs) ee z _
+
+  module _ (z : enough .code ≡ 0) where
+    pub decided-wait : length hs < quorum (fOf n) → Wait ≡ answerAs (decided n hs)
+    unfolding decided
+    decided-wait l = rw (none-said enough (fastOf n hs) ee z, lt-ltb _ _ l) refl
+
+    pub decided-final : quorum (fOf n) ≤ length hs → (last .code ≡ 0 → ⊥) → Slow (last .code) (last .retry) ≡ answerAs (decided n hs)
+    unfolding decided
+    decided-final l y = rw (none-said enough (fastOf n hs) ee z, le-ltb _ _ l) (slow-answer last (finalHeard hs) el y (slowResult n hs))
+
+    pub decided-slow : quorum (fOf n) ≤ length hs → last .code ≡ 0 → (a : Said) → a ≡ saidAs (some (slowResult n hs)) → Slow (a .code) (a .retry) ≡ answerAs (decided n hs)
+    unfolding decided
+    decided-slow l y a e = rw (none-said enough (fastOf n hs) ee z, le-ltb _ _ l, none-said last (finalHeard hs) el y) (ap (λ (s : Said). Slow (s .code) (s .retry)) e)

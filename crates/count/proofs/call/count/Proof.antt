@@ -1,0 +1,33 @@
+-- The replies held are counted as those of the bytes are.
+use mathlib.Core.Path.{_≡_, sym, ap}
+use Prim.Native.Nat.{_*_, _/_}
+use native.Mathlib.Omega.{arith}
+use lib.ListN.{length}
+use denote.Ref.{now}
+use borrow.Author.Needs.{needs}
+use Rattle.count.specs.Answers.{answerAs}
+use Rattle.count.proofs.BadReplies.{many-bad}
+use Rattle.count.proofs.HeldAll.{count-held}
+use Rattle.count.proofs.HeardBytes.{count-whole, count-broken}
+use Rattle.count.proofs.call.count.Statement.{statement}
+use Rattle.count.proofs.call.count.Tie as tie
+
+returns : tie.Need-returns
+returns c =
+    let a = c .before .before .args in
+    ap answerAs (sym (count-broken (a .n) (now (a .bytes)) (omega arith)))
+
+gather-requires : tie.Need-gather-requires
+gather-requires c κs = search needs
+
+count-requires : tie.Need-count-requires
+count-requires c κs = search needs
+
+returns-2 : tie.Need-returns-2
+returns-2 c =
+    let a = c .before .before .before .before .args in
+    let whole : length (now (a .bytes)) ≡ 15 * (length (now (a .bytes)) / 15) = omega arith in
+    rw (c .count .ensures, c .before .gather .ensures, count-held (a .n) _ (many-bad (a .n)), count-whole (a .n) (now (a .bytes)) whole)
+
+pub count-spec : {M : Type 1} → statement M
+count-spec = tie.close (tie.spec returns gather-requires count-requires returns-2)

@@ -1,0 +1,84 @@
+-- Those held, with those of the bytes that are left.
+use mathlib.Core.Path.{_≡_, sym, _∙_}
+use mathlib.Core.List.{List}
+use Prim.Native.Nat.{ℕ, _+_, _-_, _*_, _/_, _≤_, _<_}
+use native.Mathlib.Nat.{sub-zero}
+use native.Mathlib.Omega.{arith}
+use lib.ListN.{length, drop}
+use denote.Ref.{now}
+use Rattle.count.specs.declared.replies.Replies.{Replies}
+use Rattle.count.specs.Held.{noneHeld, withReply, withReplies}
+use Rattle.count.specs.Bytes.{replyAt, repliesOf}
+use Rattle.count.proofs.HeardBytes.{replies-turn, replies-end}
+use Rattle.count.proofs.call.gather.Statement.{statement}
+use Rattle.count.proofs.call.gather.Tie as tie
+
+-- with the replies from a place on
+abbrev withRest : Replies → List ℕ → ℕ → Replies
+withRest h s at = withReplies h (repliesOf ((length s - at) / 15) (drop at s))
+
+abbrev Inv-loop : tie.InvT-loop
+Inv-loop bytes replies₀ at₀ replies at = (at ≡ 15 * (at / 15)) × (at ≤ length bytes) × (withRest replies bytes at ≡ withReplies noneHeld (repliesOf (length bytes / 15) bytes))
+
+abbrev μ-loop : tie.MeasureT-loop
+μ-loop bytes replies₀ at₀ replies at = length bytes - at
+
+-- of whole replies, before the end there is one more
+room : (at len : ℕ) → at ≡ 15 * (at / 15) → len ≡ 15 * (len / 15) → at < len → at + 15 ≤ len
+room at len a l t = omega arith
+
+-- a turn holds the next of the rest
+rest-turn : (h : Replies) (s : List ℕ) (at : ℕ) → at + 15 ≤ length s → withRest (withReply h (replyAt s at)) s (at + 15) ≡ withRest h s at
+unfolding withReplies
+rest-turn h s at l = rw (replies-turn s at l)
+
+-- at the end there is no rest
+rest-end : (h : Replies) (s : List ℕ) (at : ℕ) → length s ≤ at → withRest h s at ≡ h
+unfolding withReplies
+rest-end h s at l = rw (replies-end s at l)
+
+none-requires : tie.Need-none-requires Inv-loop μ-loop
+none-requires c κs = tt
+
+loop-holds : tie.Need-loop-holds Inv-loop μ-loop
+loop-holds c = (omega arith, omega arith, rw (c .none .ensures, sub-zero))
+
+-- so the turn has its reply
+here : (c : tie.In-loop Inv-loop μ-loop) → c .before .loop .at + 15 ≤ length (now (c .before .before .before .before .args .bytes))
+here c = room _ _ (c .before .loop .inv .0) (c .before .before .before .before .pre) (c .loop-test .taken)
+
+reply-at-requires : tie.Need-reply-at-requires Inv-loop μ-loop
+reply-at-requires c κs = here c
+
+with-requires : tie.Need-with-requires Inv-loop μ-loop
+with-requires c κs = tt
+
+add-at : tie.Need-add-at Inv-loop μ-loop
+add-at c = let l = here (c .before .before) in omega arith
+
+loop-less : tie.Need-loop-less Inv-loop μ-loop
+loop-less c = omega arith
+
+loop-again : tie.Need-loop-again Inv-loop μ-loop
+loop-again c =
+    let l = here (c .before .before) in
+    let x = c .before .before .before .loop in
+    (omega arith, omega arith, rw (c .with .ensures, c .before .reply-at .ensures) (rest-turn (x .replies) _ (x .at) l ∙ x .inv .2))
+
+returns : tie.Need-returns Inv-loop μ-loop
+returns c = sym (rest-end (c .before .loop .replies) (now (c .before .before .before .before .args .bytes)) (c .before .loop .at) (c .loop-test .left)) ∙ c .before .loop .inv .2
+
+pub gather-spec : {M : Type 1} → statement M
+gather-spec =
+    tie.close
+    (tie.spec
+    Inv-loop
+    μ-loop
+    none-requires
+    loop-holds
+    reply-at-requires
+    with-requires
+    add-at
+    loop-less
+    loop-again
+    returns)

@@ -1,0 +1,5 @@
+pub mod Heard
+pub mod Held
+pub mod Bad
+pub mod Answers
+pub mod Bytes
