@@ -1,29 +1,30 @@
 -- What is decided of replies that are not bad, by what the walks over them found.
 use mathlib.Core.Path.{_≡_, refl, sym, ap, _∙_}
-use mathlib.Core.Bool.{Bool, true, false, not, cond}
+use mathlib.Core.Bool.{Bool, true, false, not}
 use mathlib.Core.Logic.{_⊎_, inl, inr}
 use mathlib.Core.List.{List, [], _∷_}
 use mathlib.Core.Option.{Option, none, some}
 use Prim.Native.Nat.{ℕ, _+_, _<_, _≤_, max}
 use native.Mathlib.Omega.{arith}
-use lib.Dec.{eqb, ltb, leb}
+use lib.Dec.{eqb, ltb}
 use lib.ListN.{length}
-use borrow.Author.Tests.{ltb-true, ltb-false, not-false, lt-ltb, le-ltb, le-leb, lt-leb, eq-eqb, ne-eqb}
-use Rattle.rules.specs.Tests.{both, either, bit, any, count, greatest, somePair, provided, firstOf}
+use borrow.Author.Tests.{ltb-true, ltb-false, not-false, lt-ltb, le-ltb, le-leb, lt-leb}
+use Rattle.rules.specs.Tests.{both, either, bit, any, count, greatest, somePair, provided}
 use Rattle.rules.specs.Groups.{fOf, quorum}
 use Rattle.rules.specs.Stamps.{isStamp}
 use Rattle.rules.specs.Tables.{Result, Result.OK, Result.ABORT, Result.ABSTAIN, Result.RETRY, resultCode, resultRetry, sameResult, resultByRule}
-use Rattle.rules.specs.Count.{Heard, badReplies, agreeing, isFast, unequalFinalHeard, fastBesideFinal, Counted, Counted.fast, Counted.slow, Counted.wait, fastOf, finalHeard, greatestRetry, slowResult, slowOr, fastOr, decided}
-use Rattle.rules.proofs.Logic.{impossible, none-some, cases, both-left, both-right, both-true, both-false, either-false, either-left, either-right, either-first, either-second, not-false-of, not-true-of}
+use Rattle.rules.specs.Count.{Heard, badReplies, agreeing, isFast, unequalFinalHeard, fastBesideFinal, Counted, fastOf, finalHeard, greatestRetry, slowResult, slowOr, fastOr, decided}
+use Rattle.rules.proofs.Logic.{none-some, cases, both-left, both-right, both-true, both-false, either-false, either-left, either-right, either-first, either-second, not-true-of}
 use Rattle.rules.proofs.Lists.{_∈_, any-none, any-some, some-any, none-pair, provided-some, first-from, first-none}
 use Rattle.rules.proofs.Same.{same-result, result-same, not-other-result}
 use Rattle.rules.proofs.Votes.{fast-one}
 use Rattle.message.specs.Messages.{resultByCode}
 use Rattle.message.proofs.Forms.{result-read}
 use Rattle.message.proofs.Lawful.{result-coded}
-use Rattle.count.specs.declared.said.Said.{Said}
+use Rattle.replies.specs.declared.said.Said.{Said}
 use Rattle.count.specs.declared.answer.Counted.the-variants.{Fast, Slow, Wait}
-use Rattle.count.specs.Answers.{saidAs, resultOf, answerAs}
+use Rattle.replies.specs.Results.{saidAs, resultOf}
+use Rattle.count.specs.Answers.{answerAs}
 
 not-first : {a : Bool} (b : Bool) → a ≡ false → both a b ≡ false
 unfolding both

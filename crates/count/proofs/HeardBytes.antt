@@ -20,9 +20,9 @@ use Rattle.rules.specs.Count as rules
 use Rattle.rules.proofs.Logic.{both-true}
 use Rattle.rules.proofs.Lists.{_∈_}
 use Rattle.message.proofs.Forms.{result-small, result-read}
-use Rattle.count.specs.declared.replies.Reply.{Reply}
-use Rattle.count.specs.Heard.{resultRead, heard, allHeard, countOf}
-use Rattle.count.specs.Bytes.{heardBytes, allBytes, replyAt, repliesOf, countBytes}
+use Rattle.replies.specs.declared.held.Reply.{Reply}
+use Rattle.replies.specs.Heard.{resultRead, heard, allHeard}
+use Rattle.count.specs.Calls.{countOf, heardBytes, allBytes, replyAt, repliesOf, countBytes}
 
 -- ---- a walk over the bytes
 

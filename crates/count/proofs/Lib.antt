@@ -1,5 +1,3 @@
-pub mod HeldAll
+pub mod Counts
 pub mod HeardBytes
-pub mod Turns
-pub mod BadReplies
 pub mod Decisions

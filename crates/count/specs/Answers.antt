@@ -1,29 +1,13 @@
 -- 01, 'The coordinator's count': its answers as numbers. "An answer is taken apart before any field of it is used."
 use mathlib.Core.Bool.{cond}
-use mathlib.Core.Option.{Option, none, some}
 use Prim.Native.Nat.{ℕ}
 use lib.Dec.{eqb}
-use Rattle.rules.specs.Tables.{Result, resultCode, resultRetry}
+use Rattle.rules.specs.Tables.{resultCode, resultRetry}
 use Rattle.rules.specs.Numbers.{Number.badMessage, Number.contradiction, numberCode}
 use Rattle.rules.specs.Count as rules
 use Rattle.rows.specs.Fields.{resultNumbered}
-use Rattle.count.specs.declared.replies.Reply.{Reply}
-use Rattle.count.specs.declared.said.Said.{Said}
 use Rattle.count.specs.declared.answer.Counted.{Counted}
 use Rattle.count.specs.declared.answer.Counted.the-variants.{Fast, Slow, Wait, Bad, Contradiction}
-
--- the result of a reply
-abbrev pub saidBy : Reply → Said
-saidBy r = record { code = r .result; retry = r .retry }
-
--- a result by its code and its retry stamp; zeros of none
-abbrev pub saidAs : Option Result → Said
-saidAs none = record { code = 0; retry = 0 }
-saidAs (some r) = record { code = resultCode r; retry = resultRetry r }
-
--- and what they mean, where they are a result's
-abbrev pub resultOf : Said → Result
-resultOf a = resultNumbered (a .code) (a .retry)
 
 -- "fast with r .. wait .. slow with ..", and the two refusals
 abbrev pub answerAs : rules.Counted → Counted
@@ -39,3 +23,11 @@ meant (Slow result retry) = rules.Counted.slow (resultNumbered result retry)
 meant Wait = rules.Counted.wait
 meant Bad = rules.Counted.refused (numberCode badMessage)
 meant Contradiction = rules.Counted.refused (numberCode contradiction)
+
+-- the number of each case
+abbrev pub answerNumber : Counted → ℕ
+answerNumber (Fast result retry) = 0
+answerNumber (Slow result retry) = 0
+answerNumber Wait = 0
+answerNumber Bad = numberCode badMessage
+answerNumber Contradiction = numberCode contradiction

@@ -1,5 +1,2 @@
-pub mod Heard
-pub mod Held
-pub mod Bad
 pub mod Answers
-pub mod Bytes
+pub mod Calls

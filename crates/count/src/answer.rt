@@ -1,17 +1,18 @@
 // The count: what is refused, and then fast, wait or slow.
-use crate::bad;
-use crate::replies::Replies;
-use crate::said;
-use crate::said::Said;
+use replies::bad;
+use replies::held::Replies;
+use replies::said;
+use replies::said::Said;
 ghost use mathlib.Core.Path.{_≡_};
 ghost use mathlib.Core.Bool.{false};
 ghost use mathlib.Core.Option.{some};
 ghost use Rattle.rules.specs.Tests.{either};
 ghost use Rattle.rules.specs.Count as rules;
-ghost use Rattle.count.specs.Heard.{countOf};
-ghost use Rattle.count.specs.Held.{repliesIn, heardIn, Read};
-ghost use Rattle.count.specs.Bad.{areBad};
-ghost use Rattle.count.specs.Answers.{saidAs, answerAs};
+ghost use Rattle.count.specs.Calls.{countOf};
+ghost use Rattle.replies.specs.Held.{repliesIn, heardIn};
+ghost use Rattle.replies.specs.Bad.{areBad};
+ghost use Rattle.replies.specs.Results.{saidAs};
+ghost use Rattle.count.specs.Answers.{answerAs};
 
 // What a count answers: a result with its retry stamp, to wait for more, or a refusal.
 pub enum Counted {

@@ -1,14 +1,14 @@
 // The count over lent bytes, 15 a reply.
 use crate::answer;
 use crate::answer::Counted;
-use crate::replies::Replies;
-use crate::replies::Reply;
+use replies::held::Replies;
+use replies::held::Reply;
 ghost use mathlib.Core.Path.{_≡_};
 ghost use Prim.Native.Nat.{_≤_, _+_, _*_, _/_};
 ghost use lib.ListN.{length};
-ghost use Rattle.count.specs.Held.{noneHeld, withReplies};
+ghost use Rattle.replies.specs.Held.{noneHeld, withReplies};
 ghost use Rattle.count.specs.Answers.{answerAs};
-ghost use Rattle.count.specs.Bytes.{replyAt, repliesOf, countBytes};
+ghost use Rattle.count.specs.Calls.{replyAt, repliesOf, countBytes};
 
 // The length of a reply.
 const LENGTH: usize = 15;

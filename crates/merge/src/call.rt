@@ -1,7 +1,6 @@
 // The merge: the public call, which ends with a number of 01's list.
 use crate::write;
 use decide::survey;
-use run::counts;
 use run::newest;
 use run::whole;
 use run::wrong;
@@ -46,7 +45,7 @@ fn write_merged(out: &mut [u8], run: &[u8], view: u32, newest: u32, rows: usize)
     ensures { λ _. ⌜ now (out .exit) ≡ replaced (now (out .entry)) 0 (image formatOne (mergedTable check view (tablesOf valley (now (run .entry))))) ⌝ }
 {
     let n = header::read(run).n;
-    let agreement = counts::agreement(n);
+    let agreement = quorums::agreement(n);
     let end = write::write_rows(out, run, newest, agreement, rows);
     header::write(out, start_header(n, view, rows as u32, end as u32));
     settle::check_rows(out, run, newest, agreement, false);

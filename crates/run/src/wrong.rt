@@ -1,5 +1,4 @@
 // Whether the tables of a run are wrong for a merge: not f+1 of one group, a box twice, one that isn't changing, or one that promised another view.
-use crate::counts;
 use table::header;
 use table::header::Header;
 ghost use mathlib.Core.Path.{_≡_};
@@ -92,7 +91,7 @@ pub fn are_wrong(run: &[u8], view: u32) -> bool
     ensures { λ r. ⌜ r ≡ areWrong view (tablesOf valley (now (run .entry))) ⌝ }
 {
     let n = header::read(run).n;
-    if images(run) != counts::quorum(n) {
+    if images(run) != quorums::quorum(n) {
         return true;
     }
     if some_unfit(run, n, view) {

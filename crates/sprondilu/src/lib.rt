@@ -1,16 +1,20 @@
 // The C boundary: what box firmware and the host program link. include/sprondilu.h says the same in C's words.
 //
 // A `&[u8]` passes as a pointer and a length. That the pointers are good is assumed and proved by nobody; all else is the crates' below.
+use count::answer::Counted;
 use table::image::Found;
 use table::model::Model;
 ghost use mathlib.Core.Path.{_≡_};
+ghost use Prim.Native.Nat.{_<_, _^_};
 ghost use Rattle.rules.specs.Tables.{valley};
 ghost use Rattle.table.specs.Images.{formatOne};
 ghost use Rattle.table.specs.Parse.{parse, imageFound};
 ghost use Rattle.table.specs.Fresh.{freshNumber, freshBuffer};
 ghost use Rattle.answer.specs.Calls.{callNumber, callTable, callReply};
 ghost use Rattle.merge.specs.Calls as merging;
-ghost use Rattle.sprondilu.specs.Calls.{validAnswer};
+ghost use Rattle.count.specs.Answers.{answerAs, answerNumber};
+ghost use Rattle.count.specs.Bytes.{countBytes};
+ghost use Rattle.sprondilu.specs.Calls.{validAnswer, resultWord, countAnswer};
 
 // The fresh table of a box, at the start of a table buffer; the answer is the number.
 #[no_mangle]
@@ -49,4 +53,38 @@ pub extern "C" fn sprondilu_valid(bytes: &[u8]) -> u64
         return 2;
     };
     65536 * length as u64
+}
+
+// A result and its retry stamp in the bits of an answer. A stamp has 48 bits.
+fn result_word(kind: u64, result: u8, retry: u64) -> u64
+    requires { ⌜ (kind < 4) × (result < 8) × (retry < 2 ^ 48) ⌝ }
+    ensures { λ r. ⌜ r ≡ resultWord kind result retry ⌝ }
+{
+    256 * kind + 1024 * result as u64 + 65536 * retry
+}
+
+// The number of an answer.
+fn number_of(answer: Counted) -> u64
+    ensures { λ r. ⌜ r ≡ answerNumber answer ⌝ }
+{
+    match answer {
+        Counted::Bad => 3,
+        Counted::Contradiction => 6,
+        _ => 0,
+    }
+}
+
+// The coordinator's count of lent replies: number, kind, result and retry stamp in one word.
+#[no_mangle]
+pub extern "C" fn sprondilu_count(n: u8, replies: &[u8]) -> u64
+    ensures { λ r. ⌜ r ≡ countAnswer (answerAs (countBytes n (now (replies .entry)))) ⌝ }
+{
+    let answer = count::call::count(n, replies);
+    let Counted::Fast { result, retry } = answer else {
+        let Counted::Slow { result, retry } = answer else {
+            return number_of(answer);
+        };
+        return result_word(2, result, retry);
+    };
+    result_word(1, result, retry)
 }

@@ -2,10 +2,10 @@
 use mathlib.Core.Path.{_≡_, sym, ap, _∙_}
 use mathlib.Core.Bool.{false, not}
 use borrow.Author.Needs.{needs}
-use Rattle.count.specs.Held.{heardIn}
-use Rattle.count.proofs.Turns.{left}
+use Rattle.replies.specs.Held.{heardIn}
+use Rattle.replies.proofs.Turns.{left}
 use Rattle.rules.specs.Count.{badReplies}
-use Rattle.count.proofs.BadReplies.{good, good-read}
+use Rattle.replies.proofs.BadReplies.{good, good-read}
 use Rattle.count.proofs.Decisions.{none-said, final-said, fast-said, unequal-said, contradicts-none, contradicts-other, contradicts-slow, contradicts-fast}
 use Rattle.count.proofs.answer.contradicts.Statement.{statement}
 use Rattle.count.proofs.answer.contradicts.Tie as tie

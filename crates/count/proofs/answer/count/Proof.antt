@@ -2,11 +2,12 @@
 use mathlib.Core.Path.{_≡_, sym, ap, _∙_}
 use mathlib.Core.Bool.{false}
 use borrow.Author.Needs.{needs}
-use Rattle.count.specs.Held.{repliesIn}
-use Rattle.count.specs.Bad.{areBad}
-use Rattle.count.proofs.Turns.{left}
+use Rattle.replies.specs.Held.{repliesIn}
+use Rattle.replies.specs.Bad.{areBad}
+use Rattle.replies.proofs.Turns.{left}
 use Rattle.count.specs.Answers.{answerAs}
-use Rattle.count.proofs.BadReplies.{good-read, bad-refused, contradicted, clear}
+use Rattle.replies.proofs.BadReplies.{good-read}
+use Rattle.count.proofs.Counts.{bad-refused, contradicted, clear}
 use Rattle.count.proofs.answer.count.Statement.{statement}
 use Rattle.count.proofs.answer.count.Tie as tie
 

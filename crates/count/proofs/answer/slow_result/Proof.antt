@@ -2,11 +2,11 @@ use mathlib.Core.Path.{refl, sym, ap}
 use mathlib.Core.Option.{some}
 use Rattle.rules.specs.Tests.{both, either}
 use Rattle.rules.specs.Count.{agreeing}
-use Rattle.count.specs.Answers.{saidAs}
-use Rattle.count.proofs.Turns.{left}
+use Rattle.replies.specs.Results.{saidAs}
+use Rattle.replies.proofs.Turns.{left}
 use Rattle.rows.specs.Fields.{resultNumbered, retryByCode}
 use Rattle.message.specs.Messages.{resultByCode}
-use Rattle.count.proofs.BadReplies.{good, good-read}
+use Rattle.replies.proofs.BadReplies.{good, good-read}
 use Rattle.count.proofs.Decisions.{slow-abort, slow-ok, slow-retry, slow-abstain}
 use Rattle.count.proofs.answer.slow_result.Statement.{statement}
 use Rattle.count.proofs.answer.slow_result.Tie as tie

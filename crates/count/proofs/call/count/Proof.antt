@@ -6,8 +6,7 @@ use lib.ListN.{length}
 use denote.Ref.{now}
 use borrow.Author.Needs.{needs}
 use Rattle.count.specs.Answers.{answerAs}
-use Rattle.count.proofs.BadReplies.{many-bad}
-use Rattle.count.proofs.HeldAll.{count-held}
+use Rattle.count.proofs.Counts.{count-held}
 use Rattle.count.proofs.HeardBytes.{count-whole, count-broken}
 use Rattle.count.proofs.call.count.Statement.{statement}
 use Rattle.count.proofs.call.count.Tie as tie
@@ -27,7 +26,7 @@ returns-2 : tie.Need-returns-2
 returns-2 c =
     let a = c .before .before .before .before .args in
     let whole : length (now (a .bytes)) ≡ 15 * (length (now (a .bytes)) / 15) = omega arith in
-    rw (c .count .ensures, c .before .gather .ensures, count-held (a .n) _ (many-bad (a .n)), count-whole (a .n) (now (a .bytes)) whole)
+    rw (c .count .ensures, c .before .gather .ensures, count-held (a .n), count-whole (a .n) (now (a .bytes)) whole)
 
 pub count-spec : {M : Type 1} → statement M
 count-spec = tie.close (tie.spec returns gather-requires count-requires returns-2)

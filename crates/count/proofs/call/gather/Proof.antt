@@ -6,9 +6,9 @@ use native.Mathlib.Nat.{sub-zero}
 use native.Mathlib.Omega.{arith}
 use lib.ListN.{length, drop}
 use denote.Ref.{now}
-use Rattle.count.specs.declared.replies.Replies.{Replies}
-use Rattle.count.specs.Held.{noneHeld, withReply, withReplies}
-use Rattle.count.specs.Bytes.{replyAt, repliesOf}
+use Rattle.replies.specs.declared.held.Replies.{Replies}
+use Rattle.replies.specs.Held.{noneHeld, withReply, withReplies}
+use Rattle.count.specs.Calls.{replyAt, repliesOf}
 use Rattle.count.proofs.HeardBytes.{replies-turn, replies-end}
 use Rattle.count.proofs.call.gather.Statement.{statement}
 use Rattle.count.proofs.call.gather.Tie as tie

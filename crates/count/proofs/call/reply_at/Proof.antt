@@ -1,5 +1,5 @@
 use borrow.Author.Needs.{needs}
-use Rattle.count.specs.Bytes.{replyAt}
+use Rattle.count.specs.Calls.{replyAt}
 use Rattle.count.proofs.call.reply_at.Statement.{statement}
 use Rattle.count.proofs.call.reply_at.Tie as tie
 

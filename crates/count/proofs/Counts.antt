@@ -1,0 +1,64 @@
+-- What is refused with 3 and with 6, and what is decided, of replies in plain numbers.
+use mathlib.Core.Path.{_≡_, refl, sym, ap, _∙_}
+use mathlib.Core.Bool.{Bool, true, false, not}
+use mathlib.Core.Logic.{_⊎_, inl, inr}
+use mathlib.Core.List.{List}
+use Prim.Native.Nat.{ℕ, _<_}
+use native.Mathlib.Omega.{arith}
+use lib.Dec.{ltb}
+use lib.ListN.{length}
+use borrow.Author.Tests.{ltb-true, ltb-false}
+use Rattle.rules.specs.Tests.{both, either, every}
+use Rattle.rules.specs.Numbers.{Number.badMessage, Number.contradiction, numberCode, number, first, applies}
+use Rattle.rules.specs.Count.{Heard, badReplies, unequalFinalHeard, fastBesideFinal, countCircumstances, countNumber, decided, counted, Counted.refused}
+use Rattle.rules.proofs.Logic.{cases}
+use Rattle.replies.specs.declared.held.Reply.{Reply}
+use Rattle.replies.specs.Heard.{resultRead, allHeard}
+use Rattle.count.specs.Calls.{countOf}
+use Rattle.replies.specs.Held.{repliesIn, noneHeld, withReplies}
+use Rattle.replies.specs.Bad.{areBad}
+use Rattle.replies.proofs.BadReplies.{good, many}
+use Rattle.replies.proofs.HeldAll.{length-replies, held-few, held-many}
+
+-- ---- what is bad is refused with 3, and the rest is counted
+
+pub bad-refused : (n : ℕ) (rs : List Reply) → areBad n rs ≡ true → countOf n rs ≡ refused (numberCode badMessage)
+unfolding areBad countOf counted countNumber countCircumstances number first applies either both
+bad-refused n rs h = go (every resultRead rs) refl h
+  where
+    go : (b : Bool) → every resultRead rs ≡ b → either (not b) (badReplies n (allHeard rs)) ≡ true → countOf n rs ≡ refused (numberCode badMessage)
+    go false e k = rw e refl
+    go true e k = rw (e, k) refl
+
+pub good-counted : (n : ℕ) (rs : List Reply) → areBad n rs ≡ false → countOf n rs ≡ counted n (allHeard rs)
+unfolding countOf
+good-counted n rs h = rw (good n rs h .read) refl
+
+-- ---- of replies that are not bad, 6 or a decision
+
+abbrev contradicting : ℕ → List Heard → Bool
+contradicting n hs = either (unequalFinalHeard hs) (fastBesideFinal n hs)
+
+pub contradicted : (n : ℕ) (rs : List Reply) → areBad n rs ≡ false → contradicting n (allHeard rs) ≡ true → countOf n rs ≡ refused (numberCode contradiction)
+unfolding counted countNumber countCircumstances number first applies either both
+contradicted n rs h c = good-counted n rs h ∙ rw (good n rs h .lawful, c) refl
+
+pub clear : (n : ℕ) (rs : List Reply) → areBad n rs ≡ false → contradicting n (allHeard rs) ≡ false → countOf n rs ≡ decided n (allHeard rs)
+unfolding counted countNumber countCircumstances number first applies either both
+clear n rs h c = good-counted n rs h ∙ rw (good n rs h .lawful, c) refl
+
+pub many-bad : (n : ℕ) (rs : List Reply) → 7 < length rs → countOf n rs ≡ refused (numberCode badMessage)
+many-bad n rs l = bad-refused n rs (sym (many n rs l))
+
+-- ---- the replies held
+
+-- the replies held are counted as the list is, since more than seven are refused either way
+pub count-held : (n : ℕ) (rs : List Reply) → countOf n (repliesIn (withReplies noneHeld rs)) ≡ countOf n rs
+count-held n rs = go (cases (ltb 7 (length rs)))
+  where
+    go : (ltb 7 (length rs) ≡ true) ⊎ (ltb 7 (length rs) ≡ false) → countOf n (repliesIn (withReplies noneHeld rs)) ≡ countOf n rs
+    go (inl t) =
+        let l : 7 < length rs = ltb-true 7 (length rs) t in
+        let e : length (repliesIn (withReplies noneHeld rs)) ≡ 8 = length-replies (withReplies noneHeld rs) 0 (withReplies noneHeld rs .number) ∙ held-many rs l in
+        many-bad n (repliesIn (withReplies noneHeld rs)) (omega arith) ∙ sym (many-bad n rs l)
+    go (inr t) = ap (countOf n) (held-few rs (ltb-false 7 (length rs) t))

@@ -1,0 +1,3 @@
+pub mod HeldAll
+pub mod Turns
+pub mod BadReplies

@@ -1,0 +1,73 @@
+-- The first of those left that enough agree on is the first of all.
+use mathlib.Core.Path.{_≡_, refl, sym, ap, _∙_}
+use mathlib.Core.Bool.{true}
+use Prim.Native.Nat.{_-_, _≤_}
+use native.Mathlib.Omega.{arith}
+use borrow.Author.Needs.{needs}
+use Rattle.rules.specs.Count.{agreeing, fastOf, isFast}
+use Rattle.replies.specs.Heard.{resultRead}
+use Rattle.replies.specs.Held.{heardIn}
+use Rattle.replies.specs.Results.{saidBy, saidAs}
+use Rattle.replies.proofs.Turns.{left, starts, LeftRead, read-on, by-code, fast-yes, fast-no, chosen, chosen-is, chosen-on, chosen-over}
+use Rattle.message.specs.Messages.{resultByCode}
+use Rattle.replies.specs.declared.held.Reply.{Reply}
+use Rattle.replies.specs.declared.said.Said.{Said}
+use Rattle.replies.proofs.said.fast.Statement.{statement}
+use Rattle.replies.proofs.said.fast.Tie as tie
+
+abbrev Inv-loop : tie.InvT-loop
+Inv-loop replies n enough i₀ i = (i ≤ replies .number) × LeftRead replies i × (saidAs (chosen (λ g. isFast n (heardIn replies) (g .result)) (left replies i)) ≡ saidAs (fastOf n (heardIn replies)))
+
+abbrev μ-loop : tie.MeasureT-loop
+μ-loop replies n enough i₀ i = replies .number - i
+
+coded-said : (a : Said) {r q : Reply} → a ≡ saidBy r → r ≡ q → resultRead q ≡ true → resultByCode (a .code) (a .retry) ≡ true
+coded-said a {r} {q} e f h = rw (e, f) (by-code q h)
+
+fast-requires : tie.Need-fast-requires Inv-loop μ-loop
+fast-requires c κs = c .pre .1
+
+loop-holds : tie.Need-loop-holds Inv-loop μ-loop
+unfolding fastOf
+loop-holds c = (omega arith, rw (starts ((c .before) .args .replies)) ((c .before) .pre .0 .1), rw (starts ((c .before) .args .replies)) refl)
+
+at-requires : tie.Need-at-requires Inv-loop μ-loop
+at-requires c κs = let l = (c .before .before .before .before) .pre .0 .0 in omega arith
+
+said-by-requires : tie.Need-said-by-requires Inv-loop μ-loop
+said-by-requires c κs = search needs
+
+agreeing-requires : tie.Need-agreeing-requires Inv-loop μ-loop
+agreeing-requires c κs = ((c .before .before .before .before .before .before) .pre .0, coded-said _ (c .said-by .ensures) ((c .before) .at .ensures) (read-on _ _ ((c .before .before) .if1 .taken) ((c .before .before .before .before) .loop .inv .1) .0))
+
+returns : tie.Need-returns Inv-loop μ-loop
+returns c = (c .before .before) .said-by .ensures ∙ chosen-is (λ g. isFast ((c .before .before .before .before .before .before .before .before) .args .n) (heardIn ((c .before .before .before .before .before .before .before .before) .args .replies)) (g .result)) _ _ _ ((c .before .before .before) .at .ensures) ((c .before .before .before .before) .if1 .taken) ((c .before .before .before .before .before .before) .loop .inv .1) (fast-yes _ _ ((c .before .before .before) .at .result) _ ((c .before .before) .said-by .ensures) _ _ ((c .before .before .before .before .before .before .before) .fast .ensures) ((c .before) .agreeing .ensures) (c .if2 .taken)) ∙ (c .before .before .before .before .before .before) .loop .inv .2
+
+add-i : tie.Need-add-i Inv-loop μ-loop
+add-i c = omega arith
+
+loop-less : tie.Need-loop-less Inv-loop μ-loop
+loop-less c = omega arith
+
+loop-again : tie.Need-loop-again Inv-loop μ-loop
+loop-again c = (omega arith, read-on _ _ ((c .before .before .before .before) .if1 .taken) ((c .before .before .before .before .before .before) .loop .inv .1) .1, ap saidAs (chosen-on (λ g. isFast ((c .before .before .before .before .before .before .before .before) .args .n) (heardIn ((c .before .before .before .before .before .before .before .before) .args .replies)) (g .result)) _ _ _ ((c .before .before .before) .at .ensures) ((c .before .before .before .before) .if1 .taken) (fast-no _ _ ((c .before .before .before) .at .result) _ ((c .before .before) .said-by .ensures) _ _ ((c .before .before .before .before .before .before .before) .fast .ensures) ((c .before) .agreeing .ensures) (c .if2 .left))) ∙ (c .before .before .before .before .before .before) .loop .inv .2)
+
+returns-2 : tie.Need-returns-2 Inv-loop μ-loop
+returns-2 c = ap saidAs (sym (chosen-over (λ g. isFast ((c .before .before .before .before) .args .n) (heardIn ((c .before .before .before .before) .args .replies)) (g .result)) _ _ (c .if1 .left))) ∙ (c .before .before) .loop .inv .2
+
+pub fast-spec : {M : Type 1} → statement M
+fast-spec =
+    tie.close
+    (tie.spec
+    Inv-loop
+    μ-loop
+    fast-requires
+    loop-holds
+    at-requires
+    said-by-requires
+    agreeing-requires
+    returns
+    add-i
+    loop-less
+    loop-again
+    returns-2)

@@ -1,0 +1,58 @@
+-- The first of those left is the first of all.
+use mathlib.Core.Path.{_≡_, refl, sym, ap, _∙_}
+use Prim.Native.Nat.{_-_, _≤_}
+use native.Mathlib.Omega.{arith}
+use borrow.Author.Needs.{needs}
+use borrow.Author.Tests.{eq-eqb, ne-eqb}
+use Rattle.rules.specs.Count.{finalHeard}
+use Rattle.replies.specs.Held.{heardIn}
+use Rattle.replies.specs.Results.{saidAs}
+use Rattle.replies.proofs.Turns.{left, starts, LeftRead, read-on, chosen, chosen-is, chosen-on, chosen-over}
+use Rattle.replies.proofs.said.first_final.Statement.{statement}
+use Rattle.replies.proofs.said.first_final.Tie as tie
+
+abbrev Inv-loop : tie.InvT-loop
+Inv-loop replies i₀ i = (i ≤ replies .number) × LeftRead replies i × (saidAs (chosen (λ g. g .isFinal) (left replies i)) ≡ saidAs (finalHeard (heardIn replies)))
+
+abbrev μ-loop : tie.MeasureT-loop
+μ-loop replies i₀ i = replies .number - i
+
+loop-holds : tie.Need-loop-holds Inv-loop μ-loop
+unfolding finalHeard
+loop-holds c = (omega arith, rw (starts (c .args .replies)) (c .pre .1), rw (starts (c .args .replies)) refl)
+
+at-requires : tie.Need-at-requires Inv-loop μ-loop
+at-requires c κs = let l = (c .before .before .before) .pre .0 in omega arith
+
+said-by-requires : tie.Need-said-by-requires Inv-loop μ-loop
+said-by-requires c κs = search needs
+
+returns : tie.Need-returns Inv-loop μ-loop
+returns c = c .said-by .ensures ∙ chosen-is (λ g. g .isFinal) _ _ _ ((c .before .before .before) .at .ensures) ((c .before .before .before .before) .if1 .taken) ((c .before .before .before .before .before .before) .loop .inv .1) (eq-eqb _ _ ((c .before) .if2 .taken)) ∙ (c .before .before .before .before .before .before) .loop .inv .2
+
+add-i : tie.Need-add-i Inv-loop μ-loop
+add-i c = omega arith
+
+loop-less : tie.Need-loop-less Inv-loop μ-loop
+loop-less c = omega arith
+
+loop-again : tie.Need-loop-again Inv-loop μ-loop
+loop-again c = (omega arith, read-on _ _ ((c .before .before .before) .if1 .taken) ((c .before .before .before .before .before) .loop .inv .1) .1, ap saidAs (chosen-on (λ g. g .isFinal) _ _ _ ((c .before .before) .at .ensures) ((c .before .before .before) .if1 .taken) (ne-eqb _ _ (c .if2 .left))) ∙ (c .before .before .before .before .before) .loop .inv .2)
+
+returns-2 : tie.Need-returns-2 Inv-loop μ-loop
+returns-2 c = ap saidAs (sym (chosen-over (λ g. g .isFinal) _ _ (c .if1 .left))) ∙ (c .before .before) .loop .inv .2
+
+pub first-final-spec : {M : Type 1} → statement M
+first-final-spec =
+    tie.close
+    (tie.spec
+    Inv-loop
+    μ-loop
+    loop-holds
+    at-requires
+    said-by-requires
+    returns
+    add-i
+    loop-less
+    loop-again
+    returns-2)

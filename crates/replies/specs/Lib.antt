@@ -1,0 +1,4 @@
+pub mod Heard
+pub mod Held
+pub mod Bad
+pub mod Results

@@ -1,0 +1,58 @@
+// Replies to count, held by value: at most seven, since a group has no more boxes.
+ghost use mathlib.Core.Path.{_≡_};
+ghost use Prim.Native.Nat.{_<_};
+ghost use Rattle.replies.specs.Held.{replyIn, noneHeld, withReply};
+
+// One reply as it is lent: any numbers may stand in it.
+pub struct Reply {
+    pub boxnumber: u8,
+    pub view: u32,
+    pub result: u8,
+    pub retry: u64,
+    pub finality: u8,
+}
+
+// The first `number` places hold replies; 8 says that there were more than seven.
+pub struct Replies {
+    pub all: [Reply; 7],
+    pub number: usize,
+}
+
+impl Replies {
+    pub fn none() -> Replies
+        ensures { λ r. ⌜ r ≡ noneHeld ⌝ }
+    {
+        let reply = Reply {
+            boxnumber: 0,
+            view: 0,
+            result: 0,
+            retry: 0,
+            finality: 0,
+        };
+        let all = [reply; 7];
+        Replies { all, number: 0 }
+    }
+
+    // One more. An eighth is not kept: no group has so many boxes, so that one is outside the group or there twice.
+    pub fn with(self, reply: Reply) -> Replies
+        ensures { λ r. ⌜ r ≡ withReply self reply ⌝ }
+    {
+        let number = self.number;
+        let mut all = self.all;
+        if number < 7 {
+            all[number] = reply;
+            return Replies {
+                all,
+                number: number + 1,
+            };
+        }
+        Replies { all, number: 8 }
+    }
+
+    pub fn at(self, i: usize) -> Reply
+        requires { ⌜ i < 7 ⌝ }
+        ensures { λ r. ⌜ r ≡ replyIn self i ⌝ }
+    {
+        self.all[i]
+    }
+}
