@@ -50,11 +50,11 @@ said-result a (some r) e h z =
     (ap some (sym (k .0) ∙ sym (ap resultOf e)), ap (λ (s : Said). resultByCode (s .code) (s .retry)) e ∙ k .1)
 
 module _ (n : ℕ) (hs : List Heard) (good : badReplies n hs ≡ false) where
-  results-good : any (λ h. not (resultByRule (h .result))) hs ≡ false
+  pub results-good : any (λ h. not (resultByRule (h .result))) hs ≡ false
   unfolding badReplies
   results-good = either-right _ _ (either-right _ _ (either-right _ _ (either-right _ _ good)))
 
-  by-rule : (h : Heard) → h ∈ hs → resultByRule (h .result) ≡ true
+  pub by-rule : (h : Heard) → h ∈ hs → resultByRule (h .result) ≡ true
   by-rule h m = not-false _ (any-none _ hs results-good h m)
 
   pub final-said : (a : Said) → a ≡ saidAs (finalHeard hs) → (a .code ≡ 0 → ⊥) → (finalHeard hs ≡ some (resultOf a)) × (resultByCode (a .code) (a .retry) ≡ true)
@@ -216,7 +216,7 @@ greater a b = go (cases (ltb 0 a))
     go (inl t) = let l = ltb-true 0 a t in rw t (sym (lt-ltb 0 (max a b) (omega arith)))
     go (inr f) = let l = ltb-false 0 a f in let e : b ≡ max a b = omega arith in rw f (ap (ltb 0) e)
 
-any-retried : (hs : List Heard) → any (λ h. not (resultByRule (h .result))) hs ≡ false → any (λ h. eqb (resultCode (h .result)) 4) hs ≡ ltb 0 (greatestRetry hs)
+pub any-retried : (hs : List Heard) → any (λ h. not (resultByRule (h .result))) hs ≡ false → any (λ h. eqb (resultCode (h .result)) 4) hs ≡ ltb 0 (greatestRetry hs)
 unfolding any greatestRetry greatest
 any-retried [] h = refl
 any-retried (g ∷ hs) h = rw (retried (g .result) (not-false _ (either-left _ _ h)), any-retried hs (either-right _ _ h)) (greater (resultRetry (g .result)) (greatestRetry hs))

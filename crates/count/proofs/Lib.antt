@@ -1,3 +1,5 @@
 pub mod Counts
 pub mod HeardBytes
 pub mod Decisions
+pub mod CountWays
+pub mod CountCall

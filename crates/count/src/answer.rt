@@ -46,12 +46,13 @@ fn slow_result(n: u8, replies: Replies) -> Said
     requires { ⌜ areBad n (repliesIn replies) ≡ false ⌝ }
     ensures { λ r. ⌜ r ≡ saidAs (some (rules.slowResult n (heardIn replies))) ⌝ }
 {
+    let enough = quorums::quorum(n);
     let abort = Said { code: 2, retry: 0 };
     if 0 < said::agreeing(replies, abort) {
         return abort;
     }
     let ok = Said { code: 1, retry: 0 };
-    if quorums::quorum(n) <= said::agreeing(replies, ok) {
+    if enough <= said::agreeing(replies, ok) {
         return ok;
     }
     let retry = said::greatest_retry(replies);

@@ -116,7 +116,7 @@ views-unequal view (g ∷ hs) f = same-test _ _ some all
 abbrev pub FirstHas : ℕ → List Reply → Type 0
 FirstHas view rs = FirstView view (allHeard rs)
 
-twice-heard : (rs : List Reply) → twice (λ h. h .box) (allHeard rs) ≡ twice (λ r. r .boxnumber) rs
+pub twice-heard : (rs : List Reply) → twice (λ h. h .box) (allHeard rs) ≡ twice (λ r. r .boxnumber) rs
 unfolding twice
 twice-heard [] = refl
 twice-heard (r ∷ rs) = ap₂ either (any-heard (λ y. eqb (y .box) (r .boxnumber)) rs) (twice-heard rs)

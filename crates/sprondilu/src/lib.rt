@@ -13,7 +13,7 @@ ghost use Rattle.table.specs.Fresh.{freshNumber, freshBuffer};
 ghost use Rattle.answer.specs.Calls.{callNumber, callTable, callReply};
 ghost use Rattle.merge.specs.Calls as merging;
 ghost use Rattle.count.specs.Answers.{answerAs, answerNumber};
-ghost use Rattle.count.specs.Bytes.{countBytes};
+ghost use Rattle.count.specs.Calls.{countBytes};
 ghost use Rattle.sprondilu.specs.Calls.{validAnswer, resultWord, countAnswer};
 
 // The fresh table of a box, at the start of a table buffer; the answer is the number.
@@ -68,9 +68,11 @@ fn number_of(answer: Counted) -> u64
     ensures { λ r. ⌜ r ≡ answerNumber answer ⌝ }
 {
     match answer {
+        Counted::Fast { .. } => 0,
+        Counted::Slow { .. } => 0,
+        Counted::Wait => 0,
         Counted::Bad => 3,
         Counted::Contradiction => 6,
-        _ => 0,
     }
 }
 

@@ -1,0 +1,198 @@
+-- The count call: its answer is determined, says what `rules` answers of the replies lent, and is the same in any order of them; and what stands behind it.
+use mathlib.Core.Path.{_≡_, refl, sym, subst, ap, _∙_}
+use mathlib.Core.Bool.{Bool, true, false, cond}
+use mathlib.Core.Logic.{_⊎_, inl, inr}
+use mathlib.Core.List.{List, [], _∷_}
+use mathlib.Core.Option.{Option, none, some}
+use Prim.Native.Nat.{ℕ, _≤_, _<_}
+use native.Mathlib.Omega.{arith}
+use lib.Dec.{eqb, ltb, leb}
+use lib.ListN.{length, length-map}
+use borrow.Author.Tests.{ltb-true, ltb-false}
+use Rattle.rules.specs.Tests.{both, either, any, greatest, provided, firstOf}
+use Rattle.rules.specs.Groups.{fOf, quorum, fastCount}
+use Rattle.rules.specs.Stamps.{isStamp}
+use Rattle.rules.specs.Tables.{Result, Result.OK, Result.ABORT, Result.ABSTAIN, Result.RETRY, resultCode, resultRetry, sameResult, resultByRule}
+use Rattle.rules.specs.Numbers.{Number.badMessage, Number.contradiction, number, first, applies}
+use Rattle.rules.specs.Count as rules
+use Rattle.rules.specs.Count.{Heard, badReplies, agreeing, isFast, unequalFinalHeard, fastBesideFinal, countCircumstances, countNumber, Counted.fast, Counted.slow, Counted.wait, Counted.refused, fastOf, finalHeard, greatestRetry, slowResult, slowOr, fastOr, decided, counted, countedNumber}
+use Rattle.rules.proofs.Logic.{cases}
+use Rattle.rules.proofs.Lists.{_∈_, provided-some, first-from, greatest-is}
+use Rattle.rules.proofs.Groups.{fast-quorum}
+use Rattle.rules.proofs.Votes.{counts-apart}
+use Rattle.rules.proofs.Count as behind
+use Rattle.rules.proofs.Reordered.{Reordered, same, swapped, under, then, every-kept}
+use Rattle.rules.proofs.Orders as orders
+use Rattle.message.proofs.Forms.{result-read}
+use Rattle.replies.specs.declared.held.Reply.{Reply}
+use Rattle.count.specs.declared.answer.Counted.{Counted}
+use Rattle.replies.specs.Heard.{resultRead, heard, allHeard}
+use Rattle.count.specs.Calls.{countOf, allBytes, countBytes}
+use Rattle.count.specs.Answers.{answerAs, meant}
+use Rattle.count.proofs.HeardBytes.{Lawful, count-of-bytes}
+use Rattle.count.proofs.Decisions.{by-rule, results-good, any-retried}
+use Rattle.count.proofs.CountWays.{Whole, lentReplies, lentHeard, BadLent, GoodLent, good-none, bad-or-good, good-lent, whole-lent}
+
+-- ---- what `rules` answers
+
+-- "slow RETRY with the greatest stamp": that stamp is a reply's
+greatest-stamp : (hs : List Heard) → ((h : Heard) → h ∈ hs → resultByRule (h .result) ≡ true) → 0 < greatestRetry hs → isStamp (greatestRetry hs) ≡ true
+unfolding greatestRetry greatest resultByRule
+greatest-stamp [] k l = absurd (omega arith)
+greatest-stamp (h ∷ hs) k l =
+    let (g, m, e) = greatest-is (λ (g : Heard). resultRetry (g .result)) h hs in
+    rw (← e) (stamp (g .result) (k g m) (rw (← e) at l))
+  where
+    stamp : (r : Result) → resultByRule r ≡ true → 0 < resultRetry r → isStamp (resultRetry r) ≡ true
+    stamp OK h l = absurd (omega arith)
+    stamp ABORT h l = absurd (omega arith)
+    stamp ABSTAIN h l = absurd (omega arith)
+    stamp (RETRY s) h l = h
+
+module _ (n : ℕ) (hs : List Heard) where
+  -- what is known of each answer: a result is by the rules, slow is from f+1 replies, wait from fewer, and a refusal is 3 or 6
+  abbrev Stands : rules.Counted → Type 0
+  Stands (fast r) = resultByRule r ≡ true
+  Stands (slow r) = (resultByRule r ≡ true) × (quorum (fOf n) ≤ length hs)
+  Stands wait = length hs < quorum (fOf n)
+  Stands (refused k) = (k ≡ 3) ⊎ (k ≡ 6)
+
+  module _ (good : badReplies n hs ≡ false) where
+    -- a fast or a final result is a reply's, and so by the rules
+    chosen-by-rule : (test : Heard → Bool) (r : Result) → firstOf (λ h. provided (test h) (h .result)) hs ≡ some r → resultByRule r ≡ true
+    chosen-by-rule test r e =
+        let (h, m, k) = first-from (λ h. provided (test h) (h .result)) hs r e in
+        rw (← provided-some (test h) (h .result) r k .1) (by-rule n hs good h m)
+
+    -- "slow ABORT ..; slow OK ..; slow RETRY ..; slow ABSTAIN" is by the rules too
+    slow-by-rule : resultByRule (slowResult n hs) ≡ true
+    unfolding slowResult resultByRule
+    slow-by-rule = go (any (λ h. sameResult ABORT (h .result)) hs) (leb (quorum (fOf n)) (agreeing hs OK)) (cases (any (λ h. eqb (resultCode (h .result)) 4) hs))
+      where
+        go : (a b : Bool) → (any (λ h. eqb (resultCode (h .result)) 4) hs ≡ true) ⊎ (any (λ h. eqb (resultCode (h .result)) 4) hs ≡ false) → resultByRule (cond a ABORT (cond b OK (cond (any (λ h. eqb (resultCode (h .result)) 4) hs) (RETRY (greatestRetry hs)) ABSTAIN))) ≡ true
+        go true b c = refl
+        go false true c = refl
+        go false false (inl c) = rw c (greatest-stamp hs (by-rule n hs good) (ltb-true _ _ (sym (any-retried hs (results-good n hs good)) ∙ c)))
+        go false false (inr c) = rw c refl
+
+    -- "fast with r ..; wait ..; slow with .."
+    decided-stands : Stands (decided n hs)
+    unfolding decided fastOf finalHeard
+    decided-stands = go (fastOf n hs) refl (cases (ltb (length hs) (quorum (fOf n)))) (finalHeard hs) refl
+      where
+        go : (a : Option Result) → fastOf n hs ≡ a → (ltb (length hs) (quorum (fOf n)) ≡ true) ⊎ (ltb (length hs) (quorum (fOf n)) ≡ false) → (o : Option Result) → finalHeard hs ≡ o → Stands (fastOr a (cond (ltb (length hs) (quorum (fOf n))) wait (slowOr o (slowResult n hs))))
+        go (some r) e b o k = chosen-by-rule (λ h. isFast n hs (h .result)) r e
+        go none e (inl b) o k = rw b (ltb-true _ _ b)
+        go none e (inr b) (some r) k = rw b (chosen-by-rule (λ h. h .isFinal) r k, ltb-false _ _ b)
+        go none e (inr b) none k = rw b (slow-by-rule, ltb-false _ _ b)
+
+  -- so it is known of whatever is counted
+  counted-stands : Stands (counted n hs)
+  unfolding counted countNumber countCircumstances number first applies both either
+  counted-stands = go (badReplies n hs) refl (either (unequalFinalHeard hs) (fastBesideFinal n hs))
+    where
+      go : (b : Bool) → badReplies n hs ≡ b → (c : Bool) → Stands (cond (eqb (number ((badMessage, b) ∷ (contradiction, c) ∷ [])) 0) (decided n hs) (refused (number ((badMessage, b) ∷ (contradiction, c) ∷ []))))
+      go true e c = inl refl
+      go false e true = inr refl
+      go false e false = decided-stands e
+
+  -- a result that is answered is by the rules
+  pub counted-by-rule : (r : Result) → (counted n hs ≡ fast r) ⊎ (counted n hs ≡ slow r) → resultByRule r ≡ true
+  counted-by-rule r (inl e) = subst Stands e counted-stands
+  counted-by-rule r (inr e) = subst Stands e counted-stands .0
+
+-- no more boxes agree than have replied
+agreeing-few : (hs : List Heard) (r : Result) → agreeing hs r ≤ length hs
+unfolding agreeing
+agreeing-few hs r = omega (arith, counts-apart (λ h. sameResult r (h .result)) (λ h. false) (λ h t. refl) hs)
+
+module _ (n : ℕ) (s : List ℕ) where
+  -- ---- two answers that the promise allows for one input are equal
+
+  pub count-determined : {a b : Counted} → a ≡ answerAs (countBytes n s) → b ≡ answerAs (countBytes n s) → a ≡ b
+  count-determined e f = e ∙ sym f
+
+  -- ---- and each says what `rules` answers
+
+  -- what is known of an answer, of the replies lent
+  lent-stands : Stands n (lentHeard s) (countBytes n s)
+  lent-stands = go (bad-or-good n s)
+    where
+      go : (BadLent n s × (countBytes n s ≡ refused 3)) ⊎ GoodLent n s → Stands n (lentHeard s) (countBytes n s)
+      go (inl (b, e)) = rw e (inl refl)
+      go (inr g) = rw (good-lent n s g) (counted-stands n (lentHeard s))
+
+  -- the result of a fast or slow answer is by the rules
+  pub answer-by-rule : (r : Result) → (countBytes n s ≡ fast r) ⊎ (countBytes n s ≡ slow r) → resultByRule r ≡ true
+  answer-by-rule r (inl e) = subst (Stands n (lentHeard s)) e lent-stands
+  answer-by-rule r (inr e) = subst (Stands n (lentHeard s)) e lent-stands .0
+
+  -- so the enum's case, by its code and its retry stamp, is read as that answer again
+  pub answer-meant : meant (answerAs (countBytes n s)) ≡ countBytes n s
+  answer-meant = go (countBytes n s) lent-stands
+    where
+      go : (c : rules.Counted) → Stands n (lentHeard s) c → meant (answerAs c) ≡ c
+      go (fast r) k = ap fast (result-read r k .0)
+      go (slow r) (k, l) = ap slow (result-read r k .0)
+      go wait k = refl
+      go (refused j) (inl e) = rw e refl
+      go (refused j) (inr e) = rw e refl
+
+  -- ---- what stands behind an answer
+
+  -- an answer that is no refusal: what is lent is not bad, and `rules` answers so of it
+  answered : (c : rules.Counted) → countBytes n s ≡ c → countedNumber c ≡ 0 → (BadLent n s → ⊥) × (counted n (lentHeard s) ≡ c)
+  answered c e z = go (bad-or-good n s)
+    where
+      go : (BadLent n s × (countBytes n s ≡ refused 3)) ⊎ GoodLent n s → (BadLent n s → ⊥) × (counted n (lentHeard s) ≡ c)
+      go (inl (b, k)) = let y : countedNumber c ≡ 3 = ap countedNumber (sym e ∙ k) in absurd (omega arith)
+      go (inr g) = (good-none n s g, sym (good-lent n s g) ∙ e)
+
+  -- "fast with r if the fast count of boxes agree on r"
+  pub fast-behind : (r : Result) → countBytes n s ≡ fast r → (BadLent n s → ⊥) × (fastCount (fOf n) ≤ agreeing (lentHeard s) r)
+  fast-behind r e = let (f, c) = answered (fast r) e refl in (f, behind.fast-behind n (lentHeard s) r c .1)
+
+  -- "wait if fewer than f+1 replies": so slow is from no fewer
+  pub slow-behind : (r : Result) → countBytes n s ≡ slow r → (BadLent n s → ⊥) × (quorum (fOf n) ≤ length (lentReplies s))
+  slow-behind r e =
+      let (f, c) = answered (slow r) e refl in
+      let l = subst (Stands n (lentHeard s)) e lent-stands .1 in
+      let k = length-map (lentReplies s) heard in
+      (f, omega arith)
+
+  -- "the final result if there is one; .. slow OK if f+1 are OK"
+  pub slow-ok-behind : countBytes n s ≡ slow OK → (BadLent n s → ⊥) × (((h : Heard) × (h ∈ lentHeard s) × (h .isFinal ≡ true) × (h .result ≡ OK)) ⊎ (quorum (fOf n) ≤ agreeing (lentHeard s) OK))
+  slow-ok-behind e = let (f, c) = answered (slow OK) e refl in (f, behind.ok-behind n (lentHeard s) (inr c) .1)
+
+  -- "wait if fewer than f+1 replies", and no result has the fast count
+  pub wait-behind : countBytes n s ≡ wait → (BadLent n s → ⊥) × (length (lentReplies s) < quorum (fOf n)) × ((r : Result) → agreeing (lentHeard s) r < fastCount (fOf n))
+  wait-behind e =
+      let (f, c) = answered wait e refl in
+      let l = subst (Stands n (lentHeard s)) e lent-stands in
+      let k = length-map (lentReplies s) heard in
+      (f, omega arith, λ r. omega (arith, agreeing-few (lentHeard s) r, fast-quorum (fOf n)))
+
+-- ---- the order of the replies does not matter
+
+-- replies in another order say the same in another order
+heard-reordered : {rs qs : List Reply} → Reordered rs qs → Reordered (allHeard rs) (allHeard qs)
+heard-reordered same = same
+heard-reordered swapped = swapped
+heard-reordered (under p) = under (heard-reordered p)
+heard-reordered (then p q) = then (heard-reordered p) (heard-reordered q)
+
+-- so any order of them is counted alike
+pub count-any-order : (n : ℕ) {rs qs : List Reply} → Reordered rs qs → countOf n rs ≡ countOf n qs
+unfolding countOf
+count-any-order n p = rw (every-kept resultRead p, orders.count-any-order n (heard-reordered p))
+
+-- and any order in which they are laid end to end in the bytes
+pub count-any-laid : (n : ℕ) (s t : List ℕ) → Whole s → Whole t → Reordered (lentReplies s) (lentReplies t) → countBytes n s ≡ countBytes n t
+count-any-laid n s t w v p = whole-lent n s w ∙ count-any-order n p ∙ sym (whole-lent n t v)
+
+-- ---- replies that were written as bytes: the answer of the call says what `rules` counts of them
+
+pub counted-heard : (n : ℕ) (hs : List Heard) → Lawful hs → {a : Counted} → a ≡ answerAs (countBytes n (allBytes hs)) → (a ≡ answerAs (counted n hs)) × (meant a ≡ counted n hs)
+counted-heard n hs k e =
+    let c = count-of-bytes n hs k in
+    (e ∙ ap answerAs c, ap meant e ∙ answer-meant n (allBytes hs) ∙ c)
