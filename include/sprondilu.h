@@ -85,7 +85,7 @@ uint8_t sprondilu_fresh(uint8_t *table, size_t table_len, uint8_t n, uint8_t box
  */
 uint64_t sprondilu_valid(const uint8_t *bytes, size_t bytes_len);
 
-/* The number in an answer of 64 bits. */
+/* The number in an answer of 64 bits, that of sprondilu_valid or of sprondilu_count. */
 #define SPRONDILU_NUMBER_OF(answer) ((answer) & 0xffu)
 
 /* The image's length in an answer of sprondilu_valid whose number is SPRONDILU_DONE. */
@@ -141,6 +141,58 @@ uint8_t sprondilu_answer(uint8_t *table, size_t table_len, const uint8_t *messag
  * Refused, no byte has changed. The run never changes.
  */
 uint8_t sprondilu_merge(const uint8_t *run, size_t run_len, uint32_t view, uint8_t *out, size_t out_len);
+
+/* The codes of 01's four results, in a reply that is counted and in an answer of sprondilu_count. */
+#define SPRONDILU_OK 1
+#define SPRONDILU_ABORT 2
+#define SPRONDILU_ABSTAIN 3
+#define SPRONDILU_RETRY 4
+
+/* The length of a reply as it is counted, in bytes. */
+#define SPRONDILU_COUNTED_BYTES 15
+
+/*
+ * The coordinator's count of the replies heard for one stamp, in a group of `n` boxes: whether they agree fast, what they
+ * come to slowly, or that more of them have to be waited for. The replies are laid end to end, SPRONDILU_COUNTED_BYTES
+ * each: the box in 1 byte, its view in 4, the result in 1, its retry stamp in 8, then 1 if the result is final and 0 if it
+ * is tentative; the first byte of each number counts most. The list may be any bytes that arrived, of any length, also
+ * none; the order of the replies does not matter.
+ *
+ * A reply of sprondilu_answer to message 1 or 2 whose number is SPRONDILU_DONE has them in these of its 24 bytes, the first
+ * being byte 0: the box in byte 2; the view in bytes 4 to 7; the retry stamp in bytes 16 to 23; the result in byte 3, the
+ * state byte, which is 1 to 4 for SPRONDILU_OK to SPRONDILU_RETRY, tentative, and 5 to 8 for the same, final.
+ *
+ * The answer has the number in bits 0 to 7, the first of these that applies, and SPRONDILU_DONE if none does:
+ *   SPRONDILU_BAD_MESSAGE    n is not 3, 5 or 7; or replies_len is no multiple of SPRONDILU_COUNTED_BYTES; or in a reply
+ *                            the box is not below n, the result not 1 to 4, the retry stamp not a stamp (1 to 2^48-1) for
+ *                            SPRONDILU_RETRY or not 0 for another result, or the last byte above 1; or a box is there
+ *                            twice; or two views are not equal
+ *   SPRONDILU_CONTRADICTION  two final results are not equal, or the fast count of boxes agree on another result than a
+ *                            final one
+ * Results are equal if their retry stamps are too, and boxes agree on one whether it is final or tentative. Of 3, 5 and 7
+ * boxes the fast count is 3, 4 and 6, and f+1 is 2, 3 and 4.
+ *
+ * Done, the answer has the kind in bits 8 to 9, the first of these that applies:
+ *   SPRONDILU_FAST           the fast count of boxes agree on a result
+ *   SPRONDILU_WAIT           there are fewer than f+1 replies
+ *   SPRONDILU_SLOW           otherwise
+ * and, but for SPRONDILU_WAIT, the result in bits 10 to 12 and its retry stamp in bits 16 to 63, which is 0 but for
+ * SPRONDILU_RETRY. Fast, it is the result agreed on. Slow, it is the final result if there is one; else SPRONDILU_ABORT if
+ * any is that; else SPRONDILU_OK if f+1 are that; else SPRONDILU_RETRY with the greatest stamp if any is that; else
+ * SPRONDILU_ABSTAIN. All other bits are 0. The macros below take an answer apart: its number is to be looked at first, then
+ * its kind, and only then its result. No byte changes.
+ */
+uint64_t sprondilu_count(uint8_t n, const uint8_t *replies, size_t replies_len);
+
+/* The kind of an answer of sprondilu_count whose number is SPRONDILU_DONE, and the kinds. */
+#define SPRONDILU_KIND_OF(answer) ((answer) >> 8 & 0x3u)
+#define SPRONDILU_WAIT 0
+#define SPRONDILU_FAST 1
+#define SPRONDILU_SLOW 2
+
+/* The result in such an answer whose kind is SPRONDILU_FAST or SPRONDILU_SLOW, and its retry stamp. */
+#define SPRONDILU_RESULT_OF(answer) ((answer) >> 10 & 0x7u)
+#define SPRONDILU_RETRY_OF(answer) ((answer) >> 16)
 
 #ifdef __cplusplus
 }

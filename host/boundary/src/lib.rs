@@ -20,6 +20,7 @@ mod library {
             out: *mut u8,
             out_len: usize,
         ) -> u8;
+        pub fn sprondilu_count(n: u8, replies: *const u8, replies_len: usize) -> u64;
     }
 }
 
@@ -63,4 +64,10 @@ pub fn answer(table: &mut [u8], message: &[u8], reply: &mut [u8]) -> u8 {
 pub fn merge(run: &[u8], view: u32, out: &mut [u8]) -> u8 {
     // Slices are valid for their lengths; nobody else has the one that is written, so the two do not overlap.
     unsafe { library::sprondilu_merge(run.as_ptr(), run.len(), view, out.as_mut_ptr(), out.len()) }
+}
+
+/// The coordinator's count of replies of 15 bytes each, laid end to end: the answer as the call codes it.
+pub fn count(n: u8, replies: &[u8]) -> u64 {
+    // A slice is valid for its length, and the call only reads.
+    unsafe { library::sprondilu_count(n, replies.as_ptr(), replies.len()) }
 }

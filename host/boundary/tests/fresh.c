@@ -1,6 +1,7 @@
 /*
  * The worked example of the C boundary: a fresh table in a lent buffer, the image in it, the paper's message answered by
- * that box, the merge of its table and another box's fresh one, and refusals of each call.
+ * that box, the merge of its table and another box's fresh one, the count of three boxes' replies, and refusals of each
+ * call.
  * It prints what the calls answered; whoever runs it compares that with the paper.
  */
 #include "sprondilu.h"
@@ -20,6 +21,8 @@ _Static_assert(_Generic(&sprondilu_answer,
 _Static_assert(_Generic(&sprondilu_merge, uint8_t (*)(const uint8_t *, size_t, uint32_t, uint8_t *, size_t): 1,
                         default: 0),
                "sprondilu_merge has another type");
+_Static_assert(_Generic(&sprondilu_count, uint64_t (*)(uint8_t, const uint8_t *, size_t): 1, default: 0),
+               "sprondilu_count has another type");
 
 /* What stands in the buffer before a call, so that every byte written is seen. */
 #define DIRT 0xee
@@ -28,6 +31,7 @@ static uint8_t table[SPRONDILU_TABLE_BYTES];
 static uint8_t reply[SPRONDILU_REPLY_BYTES + 1];
 static uint8_t run[200];
 static size_t run_length = 0;
+static uint8_t replies[3 * SPRONDILU_COUNTED_BYTES];
 
 /* The paper's message 1: stamp 65,537 and one write, register 5, value 7. A byte follows it that is no part of it. */
 static const uint8_t message[21] = {1, 0, 0, 0, 0, 0, 1, 0, 1, 0, 1, 5, 0, 0, 0, 0, 0, 0, 0, 7, 0};
@@ -128,6 +132,59 @@ static void merge_all(void)
     print_bytes(table, bytes_changed());
 }
 
+/* What a reply to message 1 or 2 says, as it is counted. */
+static void lay_reply(uint8_t *counted)
+{
+    uint8_t is_final = reply[3] > SPRONDILU_RETRY;
+    counted[0] = reply[2];
+    memcpy(counted + 1, reply + 4, 4);
+    counted[5] = is_final ? (uint8_t)(reply[3] - SPRONDILU_RETRY) : reply[3];
+    memcpy(counted + 6, reply + 16, 8);
+    counted[14] = is_final;
+}
+
+/* The number is looked at first, then the kind, and only then the result. */
+static void count(const char *what, uint8_t n, const uint8_t *bytes, size_t length)
+{
+    uint64_t counted = sprondilu_count(n, bytes, length);
+    printf("count, %s: ", what);
+    if (SPRONDILU_NUMBER_OF(counted) != SPRONDILU_DONE) {
+        printf("number %" PRIu64 ", answer %" PRIx64 "\n", SPRONDILU_NUMBER_OF(counted), counted);
+    } else if (SPRONDILU_KIND_OF(counted) == SPRONDILU_WAIT) {
+        printf("wait, answer %" PRIx64 "\n", counted);
+    } else {
+        const char *kind = SPRONDILU_KIND_OF(counted) == SPRONDILU_FAST ? "fast" : "slow";
+        printf("%s with %" PRIu64 ", retry stamp %" PRIu64 ", answer %" PRIx64 "\n", kind, SPRONDILU_RESULT_OF(counted),
+               SPRONDILU_RETRY_OF(counted), counted);
+    }
+}
+
+/* The message of the paper to three fresh boxes, and what their replies come to; then other results in their places. */
+static void count_all(void)
+{
+    for (uint8_t box = 0; box < 3; box++) {
+        fresh("a box of 3", table, sizeof table, 3, box);
+        answer("the message of the paper", sizeof table, 20, sizeof reply);
+        lay_reply(replies + box * SPRONDILU_COUNTED_BYTES);
+    }
+    print_bytes(replies, sizeof replies);
+    count("a null pointer", 3, NULL, 0);
+    count("one reply", 3, replies, SPRONDILU_COUNTED_BYTES);
+    count("two replies", 3, replies, 2 * SPRONDILU_COUNTED_BYTES);
+    count("three replies", 3, replies, sizeof replies);
+    count("n 4", 4, replies, sizeof replies);
+    count("a byte too few", 3, replies, sizeof replies - 1);
+    replies[5] = SPRONDILU_ABORT;
+    count("one is ABORT", 3, replies, sizeof replies);
+    replies[14] = 1;
+    replies[2 * SPRONDILU_COUNTED_BYTES + 14] = 1;
+    count("two unequal finals", 3, replies, sizeof replies);
+    count("two unequal finals and n 6", 6, replies, sizeof replies);
+    replies[5] = SPRONDILU_RETRY;
+    replies[13] = 9;
+    count("RETRY is final", 3, replies, 2 * SPRONDILU_COUNTED_BYTES);
+}
+
 int main(void)
 {
     fresh("a null pointer", NULL, 0, 3, 0);
@@ -144,5 +201,6 @@ int main(void)
     valid("a byte too short", table, 23);
     answer_all();
     merge_all();
+    count_all();
     return 0;
 }

@@ -7,7 +7,7 @@ use std::process::{Command, Output};
 use std::{env, fs};
 
 /// What `fresh.c` has to print; the images are those of the paper, and so is the reply, but for the last image: the paper's
-/// row as a merge settles it.
+/// row as a merge settles it. Of a count the answer stands behind its parts, whole.
 const PRINTED: &str = "\
 fresh, a null pointer: number 1, 0 bytes changed
 fresh, a byte too short: number 1, 0 bytes changed
@@ -54,6 +54,28 @@ merge, two tables: number 0, 57 bytes changed
 01 01 03 00 00 00 00 01 00 00 00 07 00 00 00 07 00 00 00 01 00 00 00 39 \
 00 00 00 00 00 01 00 01 00 00 00 00 00 00 00 00 00 00 00 30 00 01 05 00 \
 05 00 00 00 00 00 00 00 07
+fresh, a box of 3: number 0, 24 bytes changed
+answer, the message of the paper: number 0, reply
+00 01 00 01 00 00 00 00 00 00 00 00 00 01 00 01 00 00 00 00 00 00 00 00 ee
+fresh, a box of 3: number 0, 24 bytes changed
+answer, the message of the paper: number 0, reply
+00 01 01 01 00 00 00 00 00 00 00 00 00 01 00 01 00 00 00 00 00 00 00 00 ee
+fresh, a box of 3: number 0, 24 bytes changed
+answer, the message of the paper: number 0, reply
+00 01 02 01 00 00 00 00 00 00 00 00 00 01 00 01 00 00 00 00 00 00 00 00 ee
+00 00 00 00 00 01 00 00 00 00 00 00 00 00 00 \
+01 00 00 00 00 01 00 00 00 00 00 00 00 00 00 \
+02 00 00 00 00 01 00 00 00 00 00 00 00 00 00
+count, a null pointer: wait, answer 0
+count, one reply: wait, answer 0
+count, two replies: slow with 1, retry stamp 0, answer 600
+count, three replies: fast with 1, retry stamp 0, answer 500
+count, n 4: number 3, answer 3
+count, a byte too few: number 3, answer 3
+count, one is ABORT: slow with 2, retry stamp 0, answer a00
+count, two unequal finals: number 6, answer 6
+count, two unequal finals and n 6: number 3, answer 3
+count, RETRY is final: slow with 4, retry stamp 9, answer 91200
 ";
 
 const WARNINGS: [&str; 6] = [
@@ -114,7 +136,9 @@ const CPP: &str = "#include \"sprondilu.h\"\n\
     return SPRONDILU_NUMBER_OF(sprondilu_valid(nullptr, 0)) == SPRONDILU_BAD_TABLE\n\
     && sprondilu_fresh(nullptr, 0, 3, 0) == SPRONDILU_SMALL_BUFFER\n\
     && sprondilu_answer(nullptr, 0, nullptr, 0, nullptr, 0) == SPRONDILU_SMALL_BUFFER\n\
-    && sprondilu_merge(nullptr, 0, 1, nullptr, 0) == SPRONDILU_SMALL_BUFFER ? 0 : 1;\n\
+    && sprondilu_merge(nullptr, 0, 1, nullptr, 0) == SPRONDILU_SMALL_BUFFER\n\
+    && SPRONDILU_NUMBER_OF(sprondilu_count(3, nullptr, 0)) == SPRONDILU_DONE\n\
+    && SPRONDILU_KIND_OF(sprondilu_count(3, nullptr, 0)) == SPRONDILU_WAIT ? 0 : 1;\n\
     }\n";
 
 #[test]

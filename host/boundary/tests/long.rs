@@ -1,5 +1,6 @@
 //! Lengths that need more than 32 bits: a table buffer and lent bytes may be that long.
 
+use samples::replies::{laid, Record};
 use samples::{random, Dice, TABLE_BYTES};
 
 /// The machine gives memory to such a buffer only where it is touched.
@@ -60,4 +61,22 @@ fn every_length_of_a_merge_is_taken_whole() {
     long[..run.len()].copy_from_slice(&run);
     assert_eq!(boundary::merge(&long[..run.len()], 7, &mut out), 0);
     assert_eq!(boundary::merge(&long, 7, &mut out), 2);
+}
+
+/// Cut to 32 bits, the first of the long lists would be three replies that agree, and the second none at all.
+#[test]
+fn the_length_of_a_count_is_taken_whole() {
+    let record = |box_number| Record {
+        box_number,
+        view: 9,
+        result: (1, 0),
+        is_final: 0,
+    };
+    let replies = laid(&[record(0), record(1), record(2)]);
+    assert_eq!(boundary::count(3, &replies), 0x500);
+    let mut long = longer_than_32_bits(replies.len());
+    long[..replies.len()].copy_from_slice(&replies);
+    assert_eq!(boundary::count(3, &long), 3);
+    assert_eq!(boundary::count(3, &long[..1 << 32]), 3);
+    assert_eq!(boundary::count(3, &long[..replies.len()]), 0x500);
 }

@@ -1,4 +1,5 @@
-//! Tables and messages of document 01 for tests and measurements: random ones by its rules, and some that break one of them.
+//! Tables, messages and replies of document 01 for tests and measurements: random ones by its rules, and some that break
+//! one of them.
 //!
 //! Images are put together here byte by byte, apart from the second program, so that neither can hide a mistake of the
 //! other. A sample has a kind, in words, by which whoever judges samples counts them.
@@ -10,6 +11,7 @@
 //! - [`transactions`]: transactions that clash often
 //! - [`damage`]: images of many kinds, good and bad
 //! - [`message`]: messages to a box
+//! - [`replies`]: the replies that a coordinator counts
 //! - [`parts`]: a test in parts that are worked out side by side
 //! - [`tally`]: how many samples of each kind were images
 
@@ -19,12 +21,14 @@ pub mod field;
 pub mod message;
 pub mod parts;
 pub mod random;
+pub mod replies;
 pub mod table;
 pub mod tally;
 pub mod transactions;
 
 pub use dice::Dice;
 pub use parts::side_by_side;
+pub use replies::Record;
 pub use table::{Access, Row, Table};
 pub use tally::Tally;
 

@@ -1,0 +1,52 @@
+//! Replies of boxes 0, 1, 2 and so on in one view, with every list of results, up to as many as the largest group has boxes:
+//! so every fast count is reached and just missed, and every contradiction and every slow answer of a whole group is met.
+
+use crate::every::{every_list, lists, of_boxes_in_order};
+use crate::every::{ABORT, ABSTAIN, OK, RETRY, RETRY_LATER};
+use crate::lent::Lent;
+use samples::replies::laid;
+
+/// Each result tentative, then each of them final.
+const ALL: [((u8, u64), u8); 10] = [
+    (OK, 0),
+    (ABORT, 0),
+    (ABSTAIN, 0),
+    (RETRY, 0),
+    (RETRY_LATER, 0),
+    (OK, 1),
+    (ABORT, 1),
+    (ABSTAIN, 1),
+    (RETRY, 1),
+    (RETRY_LATER, 1),
+];
+
+/// Each result tentative, and two of them final: enough for a fast count beside an equal final, beside another one, and
+/// beside both.
+const FEWER: [((u8, u64), u8); 7] = [ALL[0], ALL[1], ALL[2], ALL[3], ALL[4], ALL[5], ALL[8]];
+
+/// Asks for every list of so many results, and backwards too.
+fn ask_all(lent: &mut Lent, n: u8, letters: &[((u8, u64), u8)], length: usize) {
+    every_list(letters, length, &mut |results| {
+        let mut records = of_boxes_in_order(results);
+        let answer = lent.ask_for(n, &records);
+        records.reverse();
+        assert_eq!(boundary::count(n, &laid(&records)), answer, "backwards");
+    });
+}
+
+pub fn up_to_five(lent: &mut Lent) {
+    for n in [3, 5, 7] {
+        (0..=5).for_each(|length| ask_all(lent, n, &ALL, length));
+    }
+    assert_eq!(lent.shares.calls(), 3 * lists(ALL.len(), 5));
+}
+
+pub fn six(lent: &mut Lent) {
+    ask_all(lent, 7, &ALL, 6);
+    assert_eq!(lent.shares.calls(), 1_000_000);
+}
+
+pub fn seven(lent: &mut Lent) {
+    ask_all(lent, 7, &FEWER, 7);
+    assert_eq!(lent.shares.calls(), 823_543);
+}
