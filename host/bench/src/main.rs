@@ -1,11 +1,12 @@
 //! The proved library and its twin in plain safe Rust, side by side in one run: validity of an image, a row added to a
-//! table, a box's answer to a message of each kind, and the merge. What counts are ratios: both sides are built for release
-//! and work on the same bytes on the same machine, in turns.
+//! table, a box's answer to a message of each kind, the merge, and the coordinator's count. What matters are ratios: both
+//! sides are built for release and work on the same bytes on the same machine, in turns.
 //!
 //! `bench` measures times and prints tables. `bench WORK SIDE SIZE TIMES`, as `bench insert library 511 50`, only does
 //! that work so many times, on one side, for a tool that counts its instructions; `tools/bench` does both.
 
 mod answer;
+mod count;
 mod insert;
 mod merge;
 mod times;
@@ -13,6 +14,7 @@ mod twin;
 mod valid;
 
 use answer::Answering;
+use count::Counting;
 use insert::Inserting;
 use merge::Merging;
 use std::{env, process};
@@ -46,8 +48,8 @@ pub trait Work {
     fn assert_done(&self, side: Side);
 }
 
-/// A side of the comparison: its name, and its ways to judge lent bytes, to add a row to a table, to answer a message, and to
-/// merge tables.
+/// A side of the comparison: its name, and its ways to judge lent bytes, to add a row to a table, to answer a message, to
+/// merge tables, and to count replies.
 #[derive(Clone, Copy)]
 pub struct Side {
     name: &'static str,
@@ -55,6 +57,7 @@ pub struct Side {
     add_row: unsafe fn(&mut [u8], usize, &[u8]),
     answer: fn(&mut [u8], &[u8], &mut [u8]) -> u8,
     merge: fn(&[u8], u32, &mut [u8]) -> u8,
+    count: fn(u8, &[u8]) -> u64,
 }
 
 pub const LIBRARY: Side = Side {
@@ -63,6 +66,7 @@ pub const LIBRARY: Side = Side {
     add_row: trial::add_row,
     answer: boundary::answer,
     merge: boundary::merge,
+    count: boundary::count,
 };
 
 pub const TWIN: Side = Side {
@@ -71,12 +75,20 @@ pub const TWIN: Side = Side {
     add_row: twin::insert::add_row,
     answer: twin::answer::answer,
     merge: twin::merge::merge,
+    count: twin::count::count,
 };
 
 /// The twin, but for a merge by another algorithm.
 pub const CURSORS: Side = Side {
     name: "cursors",
     merge: twin::cursors::merge,
+    ..TWIN
+};
+
+/// The twin, but for the count, which is that of the second program.
+pub const SECOND: Side = Side {
+    name: "second",
+    count: reference::count,
     ..TWIN
 };
 
@@ -95,7 +107,7 @@ const fn named<W: Work>() -> Named {
     }
 }
 
-const WORKS: [Named; 11] = [
+const WORKS: [Named; 13] = [
     named::<Judging>(),
     named::<Inserting>(),
     named::<Answering<1>>(),
@@ -107,6 +119,8 @@ const WORKS: [Named; 11] = [
     named::<Answering<7>>(),
     named::<Merging<true>>(),
     named::<Merging<false>>(),
+    named::<Counting<true>>(),
+    named::<Counting<false>>(),
 ];
 
 fn main() {

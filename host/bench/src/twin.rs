@@ -3,6 +3,7 @@
 
 pub mod answer;
 mod check;
+pub mod count;
 pub mod cursors;
 mod gather;
 pub mod insert;
