@@ -41,7 +41,8 @@ fn has_box(replies: Replies, from: usize, boxnumber: u8) -> bool
 {
     let mut i = from;
     while i < replies.number {
-        if replies.at(i).boxnumber == boxnumber {
+        let reply = replies.all[i];
+        if reply.boxnumber == boxnumber {
             return true;
         }
         i += 1;
@@ -56,7 +57,7 @@ fn any_bad(replies: Replies, n: u8, view: u32) -> bool
 {
     let mut i: usize = 0;
     while i < replies.number {
-        let reply = replies.at(i);
+        let reply = replies.all[i];
         if is_wrong(reply, n, view) {
             return true;
         }
@@ -76,7 +77,8 @@ pub fn are_bad(n: u8, replies: Replies) -> bool
         return true;
     }
     if header::group_valid(n) {
-        return any_bad(replies, n, replies.at(0).view);
+        let first = replies.all[0];
+        return any_bad(replies, n, first.view);
     }
     true
 }

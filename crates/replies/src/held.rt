@@ -1,7 +1,6 @@
 // Replies to count, held by value: at most seven, since a group has no more boxes.
 ghost use mathlib.Core.Path.{_≡_};
-ghost use Prim.Native.Nat.{_<_};
-ghost use Rattle.replies.specs.Held.{replyIn, noneHeld, withReply};
+ghost use Rattle.replies.specs.Held.{noneHeld, withReply};
 
 // One reply as it is lent: any numbers may stand in it.
 pub struct Reply {
@@ -34,25 +33,16 @@ impl Replies {
     }
 
     // One more. An eighth is not kept: no group has so many boxes, so that one is outside the group or there twice.
-    pub fn with(self, reply: Reply) -> Replies
+    pub fn with(mut self, reply: Reply) -> Replies
         ensures { λ r. ⌜ r ≡ withReply self reply ⌝ }
     {
         let number = self.number;
-        let mut all = self.all;
         if number < 7 {
-            all[number] = reply;
-            return Replies {
-                all,
-                number: number + 1,
-            };
+            self.all[number] = reply;
+            self.number = number + 1;
+            return self;
         }
-        Replies { all, number: 8 }
-    }
-
-    pub fn at(self, i: usize) -> Reply
-        requires { ⌜ i < 7 ⌝ }
-        ensures { λ r. ⌜ r ≡ replyIn self i ⌝ }
-    {
-        self.all[i]
+        self.number = 8;
+        self
     }
 }

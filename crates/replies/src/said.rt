@@ -45,7 +45,8 @@ pub fn agreeing(replies: Replies, said: Said) -> usize
     let mut agreeing: usize = 0;
     let mut i: usize = 0;
     while i < replies.number {
-        if same(said, said_by(replies.at(i))) {
+        let reply = replies.all[i];
+        if same(said, said_by(reply)) {
             agreeing += 1;
         }
         i += 1;
@@ -61,7 +62,8 @@ pub fn fast(replies: Replies, n: u8) -> Said
     let enough = quorums::fast(n);
     let mut i: usize = 0;
     while i < replies.number {
-        let said = said_by(replies.at(i));
+        let reply = replies.all[i];
+        let said = said_by(reply);
         if enough <= agreeing(replies, said) {
             return said;
         }
@@ -77,7 +79,7 @@ pub fn first_final(replies: Replies) -> Said
 {
     let mut i: usize = 0;
     while i < replies.number {
-        let reply = replies.at(i);
+        let reply = replies.all[i];
         if reply.finality == 1 {
             return said_by(reply);
         }
@@ -103,7 +105,8 @@ pub fn other_final(replies: Replies, said: Said) -> bool
 {
     let mut i: usize = 0;
     while i < replies.number {
-        if is_other_final(replies.at(i), said) {
+        let reply = replies.all[i];
+        if is_other_final(reply, said) {
             return true;
         }
         i += 1;
@@ -119,9 +122,9 @@ pub fn greatest_retry(replies: Replies) -> u64
     let mut greatest: u64 = 0;
     let mut i: usize = 0;
     while i < replies.number {
-        let retry = replies.at(i).retry;
-        if greatest < retry {
-            greatest = retry;
+        let reply = replies.all[i];
+        if greatest < reply.retry {
+            greatest = reply.retry;
         }
         i += 1;
     }

@@ -6,7 +6,7 @@ use native.Mathlib.Omega.{arith}
 use borrow.Author.Needs.{needs}
 use Rattle.rules.specs.Count.{agreeing, fastOf, isFast}
 use Rattle.replies.specs.Heard.{resultRead}
-use Rattle.replies.specs.Held.{heardIn}
+use Rattle.replies.specs.Held.{replyIn, heardIn}
 use Rattle.replies.specs.Results.{saidBy, saidAs}
 use Rattle.replies.proofs.Turns.{left, starts, LeftRead, read-on, by-code, fast-yes, fast-no, chosen, chosen-is, chosen-on, chosen-over}
 use Rattle.message.specs.Messages.{resultByCode}
@@ -16,44 +16,47 @@ use Rattle.replies.proofs.said.fast.Statement.{statement}
 use Rattle.replies.proofs.said.fast.Tie as tie
 
 abbrev Inv-loop : tie.InvT-loop
-Inv-loop replies n enough i₀ i = (i ≤ replies .number) × LeftRead replies i × (saidAs (chosen (λ g. isFast n (heardIn replies) (g .result)) (left replies i)) ≡ saidAs (fastOf n (heardIn replies)))
+Inv-loop n replies enough i₀ i = (i ≤ replies .number) × LeftRead replies i × (saidAs (chosen (λ g. isFast n (heardIn replies) (g .result)) (left replies i)) ≡ saidAs (fastOf n (heardIn replies)))
 
 abbrev μ-loop : tie.MeasureT-loop
-μ-loop replies n enough i₀ i = replies .number - i
+μ-loop n replies enough i₀ i = replies .number - i
 
-coded-said : (a : Said) {r q : Reply} → a ≡ saidBy r → r ≡ q → resultRead q ≡ true → resultByCode (a .code) (a .retry) ≡ true
-coded-said a {r} {q} e f h = rw (e, f) (by-code q h)
+coded-said : (a : Said) (r : Reply) → a ≡ saidBy r → resultRead r ≡ true → resultByCode (a .code) (a .retry) ≡ true
+coded-said a r e h = rw e (by-code r h)
 
 fast-requires : tie.Need-fast-requires Inv-loop μ-loop
 fast-requires c κs = c .pre .1
 
 loop-holds : tie.Need-loop-holds Inv-loop μ-loop
 unfolding fastOf
-loop-holds c = (omega arith, rw (starts ((c .before) .args .replies)) ((c .before) .pre .0 .1), rw (starts ((c .before) .args .replies)) refl)
+loop-holds c = (omega arith, rw (starts ((c .before) .args .t1)) ((c .before) .pre .0 .1), rw (starts ((c .before) .args .t1)) refl)
 
-at-requires : tie.Need-at-requires Inv-loop μ-loop
-at-requires c κs = let l = (c .before .before .before .before) .pre .0 .0 in omega arith
+mul-reply : tie.Need-mul-reply Inv-loop μ-loop
+mul-reply c = let l = (c .before .before .before) .pre .0 .0 in let t = c .loop-test .taken in omega arith
+
+element-copy-out-reply : tie.Need-element-copy-out-reply Inv-loop μ-loop
+element-copy-out-reply c = let l = (c .before .before .before) .pre .0 .0 in let t = c .loop-test .taken in omega arith
 
 said-by-requires : tie.Need-said-by-requires Inv-loop μ-loop
 said-by-requires c κs = search needs
 
 agreeing-requires : tie.Need-agreeing-requires Inv-loop μ-loop
-agreeing-requires c κs = ((c .before .before .before .before .before .before) .pre .0, coded-said _ (c .said-by .ensures) ((c .before) .at .ensures) (read-on _ _ ((c .before .before) .if1 .taken) ((c .before .before .before .before) .loop .inv .1) .0))
+agreeing-requires c κs = ((c .before .before .before .before .before) .pre .0, coded-said _ (replyIn ((c .before .before .before .before .before) .args .t1) ((c .before .before .before) .loop .i)) (c .said-by .ensures) (read-on _ _ ((c .before .before) .loop-test .taken) ((c .before .before .before) .loop .inv .1) .0))
 
 returns : tie.Need-returns Inv-loop μ-loop
-returns c = (c .before .before) .said-by .ensures ∙ chosen-is (λ g. isFast ((c .before .before .before .before .before .before .before .before) .args .n) (heardIn ((c .before .before .before .before .before .before .before .before) .args .replies)) (g .result)) _ _ _ ((c .before .before .before) .at .ensures) ((c .before .before .before .before) .if1 .taken) ((c .before .before .before .before .before .before) .loop .inv .1) (fast-yes _ _ ((c .before .before .before) .at .result) _ ((c .before .before) .said-by .ensures) _ _ ((c .before .before .before .before .before .before .before) .fast .ensures) ((c .before) .agreeing .ensures) (c .if2 .taken)) ∙ (c .before .before .before .before .before .before) .loop .inv .2
+returns c = (c .before .before) .said-by .ensures ∙ chosen-is (λ g. isFast ((c .before .before .before .before .before .before .before) .args .n) (heardIn ((c .before .before .before .before .before .before .before) .args .t1)) (g .result)) _ _ _ refl ((c .before .before .before .before) .loop-test .taken) ((c .before .before .before .before .before) .loop .inv .1) (fast-yes _ _ (replyIn ((c .before .before .before .before .before .before .before) .args .t1) ((c .before .before .before .before .before) .loop .i)) _ ((c .before .before) .said-by .ensures) _ _ ((c .before .before .before .before .before .before) .fast .ensures) ((c .before) .agreeing .ensures) (c .if1 .taken)) ∙ (c .before .before .before .before .before) .loop .inv .2
 
 add-i : tie.Need-add-i Inv-loop μ-loop
-add-i c = omega arith
+add-i c = let l = (c .before .before .before .before .before .before .before) .pre .0 .0 in let t = (c .before .before .before .before) .loop-test .taken in omega arith
 
 loop-less : tie.Need-loop-less Inv-loop μ-loop
-loop-less c = omega arith
+loop-less c = let t = (c .before .before .before .before) .loop-test .taken in omega arith
 
 loop-again : tie.Need-loop-again Inv-loop μ-loop
-loop-again c = (omega arith, read-on _ _ ((c .before .before .before .before) .if1 .taken) ((c .before .before .before .before .before .before) .loop .inv .1) .1, ap saidAs (chosen-on (λ g. isFast ((c .before .before .before .before .before .before .before .before) .args .n) (heardIn ((c .before .before .before .before .before .before .before .before) .args .replies)) (g .result)) _ _ _ ((c .before .before .before) .at .ensures) ((c .before .before .before .before) .if1 .taken) (fast-no _ _ ((c .before .before .before) .at .result) _ ((c .before .before) .said-by .ensures) _ _ ((c .before .before .before .before .before .before .before) .fast .ensures) ((c .before) .agreeing .ensures) (c .if2 .left))) ∙ (c .before .before .before .before .before .before) .loop .inv .2)
+loop-again c = let t = (c .before .before .before .before) .loop-test .taken in (omega arith, read-on _ _ t ((c .before .before .before .before .before) .loop .inv .1) .1, ap saidAs (chosen-on (λ g. isFast ((c .before .before .before .before .before .before .before) .args .n) (heardIn ((c .before .before .before .before .before .before .before) .args .t1)) (g .result)) _ _ _ refl t (fast-no _ _ (replyIn ((c .before .before .before .before .before .before .before) .args .t1) ((c .before .before .before .before .before) .loop .i)) _ ((c .before .before) .said-by .ensures) _ _ ((c .before .before .before .before .before .before) .fast .ensures) ((c .before) .agreeing .ensures) (c .if1 .left))) ∙ (c .before .before .before .before .before) .loop .inv .2)
 
 returns-2 : tie.Need-returns-2 Inv-loop μ-loop
-returns-2 c = ap saidAs (sym (chosen-over (λ g. isFast ((c .before .before .before .before) .args .n) (heardIn ((c .before .before .before .before) .args .replies)) (g .result)) _ _ (c .if1 .left))) ∙ (c .before .before) .loop .inv .2
+returns-2 c = ap saidAs (sym (chosen-over (λ g. isFast ((c .before .before .before) .args .n) (heardIn ((c .before .before .before) .args .t1)) (g .result)) _ _ (c .loop-test .left))) ∙ (c .before) .loop .inv .2
 
 pub fast-spec : {M : Type 1} → statement M
 fast-spec =
@@ -63,7 +66,8 @@ fast-spec =
     μ-loop
     fast-requires
     loop-holds
-    at-requires
+    mul-reply
+    element-copy-out-reply
     said-by-requires
     agreeing-requires
     returns

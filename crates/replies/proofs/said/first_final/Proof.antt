@@ -19,28 +19,31 @@ abbrev μ-loop : tie.MeasureT-loop
 
 loop-holds : tie.Need-loop-holds Inv-loop μ-loop
 unfolding finalHeard
-loop-holds c = (omega arith, rw (starts (c .args .replies)) (c .pre .1), rw (starts (c .args .replies)) refl)
+loop-holds c = (omega arith, rw (starts (c .args .t1)) (c .pre .1), rw (starts (c .args .t1)) refl)
 
-at-requires : tie.Need-at-requires Inv-loop μ-loop
-at-requires c κs = let l = (c .before .before .before) .pre .0 in omega arith
+mul-reply : tie.Need-mul-reply Inv-loop μ-loop
+mul-reply c = let l = (c .before .before) .pre .0 in let t = c .loop-test .taken in omega arith
+
+element-copy-out-reply : tie.Need-element-copy-out-reply Inv-loop μ-loop
+element-copy-out-reply c = let l = (c .before .before) .pre .0 in let t = c .loop-test .taken in omega arith
 
 said-by-requires : tie.Need-said-by-requires Inv-loop μ-loop
 said-by-requires c κs = search needs
 
 returns : tie.Need-returns Inv-loop μ-loop
-returns c = c .said-by .ensures ∙ chosen-is (λ g. g .isFinal) _ _ _ ((c .before .before .before) .at .ensures) ((c .before .before .before .before) .if1 .taken) ((c .before .before .before .before .before .before) .loop .inv .1) (eq-eqb _ _ ((c .before) .if2 .taken)) ∙ (c .before .before .before .before .before .before) .loop .inv .2
+returns c = c .said-by .ensures ∙ chosen-is (λ g. g .isFinal) _ _ _ refl ((c .before .before .before .before) .loop-test .taken) ((c .before .before .before .before .before) .loop .inv .1) (eq-eqb _ _ ((c .before) .if1 .taken)) ∙ (c .before .before .before .before .before) .loop .inv .2
 
 add-i : tie.Need-add-i Inv-loop μ-loop
-add-i c = omega arith
+add-i c = let l = (c .before .before .before .before .before) .pre .0 in let t = (c .before .before .before) .loop-test .taken in omega arith
 
 loop-less : tie.Need-loop-less Inv-loop μ-loop
-loop-less c = omega arith
+loop-less c = let t = (c .before .before .before) .loop-test .taken in omega arith
 
 loop-again : tie.Need-loop-again Inv-loop μ-loop
-loop-again c = (omega arith, read-on _ _ ((c .before .before .before) .if1 .taken) ((c .before .before .before .before .before) .loop .inv .1) .1, ap saidAs (chosen-on (λ g. g .isFinal) _ _ _ ((c .before .before) .at .ensures) ((c .before .before .before) .if1 .taken) (ne-eqb _ _ (c .if2 .left))) ∙ (c .before .before .before .before .before) .loop .inv .2)
+loop-again c = let t = (c .before .before .before) .loop-test .taken in (omega arith, read-on _ _ t ((c .before .before .before .before) .loop .inv .1) .1, ap saidAs (chosen-on (λ g. g .isFinal) _ _ _ refl t (ne-eqb _ _ (c .if1 .left))) ∙ (c .before .before .before .before) .loop .inv .2)
 
 returns-2 : tie.Need-returns-2 Inv-loop μ-loop
-returns-2 c = ap saidAs (sym (chosen-over (λ g. g .isFinal) _ _ (c .if1 .left))) ∙ (c .before .before) .loop .inv .2
+returns-2 c = ap saidAs (sym (chosen-over (λ g. g .isFinal) _ _ (c .loop-test .left))) ∙ (c .before) .loop .inv .2
 
 pub first-final-spec : {M : Type 1} → statement M
 first-final-spec =
@@ -49,7 +52,8 @@ first-final-spec =
     Inv-loop
     μ-loop
     loop-holds
-    at-requires
+    mul-reply
+    element-copy-out-reply
     said-by-requires
     returns
     add-i

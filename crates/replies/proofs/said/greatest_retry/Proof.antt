@@ -16,27 +16,40 @@ Inv-loop replies greatest₀ i₀ greatest i = (i ≤ replies .number) × LeftRe
 abbrev μ-loop : tie.MeasureT-loop
 μ-loop replies greatest₀ i₀ greatest i = replies .number - i
 
-greater : (c : tie.Joined2 Inv-loop μ-loop) → c .if2 .greatest ≡ max ((c .before .before .before .before) .loop .greatest) (replyIn ((c .before .before .before .before .before) .args .replies) ((c .before .before .before .before) .loop .i) .retry)
-greater c = rw (← (c .before) .at .ensures) (⊎-elim (λ w. let e = w .1 in let t = w .0 .taken in omega arith) (λ w. let e = w .1 in let t = w .0 .left in omega arith) (c .if2 .came))
+greater : (c : tie.Joined1 Inv-loop μ-loop) → c .if1 .greatest ≡ max ((c .before .before .before .before) .loop .greatest) (replyIn ((c .before .before .before .before .before) .args .t1) ((c .before .before .before .before) .loop .i) .retry)
+greater c = ⊎-elim (λ w. let e = w .1 in let t = w .0 .taken in omega arith) (λ w. let e = w .1 in let t = w .0 .left in omega arith) (c .if1 .came)
 
 loop-holds : tie.Need-loop-holds Inv-loop μ-loop
-loop-holds c = (omega arith, rw (starts (c .args .replies)) (c .pre .1), rw (starts (c .args .replies)) (omega arith))
+loop-holds c = (omega arith, rw (starts (c .args .t1)) (c .pre .1), rw (starts (c .args .t1)) (omega arith))
 
-at-requires : tie.Need-at-requires Inv-loop μ-loop
-at-requires c κs = let l = (c .before .before .before) .pre .0 in omega arith
+mul-reply : tie.Need-mul-reply Inv-loop μ-loop
+mul-reply c = let l = (c .before .before) .pre .0 in let t = c .loop-test .taken in omega arith
+
+element-copy-out-reply : tie.Need-element-copy-out-reply Inv-loop μ-loop
+element-copy-out-reply c = let l = (c .before .before) .pre .0 in let t = c .loop-test .taken in omega arith
 
 add-i : tie.Need-add-i Inv-loop μ-loop
-add-i c = omega arith
+add-i c = let l = (c .before .before .before .before .before) .pre .0 in let t = (c .before .before .before) .loop-test .taken in omega arith
 
 loop-less : tie.Need-loop-less Inv-loop μ-loop
-loop-less c = omega arith
+loop-less c = let t = (c .before .before .before) .loop-test .taken in omega arith
 
 loop-again : tie.Need-loop-again Inv-loop μ-loop
-loop-again c = let l = (c .before .before) .if1 .taken in let more = greatest-on _ _ l ((c .before .before .before .before) .loop .inv .1) in let was = (c .before .before .before .before) .loop .inv .2 in let e = greater c in (omega arith, read-on _ _ l ((c .before .before .before .before) .loop .inv .1) .1, omega arith)
+loop-again c = let l = (c .before .before .before) .loop-test .taken in let more = greatest-on _ _ l ((c .before .before .before .before) .loop .inv .1) in let was = (c .before .before .before .before) .loop .inv .2 in let e = greater c in (omega arith, read-on _ _ l ((c .before .before .before .before) .loop .inv .1) .1, omega arith)
 
 returns : tie.Need-returns Inv-loop μ-loop
-returns c = all-seen (greatest-over _ _ (c .if1 .left)) ((c .before .before) .loop .inv .2)
+returns c = all-seen (greatest-over _ _ (c .loop-test .left)) ((c .before) .loop .inv .2)
 
 pub greatest-retry-spec : {M : Type 1} → statement M
 greatest-retry-spec =
-    tie.close (tie.spec Inv-loop μ-loop loop-holds at-requires add-i loop-less loop-again returns)
+    tie.close
+    (tie.spec
+    Inv-loop
+    μ-loop
+    loop-holds
+    mul-reply
+    element-copy-out-reply
+    add-i
+    loop-less
+    loop-again
+    returns)

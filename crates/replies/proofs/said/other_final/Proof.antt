@@ -1,5 +1,5 @@
 -- Another final result is among those left if it is among all.
-use mathlib.Core.Path.{_≡_, sym, _∙_}
+use mathlib.Core.Path.{_≡_, refl, sym, _∙_}
 use mathlib.Core.Bool.{Bool, true, not}
 use Prim.Native.Nat.{_-_, _≤_}
 use native.Mathlib.Omega.{arith}
@@ -22,37 +22,40 @@ abbrev other : Said → Reply → Bool
 other a r = both (heard r .isFinal) (not (sameResult (resultOf a) (heard r .result)))
 
 abbrev Inv-loop : tie.InvT-loop
-Inv-loop replies said i₀ i = (i ≤ replies .number) × LeftRead replies i × (any (other said) (left replies i) ≡ any (λ g. both (g .isFinal) (not (sameResult (resultOf said) (g .result)))) (heardIn replies))
+Inv-loop said replies i₀ i = (i ≤ replies .number) × LeftRead replies i × (any (other said) (left replies i) ≡ any (λ g. both (g .isFinal) (not (sameResult (resultOf said) (g .result)))) (heardIn replies))
 
 abbrev μ-loop : tie.MeasureT-loop
-μ-loop replies said i₀ i = replies .number - i
+μ-loop said replies i₀ i = replies .number - i
 
-tested : (a : Said) (r : Reply) {q : Reply} {b : Bool} → resultByCode (a .code) (a .retry) ≡ true → r ≡ q → resultRead q ≡ true → both (eqb (r .finality) 1) (not (both (eqb (a .code) (r .result)) (eqb (a .retry) (r .retry)))) ≡ b → other a r ≡ b
-tested a r k e h t = other-codes a r k (rw e h) ∙ t
+tested : (a : Said) (r : Reply) {b : Bool} → resultByCode (a .code) (a .retry) ≡ true → resultRead r ≡ true → both (eqb (r .finality) 1) (not (both (eqb (a .code) (r .result)) (eqb (a .retry) (r .retry)))) ≡ b → other a r ≡ b
+tested a r k h t = other-codes a r k h ∙ t
 
 loop-holds : tie.Need-loop-holds Inv-loop μ-loop
-loop-holds c = (omega arith, rw (starts (c .args .replies)) (c .pre .0 .1), rw (starts (c .args .replies)) (sym (any-heard _ (repliesIn (c .args .replies)))))
+loop-holds c = (omega arith, rw (starts (c .args .t1)) (c .pre .0 .1), rw (starts (c .args .t1)) (sym (any-heard _ (repliesIn (c .args .t1)))))
 
-at-requires : tie.Need-at-requires Inv-loop μ-loop
-at-requires c κs = let l = (c .before .before .before) .pre .0 .0 in omega arith
+mul-reply : tie.Need-mul-reply Inv-loop μ-loop
+mul-reply c = let l = (c .before .before) .pre .0 .0 in let t = c .loop-test .taken in omega arith
+
+element-copy-out-reply : tie.Need-element-copy-out-reply Inv-loop μ-loop
+element-copy-out-reply c = let l = (c .before .before) .pre .0 .0 in let t = c .loop-test .taken in omega arith
 
 is-other-final-requires : tie.Need-is-other-final-requires Inv-loop μ-loop
 is-other-final-requires c κs = search needs
 
 returns : tie.Need-returns Inv-loop μ-loop
-returns c = any-is _ _ _ _ ((c .before .before) .at .ensures) ((c .before .before .before) .if1 .taken) (tested _ _ ((c .before .before .before .before .before .before) .pre .1) ((c .before .before) .at .ensures) (read-on _ _ ((c .before .before .before) .if1 .taken) ((c .before .before .before .before .before) .loop .inv .1) .0) (sym ((c .before) .is-other-final .ensures) ∙ c .if2 .taken)) ∙ (c .before .before .before .before .before) .loop .inv .2
+returns c = any-is _ _ _ _ refl ((c .before .before .before) .loop-test .taken) (tested _ _ ((c .before .before .before .before .before) .pre .1) (read-on _ _ ((c .before .before .before) .loop-test .taken) ((c .before .before .before .before) .loop .inv .1) .0) (sym ((c .before) .is-other-final .ensures) ∙ c .if1 .taken)) ∙ (c .before .before .before .before) .loop .inv .2
 
 add-i : tie.Need-add-i Inv-loop μ-loop
-add-i c = omega arith
+add-i c = let l = (c .before .before .before .before .before) .pre .0 .0 in let t = (c .before .before .before) .loop-test .taken in omega arith
 
 loop-less : tie.Need-loop-less Inv-loop μ-loop
-loop-less c = omega arith
+loop-less c = let t = (c .before .before .before) .loop-test .taken in omega arith
 
 loop-again : tie.Need-loop-again Inv-loop μ-loop
-loop-again c = (omega arith, read-on _ _ ((c .before .before .before) .if1 .taken) ((c .before .before .before .before .before) .loop .inv .1) .1, any-on _ _ _ _ ((c .before .before) .at .ensures) ((c .before .before .before) .if1 .taken) (tested _ _ ((c .before .before .before .before .before .before) .pre .1) ((c .before .before) .at .ensures) (read-on _ _ ((c .before .before .before) .if1 .taken) ((c .before .before .before .before .before) .loop .inv .1) .0) (sym ((c .before) .is-other-final .ensures) ∙ c .if2 .left)) ∙ (c .before .before .before .before .before) .loop .inv .2)
+loop-again c = let t = (c .before .before .before) .loop-test .taken in (omega arith, read-on _ _ t ((c .before .before .before .before) .loop .inv .1) .1, any-on _ _ _ _ refl t (tested _ _ ((c .before .before .before .before .before) .pre .1) (read-on _ _ t ((c .before .before .before .before) .loop .inv .1) .0) (sym ((c .before) .is-other-final .ensures) ∙ c .if1 .left)) ∙ (c .before .before .before .before) .loop .inv .2)
 
 returns-2 : tie.Need-returns-2 Inv-loop μ-loop
-returns-2 c = any-over _ _ _ (c .if1 .left) ∙ (c .before .before) .loop .inv .2
+returns-2 c = any-over _ _ _ (c .loop-test .left) ∙ (c .before) .loop .inv .2
 
 pub other-final-spec : {M : Type 1} → statement M
 other-final-spec =
@@ -61,7 +64,8 @@ other-final-spec =
     Inv-loop
     μ-loop
     loop-holds
-    at-requires
+    mul-reply
+    element-copy-out-reply
     is-other-final-requires
     returns
     add-i

@@ -4,14 +4,14 @@ use Rattle.replies.specs.Held.{withReply}
 use Rattle.replies.proofs.held.Replies.with.Statement.{statement}
 use Rattle.replies.proofs.held.Replies.with.Tie as tie
 
-mul-all : tie.Need-mul-all
-mul-all c = search needs
+mul-reply : tie.Need-mul-reply
+mul-reply c = search needs
 
-array-set-from-all : tie.Need-array-set-from-all
-array-set-from-all c = search needs
+element-set-from-reply : tie.Need-element-set-from-reply
+element-set-from-reply c = search needs
 
-add-t6 : tie.Need-add-t6
-add-t6 c = search needs
+add-self : tie.Need-add-self
+add-self c = search needs
 
 returns : tie.Need-returns
 unfolding withReply
@@ -22,4 +22,4 @@ unfolding withReply
 returns-2 c = rw (le-ltb _ _ (c .if1 .left))
 
 pub with-spec : {M : Type 1} → statement M
-with-spec = tie.close (tie.spec mul-all array-set-from-all add-t6 returns returns-2)
+with-spec = tie.close (tie.spec mul-reply element-set-from-reply add-self returns returns-2)
