@@ -1,4 +1,4 @@
--- Replies that are counted, as they cross the boundary: "15 bytes a reply: box 1, view 4, result 1, retry stamp 8, final 1".
+-- Replies that are counted, as they cross the boundary, 15 bytes a reply: box 1, view 4, result 1, retry stamp 8, final 1.
 use mathlib.Core.Bool.{cond}
 use mathlib.Core.List.{List, [], _∷_, _++_}
 use Prim.Native.Nat.{ℕ, zero, suc, _+_, _*_, _/_}
