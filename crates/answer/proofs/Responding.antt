@@ -11,7 +11,7 @@ use lib.ListN.{length}
 use borrow.Author.Tests.{eqb-true, ne-eqb}
 use Rattle.wire.specs.Parts.{replaced}
 use Rattle.rules.specs.Tests.{both, either}
-use Rattle.rules.proofs.Groups.{group-of}
+use Rattle.rules.proofs.Groups.{group-bounds}
 use Rattle.rules.specs.Tables.{Model, Table, valley, tableByRule}
 use Rattle.rules.specs.Messages.{Message, tableAfter}
 use Rattle.rules.specs.Circumstances.{tooSmall, replyTooSmall, messageByRule}
@@ -59,15 +59,10 @@ widened limit s kind lawful =
     let b : tableByRule valley (tableAt formatOne s) ≡ true = table-by valley regular (omega arith) in
     rw (b, lawful-holds (limited limit) s lawful)
 
-group-positive : (n : ℕ) → (n ≡ 3) ⊎ ((n ≡ 5) ⊎ (n ≡ 7)) → 0 < n
-group-positive n (inl e) = omega arith
-group-positive n (inr (inl e)) = omega arith
-group-positive n (inr (inr e)) = omega arith
-
 -- a group has boxes
 pub some-boxes : (M : Model) (s : List ℕ) → Lawful M s → 0 < headerAt s .n
 unfolding tableAt
-some-boxes M s lawful = group-positive (headerAt s .n) (group-of (headerAt s .n) (lawful-regular M s lawful .0 .group))
+some-boxes M s lawful = group-bounds (headerAt s .n) (lawful-regular M s lawful .0 .group) .0
 
 -- no message: 3, and nothing is changed
 pub none-answered : (M : Model) (s : List ℕ) → Holds formatOne s → (replyAs (refusal 3) ≡ answerReply M none s) × (s ≡ answerBuffer M none s)

@@ -9,7 +9,7 @@ use native.Mathlib.Omega.{arith}
 use lib.Dec.{eqb, ltb, leb}
 use lib.ListN.{length, length-map}
 use borrow.Author.Tests.{ltb-true, ltb-false}
-use Rattle.rules.specs.Tests.{both, either, any, greatest, provided, firstOf}
+use Rattle.rules.specs.Tests.{both, either, any, greatest}
 use Rattle.rules.specs.Groups.{fOf, quorum, fastCount}
 use Rattle.rules.specs.Stamps.{isStamp}
 use Rattle.rules.specs.Tables.{Result, Result.OK, Result.ABORT, Result.ABSTAIN, Result.RETRY, resultCode, resultRetry, sameResult, resultByRule}
@@ -17,7 +17,7 @@ use Rattle.rules.specs.Numbers.{Number.badMessage, Number.contradiction, number
 use Rattle.rules.specs.Count as rules
 use Rattle.rules.specs.Count.{Heard, badReplies, agreeing, isFast, unequalFinalHeard, fastBesideFinal, countCircumstances, countNumber, Counted.fast, Counted.slow, Counted.wait, Counted.refused, fastOf, finalHeard, greatestRetry, slowResult, slowOr, fastOr, decided, counted, countedNumber}
 use Rattle.rules.proofs.Logic.{cases}
-use Rattle.rules.proofs.Lists.{_∈_, provided-some, first-from, greatest-is}
+use Rattle.rules.proofs.Lists.{_∈_, greatest-is}
 use Rattle.rules.proofs.Groups.{fast-quorum}
 use Rattle.rules.proofs.Votes.{counts-apart}
 use Rattle.rules.proofs.Count as behind
@@ -30,7 +30,7 @@ use Rattle.replies.specs.Heard.{resultRead, heard, allHeard}
 use Rattle.count.specs.Calls.{countOf, allBytes, countBytes}
 use Rattle.count.specs.Answers.{answerAs, meant}
 use Rattle.count.proofs.HeardBytes.{Lawful, count-of-bytes}
-use Rattle.count.proofs.Decisions.{by-rule, results-good, any-retried}
+use Rattle.count.proofs.Decisions.{by-rule, chosen-by-rule, results-good, any-retried}
 use Rattle.count.proofs.CountWays.{Whole, lentReplies, lentHeard, BadLent, GoodLent, good-none, bad-or-good, good-lent, whole-lent}
 
 -- ---- what `rules` answers
@@ -58,12 +58,6 @@ module _ (n : ℕ) (hs : List Heard) where
   Stands (refused k) = (k ≡ 3) ⊎ (k ≡ 6)
 
   module _ (good : badReplies n hs ≡ false) where
-    -- a fast or a final result is a reply's, and so by the rules
-    chosen-by-rule : (test : Heard → Bool) (r : Result) → firstOf (λ h. provided (test h) (h .result)) hs ≡ some r → resultByRule r ≡ true
-    chosen-by-rule test r e =
-        let (h, m, k) = first-from (λ h. provided (test h) (h .result)) hs r e in
-        rw (← provided-some (test h) (h .result) r k .1) (by-rule n hs good h m)
-
     -- "slow ABORT ..; slow OK ..; slow RETRY ..; slow ABSTAIN" is by the rules too
     slow-by-rule : resultByRule (slowResult n hs) ≡ true
     unfolding slowResult resultByRule
@@ -81,9 +75,9 @@ module _ (n : ℕ) (hs : List Heard) where
     decided-stands = go (fastOf n hs) refl (cases (ltb (length hs) (quorum (fOf n)))) (finalHeard hs) refl
       where
         go : (a : Option Result) → fastOf n hs ≡ a → (ltb (length hs) (quorum (fOf n)) ≡ true) ⊎ (ltb (length hs) (quorum (fOf n)) ≡ false) → (o : Option Result) → finalHeard hs ≡ o → Stands (fastOr a (cond (ltb (length hs) (quorum (fOf n))) wait (slowOr o (slowResult n hs))))
-        go (some r) e b o k = chosen-by-rule (λ h. isFast n hs (h .result)) r e
+        go (some r) e b o k = chosen-by-rule n hs good (λ h. isFast n hs (h .result)) r e
         go none e (inl b) o k = rw b (ltb-true _ _ b)
-        go none e (inr b) (some r) k = rw b (chosen-by-rule (λ h. h .isFinal) r k, ltb-false _ _ b)
+        go none e (inr b) (some r) k = rw b (chosen-by-rule n hs good (λ h. h .isFinal) r k, ltb-false _ _ b)
         go none e (inr b) none k = rw b (slow-by-rule, ltb-false _ _ b)
 
   -- so it is known of whatever is counted
@@ -96,7 +90,7 @@ module _ (n : ℕ) (hs : List Heard) where
       go false e true = inr refl
       go false e false = decided-stands e
 
-  -- a result that is answered is by the rules
+  -- a result that is answered-by-rules is by the rules
   pub counted-by-rule : (r : Result) → (counted n hs ≡ fast r) ⊎ (counted n hs ≡ slow r) → resultByRule r ≡ true
   counted-by-rule r (inl e) = subst Stands e counted-stands
   counted-by-rule r (inr e) = subst Stands e counted-stands .0
@@ -140,9 +134,9 @@ module _ (n : ℕ) (s : List ℕ) where
 
   -- ---- what stands behind an answer
 
-  -- an answer that is no refusal: what is lent is not bad, and `rules` answers so of it
-  answered : (c : rules.Counted) → countBytes n s ≡ c → countedNumber c ≡ 0 → (BadLent n s → ⊥) × (counted n (lentHeard s) ≡ c)
-  answered c e z = go (bad-or-good n s)
+  -- an answer that is no refusal: what is lent is not bad, and the count of `rules` of it is that answer
+  pub answered-by-rules : (c : rules.Counted) → countBytes n s ≡ c → countedNumber c ≡ 0 → (BadLent n s → ⊥) × (counted n (lentHeard s) ≡ c)
+  answered-by-rules c e z = go (bad-or-good n s)
     where
       go : (BadLent n s × (countBytes n s ≡ refused 3)) ⊎ GoodLent n s → (BadLent n s → ⊥) × (counted n (lentHeard s) ≡ c)
       go (inl (b, k)) = let y : countedNumber c ≡ 3 = ap countedNumber (sym e ∙ k) in absurd (omega arith)
@@ -150,24 +144,24 @@ module _ (n : ℕ) (s : List ℕ) where
 
   -- "fast with r if the fast count of boxes agree on r"
   pub fast-behind : (r : Result) → countBytes n s ≡ fast r → (BadLent n s → ⊥) × (fastCount (fOf n) ≤ agreeing (lentHeard s) r)
-  fast-behind r e = let (f, c) = answered (fast r) e refl in (f, behind.fast-behind n (lentHeard s) r c .1)
+  fast-behind r e = let (f, c) = answered-by-rules (fast r) e refl in (f, behind.fast-behind n (lentHeard s) r c .1)
 
   -- "wait if fewer than f+1 replies": so slow is from no fewer
   pub slow-behind : (r : Result) → countBytes n s ≡ slow r → (BadLent n s → ⊥) × (quorum (fOf n) ≤ length (lentReplies s))
   slow-behind r e =
-      let (f, c) = answered (slow r) e refl in
+      let (f, c) = answered-by-rules (slow r) e refl in
       let l = subst (Stands n (lentHeard s)) e lent-stands .1 in
       let k = length-map (lentReplies s) heard in
       (f, omega arith)
 
   -- "the final result if there is one; .. slow OK if f+1 are OK"
   pub slow-ok-behind : countBytes n s ≡ slow OK → (BadLent n s → ⊥) × (((h : Heard) × (h ∈ lentHeard s) × (h .isFinal ≡ true) × (h .result ≡ OK)) ⊎ (quorum (fOf n) ≤ agreeing (lentHeard s) OK))
-  slow-ok-behind e = let (f, c) = answered (slow OK) e refl in (f, behind.ok-behind n (lentHeard s) (inr c) .1)
+  slow-ok-behind e = let (f, c) = answered-by-rules (slow OK) e refl in (f, behind.ok-behind n (lentHeard s) (inr c) .1)
 
   -- "wait if fewer than f+1 replies", and no result has the fast count
   pub wait-behind : countBytes n s ≡ wait → (BadLent n s → ⊥) × (length (lentReplies s) < quorum (fOf n)) × ((r : Result) → agreeing (lentHeard s) r < fastCount (fOf n))
   wait-behind e =
-      let (f, c) = answered wait e refl in
+      let (f, c) = answered-by-rules wait e refl in
       let l = subst (Stands n (lentHeard s)) e lent-stands in
       let k = length-map (lentReplies s) heard in
       (f, omega arith, λ r. omega (arith, agreeing-few (lentHeard s) r, fast-quorum (fOf n)))

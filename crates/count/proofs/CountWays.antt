@@ -19,16 +19,17 @@ use Rattle.rules.proofs.Same.{same-result, result-same, not-other-result}
 use Rattle.rules.proofs.Votes.{count-none, replies-different, replies-inside}
 use Rattle.replies.specs.declared.held.Reply.{Reply}
 use Rattle.replies.specs.Heard.{resultRead, heard, allHeard}
+use Rattle.count.specs.Answers.{contradicting}
 use Rattle.count.specs.Calls.{countOf, repliesOf, countBytes}
 use Rattle.replies.specs.Bad.{areBad}
 use Rattle.count.proofs.HeardBytes.{count-whole, count-broken}
 use Rattle.replies.proofs.Turns.{coded, any-heard}
-use Rattle.replies.proofs.BadReplies.{twice-heard, bad-group, good}
+use Rattle.replies.proofs.BadReplies.{twice-heard, bad-group, good-facts}
 use Rattle.count.proofs.Counts.{bad-refused, good-counted, contradicted, clear}
 
 -- ---- what is lent
 
--- "15 bytes a reply": whole replies
+-- whole replies, of 15 bytes each
 abbrev pub Whole : List ℕ → Type 0
 Whole s = (k : ℕ) × (length s ≡ 15 * k)
 
@@ -169,12 +170,12 @@ module _ (n : ℕ) (s : List ℕ) where
   pub good-none : GoodLent n s → BadLent n s → ⊥
   good-none (w, e) (cut c) = c w
   good-none (w, e) (badGroup g) = impossible (sym (bad-group n (lentReplies s) g)) e
-  good-none (w, e) (outside r m l) = let k = replies-inside n (lentHeard s) (good n (lentReplies s) e .lawful) (heard r) (Memᴰ·map heard m) in omega arith
+  good-none (w, e) (outside r m l) = let k = replies-inside n (lentHeard s) (good-facts n (lentReplies s) e .lawful) (heard r) (Memᴰ·map heard m) in omega arith
   good-none (w, e) (again before r between q after k b) =
       impossible (ap (twice (λ (r : Reply). r .boxnumber)) k ∙ again-twice (λ (r : Reply). r .boxnumber) before r between q after b)
-      (sym (twice-heard (lentReplies s)) ∙ replies-different n (lentHeard s) (good n (lentReplies s) e .lawful))
-  good-none (w, e) (otherView r q m i d) = d (one-view n (lentHeard s) (good n (lentReplies s) e .lawful) (heard r) (heard q) (Memᴰ·map heard m) (Memᴰ·map heard i))
-  good-none (w, e) (badResult r m f) = impossible (every-one resultRead (lentReplies s) (good n (lentReplies s) e .read) r m) f
+      (sym (twice-heard (lentReplies s)) ∙ replies-different n (lentHeard s) (good-facts n (lentReplies s) e .lawful))
+  good-none (w, e) (otherView r q m i d) = d (one-view n (lentHeard s) (good-facts n (lentReplies s) e .lawful) (heard r) (heard q) (Memᴰ·map heard m) (Memᴰ·map heard i))
+  good-none (w, e) (badResult r m f) = impossible (every-one resultRead (lentReplies s) (good-facts n (lentReplies s) e .read) r m) f
 
   -- so many whole replies as 15 goes into the length
   whole-length : Whole s → length s ≡ 15 * (length s / 15)
@@ -213,12 +214,8 @@ agreed-by hs r l = go (cases (any (λ h. sameResult r (h .result)) hs))
     go (inr a) = let z = count-none (λ h. sameResult r (h .result)) hs a in absurd (omega arith)
 
 module _ (n : ℕ) (s : List ℕ) where
-  -- the test of `rules`
-  abbrev contradicts : Bool
-  contradicts = either (unequalFinalHeard (lentHeard s)) (fastBesideFinal n (lentHeard s))
-
   -- replies contradict each other by one of the two circumstances
-  against-found : contradicts ≡ true → Contradicting n s
+  against-found : contradicting n (lentHeard s) ≡ true → Contradicting n s
   unfolding unequalFinalHeard fastBesideFinal isFast somePair
   against-found c = whichever _ _ c two one
     where
@@ -235,7 +232,7 @@ module _ (n : ℕ) (s : List ℕ) where
           fastAgainst h (g .result) m (both-left _ _ (both-left _ _ v)) (leb-true _ _ (both-right _ _ (both-left _ _ v))) (other-result _ _ (both-right _ _ v))
 
   -- and else by none
-  clear-none : contradicts ≡ false → Contradicting n s → ⊥
+  clear-none : contradicting n (lentHeard s) ≡ false → Contradicting n s → ⊥
   unfolding unequalFinalHeard fastBesideFinal isFast both
   clear-none c (finals h g m i p q d) = d (not-other-result _ _ (rw (p, q) at (pair-none _ (lentHeard s) (either-left _ _ c) h g m i)))
   clear-none c (fastAgainst h r m p l d) =
@@ -257,19 +254,19 @@ decided-number n hs = go (fastOf n hs) (ltb (length hs) (quorum (fOf n))) (final
 
 module _ (n : ℕ) (s : List ℕ) where
   -- replies that are not bad, with a contradiction
-  against-number : GoodLent n s → contradicts n s ≡ true → countedNumber (countBytes n s) ≡ 6
+  against-number : GoodLent n s → contradicting n (lentHeard s) ≡ true → countedNumber (countBytes n s) ≡ 6
   against-number (w, e) c = rw (whole-lent n s w, contradicted n (lentReplies s) e c)
 
   -- and without one
-  clear-number : GoodLent n s → contradicts n s ≡ false → countedNumber (countBytes n s) ≡ 0
+  clear-number : GoodLent n s → contradicting n (lentHeard s) ≡ false → countedNumber (countBytes n s) ≡ 0
   clear-number (w, e) c = rw (whole-lent n s w, clear n (lentReplies s) e c, decided-number)
 
   -- ---- one of the ways applies
 
   pub count-way : CountWay n s (countedNumber (countBytes n s))
-  count-way = go (bad-or-good n s) (cases (contradicts n s))
+  count-way = go (bad-or-good n s) (cases (contradicting n (lentHeard s)))
     where
-      go : (BadLent n s × (countBytes n s ≡ refused 3)) ⊎ GoodLent n s → (contradicts n s ≡ true) ⊎ (contradicts n s ≡ false) → CountWay n s (countedNumber (countBytes n s))
+      go : (BadLent n s × (countBytes n s ≡ refused 3)) ⊎ GoodLent n s → (contradicting n (lentHeard s) ≡ true) ⊎ (contradicting n (lentHeard s) ≡ false) → CountWay n s (countedNumber (countBytes n s))
       go (inl (b, e)) c = rw e (bad b)
       go (inr g) (inl c) = rw (against-number g c) (against (good-none n s g) (against-found n s c))
       go (inr g) (inr c) = rw (clear-number g c) (done (good-none n s g) (clear-none n s c))
@@ -277,9 +274,9 @@ module _ (n : ℕ) (s : List ℕ) where
   -- ---- and a way that applies is the call's: its number is given where its circumstances are
 
   pub way-exactly : {k : ℕ} → CountWay n s k → countedNumber (countBytes n s) ≡ k
-  way-exactly w = go (bad-or-good n s) (cases (contradicts n s)) w
+  way-exactly w = go (bad-or-good n s) (cases (contradicting n (lentHeard s))) w
     where
-      go : {k : ℕ} → (BadLent n s × (countBytes n s ≡ refused 3)) ⊎ GoodLent n s → (contradicts n s ≡ true) ⊎ (contradicts n s ≡ false) → CountWay n s k → countedNumber (countBytes n s) ≡ k
+      go : {k : ℕ} → (BadLent n s × (countBytes n s ≡ refused 3)) ⊎ GoodLent n s → (contradicting n (lentHeard s) ≡ true) ⊎ (contradicting n (lentHeard s) ≡ false) → CountWay n s k → countedNumber (countBytes n s) ≡ k
       go (inl (b, e)) c (bad d) = rw e
       go (inl (b, e)) c (against f d) = absurd (f b)
       go (inl (b, e)) c (done f d) = absurd (f b)

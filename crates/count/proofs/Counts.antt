@@ -10,14 +10,15 @@ use lib.ListN.{length}
 use borrow.Author.Tests.{ltb-true, ltb-false}
 use Rattle.rules.specs.Tests.{both, either, every}
 use Rattle.rules.specs.Numbers.{Number.badMessage, Number.contradiction, numberCode, number, first, applies}
-use Rattle.rules.specs.Count.{Heard, badReplies, unequalFinalHeard, fastBesideFinal, countCircumstances, countNumber, decided, counted, Counted.refused}
+use Rattle.rules.specs.Count.{badReplies, countCircumstances, countNumber, decided, counted, Counted.refused}
 use Rattle.rules.proofs.Logic.{cases}
 use Rattle.replies.specs.declared.held.Reply.{Reply}
 use Rattle.replies.specs.Heard.{resultRead, allHeard}
+use Rattle.count.specs.Answers.{contradicting}
 use Rattle.count.specs.Calls.{countOf}
 use Rattle.replies.specs.Held.{repliesIn, noneHeld, withReplies}
 use Rattle.replies.specs.Bad.{areBad}
-use Rattle.replies.proofs.BadReplies.{good, many}
+use Rattle.replies.proofs.BadReplies.{good-facts, too-many}
 use Rattle.replies.proofs.HeldAll.{length-replies, held-few, held-many}
 
 -- ---- what is bad is refused with 3, and the rest is counted
@@ -32,23 +33,20 @@ bad-refused n rs h = go (every resultRead rs) refl h
 
 pub good-counted : (n : ℕ) (rs : List Reply) → areBad n rs ≡ false → countOf n rs ≡ counted n (allHeard rs)
 unfolding countOf
-good-counted n rs h = rw (good n rs h .read) refl
+good-counted n rs h = rw (good-facts n rs h .read) refl
 
 -- ---- of replies that are not bad, 6 or a decision
 
-abbrev contradicting : ℕ → List Heard → Bool
-contradicting n hs = either (unequalFinalHeard hs) (fastBesideFinal n hs)
-
 pub contradicted : (n : ℕ) (rs : List Reply) → areBad n rs ≡ false → contradicting n (allHeard rs) ≡ true → countOf n rs ≡ refused (numberCode contradiction)
 unfolding counted countNumber countCircumstances number first applies either both
-contradicted n rs h c = good-counted n rs h ∙ rw (good n rs h .lawful, c) refl
+contradicted n rs h c = good-counted n rs h ∙ rw (good-facts n rs h .lawful, c) refl
 
 pub clear : (n : ℕ) (rs : List Reply) → areBad n rs ≡ false → contradicting n (allHeard rs) ≡ false → countOf n rs ≡ decided n (allHeard rs)
 unfolding counted countNumber countCircumstances number first applies either both
-clear n rs h c = good-counted n rs h ∙ rw (good n rs h .lawful, c) refl
+clear n rs h c = good-counted n rs h ∙ rw (good-facts n rs h .lawful, c) refl
 
 pub many-bad : (n : ℕ) (rs : List Reply) → 7 < length rs → countOf n rs ≡ refused (numberCode badMessage)
-many-bad n rs l = bad-refused n rs (sym (many n rs l))
+many-bad n rs l = bad-refused n rs (sym (too-many n rs l))
 
 -- ---- the replies held
 

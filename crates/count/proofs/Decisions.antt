@@ -9,22 +9,23 @@ use native.Mathlib.Omega.{arith}
 use lib.Dec.{eqb, ltb}
 use lib.ListN.{length}
 use borrow.Author.Tests.{ltb-true, ltb-false, not-false, lt-ltb, le-ltb, le-leb, lt-leb}
-use Rattle.rules.specs.Tests.{both, either, bit, any, count, greatest, somePair, provided}
+use Rattle.rules.specs.Tests.{both, either, bit, any, count, greatest, somePair, provided, firstOf}
 use Rattle.rules.specs.Groups.{fOf, quorum}
 use Rattle.rules.specs.Stamps.{isStamp}
 use Rattle.rules.specs.Tables.{Result, Result.OK, Result.ABORT, Result.ABSTAIN, Result.RETRY, resultCode, resultRetry, sameResult, resultByRule}
 use Rattle.rules.specs.Count.{Heard, badReplies, agreeing, isFast, unequalFinalHeard, fastBesideFinal, Counted, fastOf, finalHeard, greatestRetry, slowResult, slowOr, fastOr, decided}
-use Rattle.rules.proofs.Logic.{none-some, cases, both-left, both-right, both-true, both-false, either-false, either-left, either-right, either-first, either-second, not-true-of}
-use Rattle.rules.proofs.Lists.{_∈_, any-none, any-some, some-any, none-pair, provided-some, first-from, first-none}
+use Rattle.rules.proofs.Logic.{cases, both-left, both-right, both-true, both-false, either-false, either-left, either-right, either-first, either-second, not-true-of}
+use Rattle.rules.proofs.Lists.{_∈_, any-none, any-some, some-any, none-pair, provided-some, provided-none, first-from, first-none}
 use Rattle.rules.proofs.Same.{same-result, result-same, not-other-result}
+use Rattle.rules.proofs.Tables.{result-counts}
+use Rattle.rules.proofs.Count.{final-from}
 use Rattle.rules.proofs.Votes.{fast-one}
 use Rattle.message.specs.Messages.{resultByCode}
 use Rattle.message.proofs.Forms.{result-read}
-use Rattle.message.proofs.Lawful.{result-coded}
 use Rattle.replies.specs.declared.said.Said.{Said}
 use Rattle.count.specs.declared.answer.Counted.the-variants.{Fast, Slow, Wait}
 use Rattle.replies.specs.Results.{saidAs, resultOf}
-use Rattle.count.specs.Answers.{answerAs}
+use Rattle.count.specs.Answers.{contradicting, answerAs}
 
 not-first : {a : Bool} (b : Bool) → a ≡ false → both a b ≡ false
 unfolding both
@@ -32,15 +33,9 @@ not-first b e = rw e refl
 
 -- ---- a result found, or none
 
-code-least : (r : Result) → 0 < resultCode r
-code-least OK = omega arith
-code-least ABORT = omega arith
-code-least ABSTAIN = omega arith
-code-least (RETRY s) = omega arith
-
 pub none-said : (a : Said) (o : Option Result) → a ≡ saidAs o → a .code ≡ 0 → o ≡ none
 none-said a none e z = refl
-none-said a (some r) e z = let k = code-least r in let c : a .code ≡ resultCode r = ap (λ (s : Said). s .code) e in absurd (omega arith)
+none-said a (some r) e z = let k = result-counts r in let c : a .code ≡ resultCode r = ap (λ (s : Said). s .code) e in absurd (omega arith)
 
 -- a result by the rules is what its code and its retry stamp mean
 said-result : (a : Said) (o : Option Result) → a ≡ saidAs o → ((r : Result) → o ≡ some r → resultByRule r ≡ true) → (a .code ≡ 0 → ⊥) → (o ≡ some (resultOf a)) × (resultByCode (a .code) (a .retry) ≡ true)
@@ -57,33 +52,21 @@ module _ (n : ℕ) (hs : List Heard) (good : badReplies n hs ≡ false) where
   pub by-rule : (h : Heard) → h ∈ hs → resultByRule (h .result) ≡ true
   by-rule h m = not-false _ (any-none _ hs results-good h m)
 
+  -- a fast or a final result is a reply's, and so by the rules
+  pub chosen-by-rule : (test : Heard → Bool) (r : Result) → firstOf (λ h. provided (test h) (h .result)) hs ≡ some r → resultByRule r ≡ true
+  chosen-by-rule test r e =
+      let (h, m, k) = first-from (λ h. provided (test h) (h .result)) hs r e in
+      rw (← provided-some (test h) (h .result) r k .1) (by-rule h m)
+
   pub final-said : (a : Said) → a ≡ saidAs (finalHeard hs) → (a .code ≡ 0 → ⊥) → (finalHeard hs ≡ some (resultOf a)) × (resultByCode (a .code) (a .retry) ≡ true)
   unfolding finalHeard
-  final-said a e = said-result a (finalHeard hs) e from
-    where
-      from : (r : Result) → finalHeard hs ≡ some r → resultByRule r ≡ true
-      from r k =
-          let (h, m, j) = first-from (λ g. provided (g .isFinal) (g .result)) hs r k in
-          rw (← provided-some (h .isFinal) (h .result) r j .1) (by-rule h m)
+  final-said a e = said-result a (finalHeard hs) e (chosen-by-rule (λ h. h .isFinal))
 
   pub fast-said : (a : Said) → a ≡ saidAs (fastOf n hs) → (a .code ≡ 0 → ⊥) → (fastOf n hs ≡ some (resultOf a)) × (resultByCode (a .code) (a .retry) ≡ true)
   unfolding fastOf
-  fast-said a e = said-result a (fastOf n hs) e from
-    where
-      from : (r : Result) → fastOf n hs ≡ some r → resultByRule r ≡ true
-      from r k =
-          let (h, m, j) = first-from (λ g. provided (isFast n hs (g .result)) (g .result)) hs r k in
-          rw (← provided-some (isFast n hs (h .result)) (h .result) r j .1) (by-rule h m)
+  fast-said a e = said-result a (fastOf n hs) e (chosen-by-rule (λ h. isFast n hs (h .result)))
 
 -- ---- "Two unequal finals, or a fast count for a result other than a final one: 6."
-
--- by their codes
-pub unequal-said : (a b : Said) → resultByCode (a .code) (a .retry) ≡ true → resultByCode (b .code) (b .retry) ≡ true → sameResult (resultOf a) (resultOf b) ≡ both (eqb (a .code) (b .code)) (eqb (a .retry) (b .retry))
-unfolding sameResult
-unequal-said a b h k =
-    let c = result-coded (a .code) (a .retry) h in
-    let d = result-coded (b .code) (b .retry) k in
-    rw (c .sameCode, c .sameRetry, d .sameCode, d .sameRetry)
 
 abbrev otherFinal : Result → Heard → Bool
 otherFinal q g = both (g .isFinal) (not (sameResult q (g .result)))
@@ -117,17 +100,13 @@ besideFinal n hs h g = both (both (h .isFinal) (isFast n hs (g .result))) (not (
 -- whether there is a contradiction, found from the first final result and the fast one
 module _ (n : ℕ) (hs : List Heard) (good : badReplies n hs ≡ false) where
   abbrev Contradicts : Bool → Type 0
-  Contradicts b = b ≡ either (unequalFinalHeard hs) (fastBesideFinal n hs)
+  Contradicts b = b ≡ contradicting n hs
 
   no-final : finalHeard hs ≡ none → (h : Heard) → h ∈ hs → h .isFinal ≡ false
   unfolding finalHeard
-  no-final e h m = go (h .isFinal) (first-none (λ g. provided (g .isFinal) (g .result)) hs e h m)
-    where
-      go : (b : Bool) → provided b (h .result) ≡ none → b ≡ false
-      go true k = none-some (sym k)
-      go false k = refl
+  no-final e h m = provided-none (h .isFinal) (h .result) (first-none (λ g. provided (g .isFinal) (g .result)) hs e h m)
 
-  -- "none is final"
+  -- none is final
   pub contradicts-none : finalHeard hs ≡ none → Contradicts false
   unfolding unequalFinalHeard fastBesideFinal
   contradicts-none e =
@@ -138,10 +117,8 @@ module _ (n : ℕ) (hs : List Heard) (good : badReplies n hs ≡ false) where
 
   -- another is final
   pub contradicts-other : (q : Result) → finalHeard hs ≡ some q → any (otherFinal q) hs ≡ true → Contradicts true
-  unfolding finalHeard
   contradicts-other q e o =
-      let (h, mh, k) = first-from (λ g. provided (g .isFinal) (g .result)) hs q e in
-      let (f, i) = provided-some (h .isFinal) (h .result) q k in
+      let (h, mh, f, i) = final-from n hs q e in
       let (g, mg, og) = any-some (otherFinal q) hs o in
       sym (either-first _ _ (unequal-pair hs h g mh mg f (rw i og)))
 
@@ -154,11 +131,7 @@ module _ (n : ℕ) (hs : List Heard) (good : badReplies n hs ≡ false) where
 
   no-fast : fastOf n hs ≡ none → (g : Heard) → g ∈ hs → isFast n hs (g .result) ≡ false
   unfolding fastOf
-  no-fast e g m = go (isFast n hs (g .result)) (first-none (λ h. provided (isFast n hs (h .result)) (h .result)) hs e g m)
-    where
-      go : (b : Bool) → provided b (g .result) ≡ none → b ≡ false
-      go true k = none-some (sym k)
-      go false k = refl
+  no-fast e g m = provided-none (isFast n hs (g .result)) (g .result) (first-none (λ h. provided (isFast n hs (h .result)) (h .result)) hs e g m)
 
   -- none is fast
   pub contradicts-slow : (q : Result) → any (otherFinal q) hs ≡ false → fastOf n hs ≡ none → Contradicts false
@@ -167,13 +140,12 @@ module _ (n : ℕ) (hs : List Heard) (good : badReplies n hs ≡ false) where
 
   -- the fast one is another than the final one, or the same
   pub contradicts-fast : (q p : Result) → finalHeard hs ≡ some q → any (otherFinal q) hs ≡ false → fastOf n hs ≡ some p → Contradicts (not (sameResult q p))
-  unfolding fastBesideFinal somePair finalHeard
+  unfolding fastBesideFinal somePair
   contradicts-fast q p eq a ep = go (cases (sameResult q p))
     where
       go : (sameResult q p ≡ true) ⊎ (sameResult q p ≡ false) → Contradicts (not (sameResult q p))
       go (inr d) =
-          let (h, mh, k) = first-from (λ g. provided (g .isFinal) (g .result)) hs q eq in
-          let (f, i) = provided-some (h .isFinal) (h .result) q k in
+          let (h, mh, f, i) = final-from n hs q eq in
           let (g, mg, enough, j) = is-fast p ep in
           let t : besideFinal n hs h g ≡ true = both-true (both-true f enough) (rw (i, j) (not-true-of _ d)) in
           rw d (sym (either-second _ _ (some-any (λ h. any (besideFinal n hs h) hs) hs h mh (some-any (besideFinal n hs h) hs g mg t))))

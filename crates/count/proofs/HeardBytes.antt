@@ -1,14 +1,15 @@
 -- Replies as bytes, 15 each: what was written is read back and counted as it stands, and a walk over the bytes reads one reply after the other.
-use mathlib.Core.Path.{_≡_, refl, _∙_}
+use mathlib.Core.Path.{_≡_, refl, ap, _∙_}
 use mathlib.Core.Bool.{Bool, true, false}
+use mathlib.Core.Logic.{_⊎_, inl, inr}
 use mathlib.Core.List.{List, [], _∷_, _++_, map, List·Memᴰ·head, List·Memᴰ·tail}
-use Prim.Native.Nat.{ℕ, suc, _+_, _-_, _*_, _/_, _^_, _≤_, _<_}
+use Prim.Native.Nat.{ℕ, zero, suc, _+_, _-_, _*_, _/_, _^_, _≤_, _<_}
 use native.Mathlib.Nat.{add-zero}
 use native.Mathlib.Omega.{arith}
 use lib.Dec.{eqb, leb}
 use lib.ListN.{length, drop, length-append}
 use lib.Seq.{drop-at, drop-drop}
-use borrow.Author.Tests.{eq-eqb, ne-eqb}
+use borrow.Author.Tests.{eqb-false, eq-eqb, ne-eqb}
 use Rattle.wire.specs.Numbers.{numberAt}
 use Rattle.wire.proofs.Numbers.{length-bytes}
 use Rattle.wire.proofs.Stands.{stands-between}
@@ -17,12 +18,13 @@ use Rattle.rules.specs.Tests.{bit, every}
 use Rattle.rules.specs.Tables.{resultCode, resultRetry, resultByRule}
 use Rattle.rules.specs.Numbers.{Number.badMessage, numberCode}
 use Rattle.rules.specs.Count as rules
-use Rattle.rules.proofs.Logic.{both-true}
+use Rattle.rules.proofs.Logic.{same?, both-true}
 use Rattle.rules.proofs.Lists.{_∈_}
 use Rattle.message.proofs.Forms.{result-small, result-read}
 use Rattle.replies.specs.declared.held.Reply.{Reply}
 use Rattle.replies.specs.Heard.{resultRead, heard, allHeard}
 use Rattle.count.specs.Calls.{countOf, heardBytes, allBytes, replyAt, repliesOf, countBytes}
+use Rattle.count.proofs.Counts.{many-bad}
 
 -- ---- a walk over the bytes
 
@@ -45,6 +47,12 @@ replies-end s at l = let e : (length s - at) / 15 ≡ 0 = omega arith in rw e re
 
 -- ---- whole replies, or not
 
+-- as many are read as are asked for
+length-replies-of : (k : ℕ) (s : List ℕ) → length (repliesOf k s) ≡ k
+unfolding repliesOf
+length-replies-of zero s = refl
+length-replies-of (suc k) s = ap suc (length-replies-of k (drop 15 s))
+
 -- of whole replies all are counted
 pub count-whole : (n : ℕ) (s : List ℕ) → length s ≡ 15 * (length s / 15) → countBytes n s ≡ countOf n (repliesOf (length s / 15) s)
 unfolding countBytes
@@ -55,9 +63,19 @@ pub count-broken : (n : ℕ) (s : List ℕ) → (length s ≡ 15 * (length s / 1
 unfolding countBytes
 count-broken n s e = rw (ne-eqb (length s) (15 * (length s / 15)) e)
 
+-- and so are more bytes than those of seven replies
+pub count-long : (n : ℕ) (s : List ℕ) → 105 < length s → countBytes n s ≡ rules.Counted.refused (numberCode badMessage)
+count-long n s l = go (same? (length s) (15 * (length s / 15)))
+  where
+    go : (length s ≡ 15 * (length s / 15)) ⊎ (eqb (length s) (15 * (length s / 15)) ≡ false) → countBytes n s ≡ rules.Counted.refused (numberCode badMessage)
+    go (inl e) =
+        let k = length-replies-of (length s / 15) s in
+        count-whole n s e ∙ many-bad n (repliesOf (length s / 15) s) (omega arith)
+    go (inr d) = count-broken n s (eqb-false _ _ d)
+
 -- ---- replies that were written
 
--- "15 bytes a reply"
+-- 15 bytes a reply
 length-heard : (h : rules.Heard) → length (heardBytes h) ≡ 15
 unfolding heardBytes
 length-heard h = simp (length-append, length-bytes)

@@ -1,13 +1,19 @@
 -- 01, 'The coordinator's count': its answers as numbers. "An answer is taken apart before any field of it is used."
-use mathlib.Core.Bool.{cond}
+use mathlib.Core.Bool.{Bool, cond}
+use mathlib.Core.List.{List}
 use Prim.Native.Nat.{ℕ}
 use lib.Dec.{eqb}
+use Rattle.rules.specs.Tests.{either}
 use Rattle.rules.specs.Tables.{resultCode, resultRetry}
 use Rattle.rules.specs.Numbers.{Number.badMessage, Number.contradiction, numberCode}
 use Rattle.rules.specs.Count as rules
 use Rattle.rows.specs.Fields.{resultNumbered}
 use Rattle.count.specs.declared.answer.Counted.{Counted}
 use Rattle.count.specs.declared.answer.Counted.the-variants.{Fast, Slow, Wait, Bad, Contradiction}
+
+-- "Two unequal finals, or a fast count for a result other than a final one: 6."
+abbrev pub contradicting : ℕ → List rules.Heard → Bool
+contradicting n hs = either (rules.unequalFinalHeard hs) (rules.fastBesideFinal n hs)
 
 -- "fast with r .. wait .. slow with ..", and the two refusals
 abbrev pub answerAs : rules.Counted → Counted

@@ -6,13 +6,12 @@ use replies::said::Said;
 ghost use mathlib.Core.Path.{_≡_};
 ghost use mathlib.Core.Bool.{false};
 ghost use mathlib.Core.Option.{some};
-ghost use Rattle.rules.specs.Tests.{either};
 ghost use Rattle.rules.specs.Count as rules;
 ghost use Rattle.count.specs.Calls.{countOf};
 ghost use Rattle.replies.specs.Held.{repliesIn, heardIn};
 ghost use Rattle.replies.specs.Bad.{areBad};
 ghost use Rattle.replies.specs.Results.{saidAs};
-ghost use Rattle.count.specs.Answers.{answerAs};
+ghost use Rattle.count.specs.Answers.{contradicting, answerAs};
 
 // What a count answers: a result with its retry stamp, to wait for more, or a refusal.
 pub enum Counted {
@@ -24,21 +23,21 @@ pub enum Counted {
 }
 
 // Two unequal finals, or a fast count for a result other than a final one.
-fn contradicts(n: u8, replies: Replies, last: Said, fast: Said) -> bool
+fn contradicts(n: u8, replies: Replies, settled: Said, fast: Said) -> bool
     requires { ⌜ areBad n (repliesIn replies) ≡ false ⌝ }
-    requires { ⌜ (last ≡ saidAs (rules.finalHeard (heardIn replies))) × (fast ≡ saidAs (rules.fastOf n (heardIn replies))) ⌝ }
-    ensures { λ r. ⌜ r ≡ either (rules.unequalFinalHeard (heardIn replies)) (rules.fastBesideFinal n (heardIn replies)) ⌝ }
+    requires { ⌜ (settled ≡ saidAs (rules.finalHeard (heardIn replies))) × (fast ≡ saidAs (rules.fastOf n (heardIn replies))) ⌝ }
+    ensures { λ r. ⌜ r ≡ contradicting n (heardIn replies) ⌝ }
 {
-    if last.code == 0 {
+    if settled.code == 0 {
         return false;
     }
-    if said::other_final(replies, last) {
+    if said::other_final(replies, settled) {
         return true;
     }
     if fast.code == 0 {
         return false;
     }
-    !said::same(last, fast)
+    !said::same(settled, fast)
 }
 
 // With no final result: ABORT if any is, OK if f+1 are, RETRY with the greatest stamp if any is, ABSTAIN.
@@ -63,9 +62,9 @@ fn slow_result(n: u8, replies: Replies) -> Said
 }
 
 // Fast, wait or slow.
-fn decide(n: u8, replies: Replies, last: Said, fast: Said) -> Counted
+fn decide(n: u8, replies: Replies, settled: Said, fast: Said) -> Counted
     requires { ⌜ areBad n (repliesIn replies) ≡ false ⌝ }
-    requires { ⌜ (last ≡ saidAs (rules.finalHeard (heardIn replies))) × (fast ≡ saidAs (rules.fastOf n (heardIn replies))) ⌝ }
+    requires { ⌜ (settled ≡ saidAs (rules.finalHeard (heardIn replies))) × (fast ≡ saidAs (rules.fastOf n (heardIn replies))) ⌝ }
     ensures { λ r. ⌜ r ≡ answerAs (rules.decided n (heardIn replies)) ⌝ }
 {
     if fast.code != 0 {
@@ -77,10 +76,10 @@ fn decide(n: u8, replies: Replies, last: Said, fast: Said) -> Counted
     if replies.number < quorums::quorum(n) {
         return Counted::Wait;
     }
-    if last.code != 0 {
+    if settled.code != 0 {
         return Counted::Slow {
-            result: last.code,
-            retry: last.retry,
+            result: settled.code,
+            retry: settled.retry,
         };
     }
     let slow = slow_result(n, replies);
@@ -97,10 +96,10 @@ pub fn count(n: u8, replies: Replies) -> Counted
     if bad::are_bad(n, replies) {
         return Counted::Bad;
     }
-    let last = said::first_final(replies);
+    let settled = said::first_final(replies);
     let fast = said::fast(replies, n);
-    if contradicts(n, replies, last, fast) {
+    if contradicts(n, replies, settled, fast) {
         return Counted::Contradiction;
     }
-    decide(n, replies, last, fast)
+    decide(n, replies, settled, fast)
 }

@@ -40,10 +40,13 @@ fn gather(bytes: &[u8]) -> Replies
     replies
 }
 
-// The coordinator's count of any bytes.
+// The coordinator's count of any bytes. More than seven replies are bad whatever they are, so none of them is read.
 pub fn count(n: u8, bytes: &[u8]) -> Counted
     ensures { λ r. ⌜ r ≡ answerAs (countBytes n (now (bytes .entry))) ⌝ }
 {
+    if 7 * LENGTH < bytes.len() {
+        return Counted::Bad;
+    }
     if bytes.len() % LENGTH != 0 {
         return Counted::Bad;
     }

@@ -1,6 +1,6 @@
 -- What each walk over a run for one stamp does in a turn, and at its end.
 use mathlib.Core.Path.{_≡_, refl, sym, ap, _∙_}
-use mathlib.Core.Bool.{Bool, true, false, cond}
+use mathlib.Core.Bool.{true, false, cond}
 use mathlib.Core.List.{List, [], _∷_}
 use Prim.Native.Nat.{ℕ, _+_, _-_, _≤_, _<_, _^_, min}
 use native.Mathlib.Omega.{arith}
@@ -22,7 +22,7 @@ use Rattle.table.specs.Parse.{tableAt}
 use Rattle.table.proofs.Images.{valley-sound, parsed}
 use Rattle.seek.specs.Lent.{Lawful}
 use Rattle.seek.proofs.HeldRows.{lawful-regular}
-use Rattle.run.specs.Runs.{images, tablesOf, Images}
+use Rattle.run.specs.Runs.{tablesOf, Images}
 use Rattle.run.proofs.RunTurns.{Turn, turn, rest-of, walked, laid-images}
 use Rattle.gather.specs.declared.state.State.{State}
 use Rattle.gather.specs.Held.{usedOf, placeIn, isHeld, fieldsFor, fromFirst, otherIn}
@@ -143,7 +143,3 @@ next-start newest last s are =
 
 pub added : (n a b c t : ℕ) → c ≡ a + b → n + c ≡ t → n + a + b ≡ t
 added n a b c t e f = omega arith
-
-pub bit-most : (b : Bool) → bit b ≤ 1
-bit-most true = omega arith
-bit-most false = omega arith

@@ -15,7 +15,7 @@ use Rattle.rules.specs.Numbers.{number}
 use Rattle.rules.specs.Count.{Heard, unequalViews, badReplies}
 use Rattle.rules.proofs.Logic.{impossible, cases, both-left, both-right, either-left, either-right, either-none, either-false, same-test, not-false-of}
 use Rattle.rules.proofs.Lists.{_∈_, any-none, any-some, some-any, none-pair}
-use Rattle.rules.proofs.Groups.{group-of}
+use Rattle.rules.proofs.Groups.{group-bounds}
 use Rattle.rules.proofs.Votes.{different-below, replies-different, replies-inside}
 use Rattle.replies.specs.declared.held.Reply.{Reply}
 use Rattle.replies.specs.declared.held.Replies.{Replies}
@@ -23,26 +23,26 @@ use Rattle.replies.specs.Heard.{resultRead, heard, allHeard}
 use Rattle.replies.specs.Held.{replyIn, repliesFrom, repliesIn, heardIn, Read}
 use Rattle.replies.specs.Bad.{isWrong, anyBad, areBad}
 use Rattle.replies.proofs.HeldAll.{length-replies}
-use Rattle.replies.proofs.Turns.{left, on, over, coded, any-heard}
+use Rattle.replies.proofs.Turns.{left, left-on, left-over, coded, any-heard}
 
 -- ---- turn by turn
 
 module _ (n view : ℕ) (h : Replies) (i : ℕ) (r : Reply) (e : r ≡ replyIn h i) (l : i < h .number) where
   pub bad-wrong : isWrong n view r ≡ true → true ≡ anyBad n view (left h i)
   unfolding anyBad either
-  bad-wrong w = sym (rw (on h i l, ← e, w) refl)
+  bad-wrong w = sym (rw (left-on h i l, ← e, w) refl)
 
   pub bad-twice : isWrong n view r ≡ false → any (λ y. eqb (y .boxnumber) (r .boxnumber)) (left h (i + 1)) ≡ true → true ≡ anyBad n view (left h i)
   unfolding anyBad either
-  bad-twice w t = sym (rw (on h i l, ← e, w, t) refl)
+  bad-twice w t = sym (rw (left-on h i l, ← e, w, t) refl)
 
   pub bad-on : isWrong n view r ≡ false → any (λ y. eqb (y .boxnumber) (r .boxnumber)) (left h (i + 1)) ≡ false → anyBad n view (left h (i + 1)) ≡ anyBad n view (left h i)
   unfolding anyBad either
-  bad-on w t = sym (rw (on h i l, ← e, w, t) refl)
+  bad-on w t = sym (rw (left-on h i l, ← e, w, t) refl)
 
 pub bad-over : (n view : ℕ) (h : Replies) (i : ℕ) → h .number ≤ i → false ≡ anyBad n view (left h i)
 unfolding anyBad
-bad-over n view h i l = rw (over h i l)
+bad-over n view h i l = rw (left-over h i l)
 
 -- ---- with no bad result, test by test
 
@@ -122,10 +122,10 @@ twice-heard [] = refl
 twice-heard (r ∷ rs) = ap₂ either (any-heard (λ y. eqb (y .box) (r .boxnumber)) rs) (twice-heard rs)
 
 -- what was read is by the rules
-results-good : (rs : List Reply) → every resultRead rs ≡ true → any (λ h. not (resultByRule (h .result))) (allHeard rs) ≡ false
+read-by-rule : (rs : List Reply) → every resultRead rs ≡ true → any (λ h. not (resultByRule (h .result))) (allHeard rs) ≡ false
 unfolding any every
-results-good [] h = refl
-results-good (r ∷ rs) h = either-false (not-false-of _ (coded r (both-left _ _ h) .byRule)) (results-good rs (both-right _ _ h))
+read-by-rule [] h = refl
+read-by-rule (r ∷ rs) h = either-false (not-false-of _ (coded r (both-left _ _ h) .byRule)) (read-by-rule rs (both-right _ _ h))
 
 pub bad-exactly : (n view : ℕ) (rs : List Reply) → isGroup n ≡ true → FirstHas view rs → anyBad n view rs ≡ areBad n rs
 unfolding areBad badReplies either
@@ -134,7 +134,7 @@ bad-exactly n view rs group f = go (cases (every resultRead rs))
     go : (every resultRead rs ≡ true) ⊎ (every resultRead rs ≡ false) → anyBad n view rs ≡ areBad n rs
     go (inr e) = rw e (unread n view rs e)
     go (inl e) =
-        rw (e, group, any-heard (λ h. not (ltb (h .box) n)) rs, twice-heard rs, results-good rs e, either-none, ← views-unequal view (allHeard rs) f, any-heard (λ h. not (eqb (h .view) view)) rs)
+        rw (e, group, any-heard (λ h. not (ltb (h .box) n)) rs, twice-heard rs, read-by-rule rs e, either-none, ← views-unequal view (allHeard rs) f, any-heard (λ h. not (eqb (h .view) view)) rs)
         (walked n view rs e)
 
 pub bad-group : (n : ℕ) (rs : List Reply) → isGroup n ≡ false → true ≡ areBad n rs
@@ -147,14 +147,6 @@ bad-group n rs group = go (every resultRead rs)
 
 -- ---- more than seven are too many for any group
 
-few : (n : ℕ) → isGroup n ≡ true → (0 < n) × (n ≤ 7)
-few n g = go (group-of n g)
-  where
-    go : (n ≡ 3) ⊎ ((n ≡ 5) ⊎ (n ≡ 7)) → (0 < n) × (n ≤ 7)
-    go (inl e) = (omega arith, omega arith)
-    go (inr (inl e)) = (omega arith, omega arith)
-    go (inr (inr e)) = (omega arith, omega arith)
-
 -- what replies that are not bad are
 pub record Good (n : ℕ) (rs : List Reply) : Type 0 where
   pub read : every resultRead rs ≡ true
@@ -162,21 +154,21 @@ pub record Good (n : ℕ) (rs : List Reply) : Type 0 where
   pub positive : 0 < n
   pub atMost : length rs ≤ 7
 
-pub good : (n : ℕ) (rs : List Reply) → areBad n rs ≡ false → Good n rs
+pub good-facts : (n : ℕ) (rs : List Reply) → areBad n rs ≡ false → Good n rs
 unfolding areBad badReplies
-good n rs h =
+good-facts n rs h =
     let lawful : badReplies n (allHeard rs) ≡ false = either-right _ _ h in
-    let size = few n (not-false _ (either-left _ _ lawful)) in
+    let size = group-bounds n (not-false _ (either-left _ _ lawful)) in
     let below = different-below (λ g. g .box) n (allHeard rs) (replies-different n (allHeard rs) lawful) (replies-inside n (allHeard rs) lawful) in
     let same = length-map rs heard in
     record { read = not-false _ (either-left _ _ h); lawful = lawful; positive = size .0; atMost = omega arith }
 
-pub many : (n : ℕ) (rs : List Reply) → 7 < length rs → true ≡ areBad n rs
-many n rs l = go (cases (areBad n rs))
+pub too-many : (n : ℕ) (rs : List Reply) → 7 < length rs → true ≡ areBad n rs
+too-many n rs l = go (cases (areBad n rs))
   where
     go : (areBad n rs ≡ true) ⊎ (areBad n rs ≡ false) → true ≡ areBad n rs
     go (inl e) = sym e
-    go (inr e) = let k = good n rs e .atMost in absurd (omega arith)
+    go (inr e) = let k = good-facts n rs e .atMost in absurd (omega arith)
 
 -- ---- the replies held
 
@@ -190,7 +182,7 @@ first-has h = go (h .number)
 
 pub good-read : (n : ℕ) (h : Replies) → areBad n (repliesIn h) ≡ false → Read h × (0 < n)
 good-read n h e =
-    let g = good n (repliesIn h) e in
+    let g = good-facts n (repliesIn h) e in
     let l = g .atMost in
     let k = length-replies h 0 (h .number) in
     ((omega arith, g .read), g .positive)

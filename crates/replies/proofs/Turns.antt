@@ -27,20 +27,20 @@ abbrev pub left : Replies → ℕ → List Reply
 left h i = repliesFrom h i (h .number - i)
 
 -- before the first turn that is all of them
-pub starts : (h : Replies) → left h 0 ≡ repliesIn h
-starts h =
+pub left-all : (h : Replies) → left h 0 ≡ repliesIn h
+left-all h =
     let e : h .number - 0 ≡ h .number = omega arith in
     ap (repliesFrom h 0) e
 
-pub on : (h : Replies) (i : ℕ) → i < h .number → left h i ≡ replyIn h i ∷ left h (i + 1)
+pub left-on : (h : Replies) (i : ℕ) → i < h .number → left h i ≡ replyIn h i ∷ left h (i + 1)
 unfolding repliesFrom
-on h i l =
+left-on h i l =
     let e : h .number - i ≡ suc (h .number - (i + 1)) = omega arith in
     ap (repliesFrom h i) e
 
-pub over : (h : Replies) (i : ℕ) → h .number ≤ i → left h i ≡ []
+pub left-over : (h : Replies) (i : ℕ) → h .number ≤ i → left h i ≡ []
 unfolding repliesFrom
-over h i l =
+left-over h i l =
     let e : h .number - i ≡ 0 = omega arith in
     ap (repliesFrom h i) e
 
@@ -50,7 +50,7 @@ LeftRead h i = every resultRead (left h i) ≡ true
 
 pub read-on : (h : Replies) (i : ℕ) → i < h .number → LeftRead h i → (resultRead (replyIn h i) ≡ true) × LeftRead h (i + 1)
 unfolding every
-read-on h i l r = let s : both (resultRead (replyIn h i)) (every resultRead (left h (i + 1))) ≡ true = rw (on h i l) at r in (both-left _ _ s, both-right _ _ s)
+read-on h i l r = let s : both (resultRead (replyIn h i)) (every resultRead (left h (i + 1))) ≡ true = rw (left-on h i l) at r in (both-left _ _ s, both-right _ _ s)
 
 -- ---- a reply's result by its code and its retry stamp
 
@@ -70,12 +70,15 @@ pub compared : (a b : Said) (r : Reply) (t : Bool) → t ≡ both (eqb (a .code)
 compared a b r t k e = k ∙ ap (λ (s : Said). both (eqb (a .code) (s .code)) (eqb (a .retry) (s .retry))) e
 
 -- two results are the same if code and retry stamp are
-pub same-codes : (a : Said) (r : Reply) → resultByCode (a .code) (a .retry) ≡ true → resultRead r ≡ true → sameResult (resultOf a) (heard r .result) ≡ both (eqb (a .code) (r .result)) (eqb (a .retry) (r .retry))
+pub same-said : (a b : Said) → resultByCode (a .code) (a .retry) ≡ true → resultByCode (b .code) (b .retry) ≡ true → sameResult (resultOf a) (resultOf b) ≡ both (eqb (a .code) (b .code)) (eqb (a .retry) (b .retry))
 unfolding sameResult
-same-codes a r k h =
-    let c = result-coded (a .code) (a .retry) k in
-    let d = coded r h in
+same-said a b h k =
+    let c = result-coded (a .code) (a .retry) h in
+    let d = result-coded (b .code) (b .retry) k in
     rw (c .sameCode, c .sameRetry, d .sameCode, d .sameRetry)
+
+pub same-codes : (a : Said) (r : Reply) → resultByCode (a .code) (a .retry) ≡ true → resultRead r ≡ true → sameResult (resultOf a) (heard r .result) ≡ both (eqb (a .code) (r .result)) (eqb (a .retry) (r .retry))
+same-codes a r k h = same-said a (saidBy r) k (by-code r h)
 
 -- a final result that is another
 pub other-codes : (a : Said) (r : Reply) → resultByCode (a .code) (a .retry) ≡ true → resultRead r ≡ true → both (heard r .isFinal) (not (sameResult (resultOf a) (heard r .result))) ≡ both (eqb (r .finality) 1) (not (both (eqb (a .code) (r .result)) (eqb (a .retry) (r .retry))))
@@ -85,14 +88,11 @@ other-codes a r k h = ap (λ (b : Bool). both (heard r .isFinal) (not b)) (same-
 
 pub agreeing-on : (h : Replies) (i : ℕ) (a : Said) → resultByCode (a .code) (a .retry) ≡ true → i < h .number → LeftRead h i → agreeing (allHeard (left h i)) (resultOf a) ≡ bit (both (eqb (a .code) (replyIn h i .result)) (eqb (a .retry) (replyIn h i .retry))) + agreeing (allHeard (left h (i + 1))) (resultOf a)
 unfolding agreeing count
-agreeing-on h i a k l r = rw (on h i l, ← same-codes a (replyIn h i) k (read-on h i l r .0))
+agreeing-on h i a k l r = rw (left-on h i l, ← same-codes a (replyIn h i) k (read-on h i l r .0))
 
 pub agreeing-over : (h : Replies) (i : ℕ) (q : Result) → h .number ≤ i → agreeing (allHeard (left h i)) q ≡ 0
 unfolding agreeing count
-agreeing-over h i q l = rw (over h i l)
-
-pub all-counted : {k more all : ℕ} → more ≡ 0 → k + more ≡ all → k ≡ all
-all-counted e f = omega arith
+agreeing-over h i q l = rw (left-over h i l)
 
 -- ---- the first that passes a test
 
@@ -101,15 +101,15 @@ chosen test rs = firstOf (λ g. provided (test g) (g .result)) (allHeard rs)
 
 pub chosen-is : (test : Heard → Bool) (h : Replies) (i : ℕ) (r : Reply) → r ≡ replyIn h i → i < h .number → LeftRead h i → test (heard r) ≡ true → saidBy r ≡ saidAs (chosen test (left h i))
 unfolding firstOf
-chosen-is test h i r e l k t = sym (rw (on h i l, ← e, t) (said-by r (rw (← e) at (read-on h i l k .0))))
+chosen-is test h i r e l k t = sym (rw (left-on h i l, ← e, t) (said-by r (rw (← e) at (read-on h i l k .0))))
 
 pub chosen-on : (test : Heard → Bool) (h : Replies) (i : ℕ) (r : Reply) → r ≡ replyIn h i → i < h .number → test (heard r) ≡ false → chosen test (left h (i + 1)) ≡ chosen test (left h i)
 unfolding firstOf
-chosen-on test h i r e l t = sym (rw (on h i l, ← e, t) refl)
+chosen-on test h i r e l t = sym (rw (left-on h i l, ← e, t) refl)
 
 pub chosen-over : (test : Heard → Bool) (h : Replies) (i : ℕ) → h .number ≤ i → chosen test (left h i) ≡ none
 unfolding firstOf
-chosen-over test h i l = rw (over h i l)
+chosen-over test h i l = rw (left-over h i l)
 
 -- the test for the fast count, by a result's code and retry stamp
 module _ (n : ℕ) (hs : List Heard) (r : Reply) (a : Said) (e : a ≡ saidBy r) (enough k : ℕ) (d : enough ≡ fastCount (fOf n)) (c : k ≡ agreeing hs (resultOf a)) where
@@ -126,15 +126,15 @@ module _ (n : ℕ) (hs : List Heard) (r : Reply) (a : Said) (e : a ≡ saidBy r)
 module _ (test : Reply → Bool) (h : Replies) (i : ℕ) where
   pub any-is : (r : Reply) → r ≡ replyIn h i → i < h .number → test r ≡ true → true ≡ any test (left h i)
   unfolding any either
-  any-is r e l t = sym (rw (on h i l, ← e, t) refl)
+  any-is r e l t = sym (rw (left-on h i l, ← e, t) refl)
 
   pub any-on : (r : Reply) → r ≡ replyIn h i → i < h .number → test r ≡ false → any test (left h (i + 1)) ≡ any test (left h i)
   unfolding any either
-  any-on r e l t = sym (rw (on h i l, ← e, t) refl)
+  any-on r e l t = sym (rw (left-on h i l, ← e, t) refl)
 
   pub any-over : h .number ≤ i → false ≡ any test (left h i)
   unfolding any
-  any-over l = rw (over h i l)
+  any-over l = rw (left-over h i l)
 
 pub any-heard : (test : Heard → Bool) (rs : List Reply) → any test (allHeard rs) ≡ any (λ r. test (heard r)) rs
 unfolding any
@@ -145,11 +145,11 @@ any-heard test (r ∷ rs) = ap (either (test (heard r))) (any-heard test rs)
 
 pub greatest-on : (h : Replies) (i : ℕ) → i < h .number → LeftRead h i → greatestRetry (allHeard (left h i)) ≡ max (replyIn h i .retry) (greatestRetry (allHeard (left h (i + 1))))
 unfolding greatestRetry greatest
-greatest-on h i l r = rw (on h i l, coded (replyIn h i) (read-on h i l r .0) .sameRetry) refl
+greatest-on h i l r = rw (left-on h i l, coded (replyIn h i) (read-on h i l r .0) .sameRetry) refl
 
 pub greatest-over : (h : Replies) (i : ℕ) → h .number ≤ i → greatestRetry (allHeard (left h i)) ≡ 0
 unfolding greatestRetry greatest
-greatest-over h i l = rw (over h i l)
+greatest-over h i l = rw (left-over h i l)
 
 pub all-seen : {k more all : ℕ} → more ≡ 0 → max k more ≡ all → k ≡ all
 all-seen e f = omega arith

@@ -11,7 +11,7 @@ ghost use Rattle.replies.specs.Heard.{resultRead};
 ghost use Rattle.replies.specs.Held.{repliesFrom, repliesIn};
 ghost use Rattle.replies.specs.Bad.{isWrong, anyBad, areBad};
 
-// A result with a retry stamp by the rows' rule, final or not.
+// A code of a result with its retry stamp by the rows' rule, and 0 or 1 for final or not.
 fn result_read(reply: Reply) -> bool
     ensures { λ r. ⌜ r ≡ resultRead reply ⌝ }
 {

@@ -59,7 +59,7 @@ module _ (n : ℕ) (hs : List Heard) where
       let (f, i) = provided-some (isFast n hs (h .result)) (h .result) r k in
       rw (← i) (leb-true _ _ f)
 
-  final-from : (r : Result) → finalHeard hs ≡ some r → (h : Heard) × (h ∈ hs) × (h .isFinal ≡ true) × (h .result ≡ r)
+  pub final-from : (r : Result) → finalHeard hs ≡ some r → (h : Heard) × (h ∈ hs) × (h .isFinal ≡ true) × (h .result ≡ r)
   unfolding finalHeard
   final-from r e =
       let (h, m, k) = first-from (λ h. provided (h .isFinal) (h .result)) hs r e in

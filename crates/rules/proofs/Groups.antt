@@ -23,6 +23,15 @@ group-of n h = go (either-cases (eqb n 3) (either (eqb n 5) (eqb n 7)) h)
     go (inl e) = inl (eqb-true n 3 e)
     go (inr h′) = rest (either-cases (eqb n 5) (eqb n 7) h′)
 
+-- so a group has boxes, and at most seven
+pub group-bounds : (n : ℕ) → isGroup n ≡ true → (0 < n) × (n ≤ 7)
+group-bounds n h = go (group-of n h)
+  where
+    go : (n ≡ 3) ⊎ ((n ≡ 5) ⊎ (n ≡ 7)) → (0 < n) × (n ≤ 7)
+    go (inl e) = (omega arith, omega arith)
+    go (inr (inl e)) = (omega arith, omega arith)
+    go (inr (inr e)) = (omega arith, omega arith)
+
 pub group-size : (n : ℕ) → isGroup n ≡ true → n ≡ fOf n + fOf n + 1
 group-size n h = go (group-of n h)
   where

@@ -196,6 +196,10 @@ module _ {A : Type 0} where
   provided-some true x y e = (refl, cc)
   provided-some false x y e = let c : _≡_ {A = ℕ} 0 1 = cc in absurd (omega arith)
 
+  pub provided-none : (b : Bool) (x : A) → provided b x ≡ none → b ≡ false
+  provided-none true x e = let c : _≡_ {A = ℕ} 0 1 = cc in absurd (omega arith)
+  provided-none false x e = refl
+
 -- ---- what the first gives, and what all give
 
 module _ {A B : Type 0} (give : A → Option B) where

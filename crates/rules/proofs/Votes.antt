@@ -22,6 +22,14 @@ use Rattle.rules.proofs.Groups.{group-size, agreement-once, fast-once}
 
 -- ---- counting
 
+pub bit-most : (b : Bool) → bit b ≤ 1
+bit-most true = omega arith
+bit-most false = omega arith
+
+-- nothing is left to count
+pub all-counted : {n more all : ℕ} → more ≡ 0 → n + more ≡ all → n ≡ all
+all-counted e f = omega arith
+
 module _ {A : Type 0} where
   -- no element passes both of two tests: their counts add up to at most the length
   pub counts-apart : (p q : A → Bool) → ((x : A) → p x ≡ true → q x ≡ false) → (xs : List A) → count p xs + count q xs ≤ length xs

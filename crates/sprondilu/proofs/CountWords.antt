@@ -1,9 +1,10 @@
 -- The word of a count: which answers have no result, and that a result fits its bits.
-use mathlib.Core.Path.{_≡_, refl, sym, subst}
+use mathlib.Core.Path.{_≡_, refl, sym, subst, ap, _∙_}
 use mathlib.Core.Bool.{Bool, true, false, cond}
 use mathlib.Core.Logic.{_⊎_, inl, inr}
-use mathlib.Core.List.{[], _∷_}
-use Prim.Native.Nat.{ℕ, _+_, _*_, _%_, _/_, _^_, _<_}
+use mathlib.Core.List.{List, [], _∷_, List·Memᴰ·head, List·Memᴰ·tail}
+use Prim.Native.Nat.{ℕ, _%_, _/_, _^_, _<_}
+use native.Mathlib.Nat.{zero-add}
 use native.Mathlib.Omega.{arith}
 use types.Run.{OneOf}
 use denote.Enum.Declared.{tagOf}
@@ -14,11 +15,15 @@ use Rattle.rules.specs.Numbers.{Number.contradiction, numberCode}
 use Rattle.rules.specs.Tables.{Result, Result.OK, Result.ABORT, Result.ABSTAIN, Result.RETRY, resultCode, resultRetry, resultByRule}
 use Rattle.rules.specs.Count as rules
 use Rattle.rules.proofs.Logic.{both-right}
+use Rattle.rules.proofs.Lists.{_∈_}
 use Rattle.count.specs.declared.answer.Counted.{Counted}
 use Rattle.count.specs.declared.answer.Counted.the-variants.{Fast, Slow, Wait, Bad, Contradiction}
-use Rattle.count.specs.Answers.{answerAs, answerNumber}
+use Rattle.count.specs.Answers.{answerAs, meant, answerNumber}
+use Rattle.count.specs.Calls.{countBytes}
+use Rattle.count.proofs.CountWays.{count-numbers}
+use Rattle.count.proofs.CountCall.{answer-by-rule, answer-meant}
 use Rattle.count.proofs.answer.Counted as enum
-use Rattle.sprondilu.specs.Calls.{countAnswer}
+use Rattle.sprondilu.specs.Calls.{resultWord, countAnswer}
 
 -- neither fast nor slow: the word is the number
 pub without-result : (a : Counted) → OneOf (1 ∷ 2 ∷ 3 ∷ 4 ∷ []) (tagOf enum.the-type a) → OneOf (0 ∷ 2 ∷ 3 ∷ 4 ∷ []) (tagOf enum.the-type a) → answerNumber a ≡ countAnswer a
@@ -62,6 +67,52 @@ result-fits c h a e = subst ResultFits (sym e) (go c h)
     go rules.Counted.wait k = tt
     go (rules.Counted.refused j) k = refusal (eqb j (numberCode contradiction))
 
--- number, kind, result and retry stamp are taken out of a word again by their bits
-pub word-apart : (kind result retry : ℕ) → kind < 4 → result < 8 → let w = 256 * kind + 1024 * result + 65536 * retry in (w % 256 ≡ 0) × (w / 256 % 4 ≡ kind) × (w / 1024 % 8 ≡ result) × (w / 65536 ≡ retry)
-word-apart kind result retry k l = (omega arith, omega arith, omega arith, omega arith)
+-- ---- the word that the call answers
+
+-- number, kind, result and retry stamp are taken out of a word again by their bits, and no other bit is set
+pub word-apart : (kind result retry : ℕ) → kind < 4 → result < 8 → let w = resultWord kind result retry in (w % 256 ≡ 0) × (w / 256 % 4 ≡ kind) × (w / 1024 % 8 ≡ result) × (w / 8192 % 8 ≡ 0) × (w / 65536 ≡ retry)
+word-apart kind result retry k l = (omega arith, omega arith, omega arith, omega arith, omega arith)
+
+-- the answer of the count to these bytes
+abbrev pub countWord : ℕ → List ℕ → ℕ
+countWord n s = countAnswer (answerAs (countBytes n s))
+
+-- what a word says, read by its bits alone
+abbrev pub Says : ℕ → rules.Counted → Type 0
+Says w (rules.Counted.fast r) = (w % 256 ≡ 0) × (w / 256 % 4 ≡ 1) × (w / 1024 % 8 ≡ resultCode r) × (w / 8192 % 8 ≡ 0) × (w / 65536 ≡ resultRetry r)
+Says w (rules.Counted.slow r) = (w % 256 ≡ 0) × (w / 256 % 4 ≡ 2) × (w / 1024 % 8 ≡ resultCode r) × (w / 8192 % 8 ≡ 0) × (w / 65536 ≡ resultRetry r)
+Says w rules.Counted.wait = w ≡ 0
+Says w (rules.Counted.refused k) = w ≡ k
+
+-- it says the count of `rules`
+pub word-says : (n : ℕ) (s : List ℕ) → Says (countWord n s) (countBytes n s)
+word-says n s = go (countBytes n s) (answer-by-rule n s) (answer-meant n s)
+  where
+    go : (c : rules.Counted) → ((r : Result) → (c ≡ rules.Counted.fast r) ⊎ (c ≡ rules.Counted.slow r) → resultByRule r ≡ true) → meant (answerAs c) ≡ c → Says (countAnswer (answerAs c)) c
+    go (rules.Counted.fast r) h m = let (k, l) = small r (h r (inl refl)) in rw (zero-add (resultWord 1 (resultCode r) (resultRetry r))) (word-apart 1 (resultCode r) (resultRetry r) (omega arith) k)
+    go (rules.Counted.slow r) h m = let (k, l) = small r (h r (inr refl)) in rw (zero-add (resultWord 2 (resultCode r) (resultRetry r))) (word-apart 2 (resultCode r) (resultRetry r) (omega arith) k)
+    go rules.Counted.wait h m = refl
+    go (rules.Counted.refused k) h m = refusal (eqb k (numberCode contradiction)) m
+      where
+        refusal : (b : Bool) → meant (cond b Contradiction Bad) ≡ rules.Counted.refused k → countAnswer (cond b Contradiction Bad) ≡ k
+        refusal true e = ap rules.countedNumber e
+        refusal false e = ap rules.countedNumber e
+
+-- so its number is that of the count
+pub word-number : (n : ℕ) (s : List ℕ) → countWord n s % 256 ≡ rules.countedNumber (countBytes n s)
+word-number n s = go (countBytes n s) (word-says n s) (count-numbers n s)
+  where
+    go : (c : rules.Counted) → Says (countWord n s) c → rules.countedNumber c ∈ (0 ∷ 3 ∷ 6 ∷ []) → countWord n s % 256 ≡ rules.countedNumber c
+    go (rules.Counted.fast r) e m = e .0
+    go (rules.Counted.slow r) e m = e .0
+    go rules.Counted.wait e m = omega arith
+    go (rules.Counted.refused k) e m = below m
+      where
+        below : k ∈ (0 ∷ 3 ∷ 6 ∷ []) → countWord n s % 256 ≡ k
+        below (List·Memᴰ·head f) = omega arith
+        below (List·Memᴰ·tail (List·Memᴰ·head f)) = omega arith
+        below (List·Memᴰ·tail (List·Memᴰ·tail (List·Memᴰ·head f))) = omega arith
+
+-- two words that the promise allows for the same n and bytes are equal
+pub word-determined : (n : ℕ) (s : List ℕ) {word other : ℕ} → word ≡ countWord n s → other ≡ countWord n s → word ≡ other
+word-determined n s a b = a ∙ sym b

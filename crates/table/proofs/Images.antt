@@ -12,12 +12,11 @@ use borrow.Author.Tests.{ltb-true, leb-true, eqb-true}
 use Rattle.wire.specs.Numbers.{numberAt, AllBytes}
 use Rattle.wire.proofs.Stands.{Stands, stands-inside, stands-left, stands-right}
 use Rattle.rules.specs.Tests.{both, every, provided}
-use Rattle.rules.specs.Groups.{isGroup}
 use Rattle.rules.specs.Stamps.{countsByRule}
 use Rattle.rules.specs.Tables.{Row, Table, Model, valley, isView, modeByRule, rising, rowByRule, tableByRule}
 use Rattle.rules.proofs.Logic.{none-some, both-left, both-right, both-true, either-cases}
 use Rattle.rules.proofs.Lists.{provided-some}
-use Rattle.rules.proofs.Groups.{group-of}
+use Rattle.rules.proofs.Groups.{group-bounds}
 use Rattle.rules.proofs.Tables.{row-facts, table-facts}
 use Rattle.rows.specs.Bytes.{bodiesBytes, bodiesLength, rowsBytes}
 use Rattle.rows.specs.Read.{rowsAt, begins}
@@ -82,14 +81,6 @@ sixty-four-at-most M T e h =
 
 -- ---- the header of a table by the rules fits
 
-group-small : (n : ℕ) → isGroup n ≡ true → n < 256
-group-small n h = go (group-of n h)
-  where
-    go : (n ≡ 3) ⊎ ((n ≡ 5) ⊎ (n ≡ 7)) → n < 256
-    go (inl e) = omega arith
-    go (inr (inl e)) = omega arith
-    go (inr (inr e)) = omega arith
-
 mode-small : (mode view promised : ℕ) → modeByRule mode view promised ≡ true → mode < 256
 unfolding modeByRule
 mode-small mode view promised h = go (either-cases _ _ h)
@@ -102,7 +93,7 @@ header-fits : (F : Form) (M : Model) (T : Table) → Sound F M → tableByRule M
 unfolding isView
 header-fits F M T s h =
     let (k, l) = table-facts M T h in
-    let n = group-small (T .n) (k .group) in
+    let n = group-bounds (T .n) (k .group) .1 in
     let b = k .box in
     let t = k .start in
     let f = s .fits in
@@ -110,7 +101,7 @@ header-fits F M T s h =
     record {
       format = s .format;
       boxnumber = omega arith;
-      n = n;
+      n = omega arith;
       mode = mode-small (T .mode) (T .view) (T .promised) (k .mode);
       rows = omega arith;
       view = ltb-true _ _ (k .view);

@@ -3,15 +3,15 @@ use mathlib.Core.Path.{_≡_, sym, ap, _∙_}
 use mathlib.Core.Bool.{false, not}
 use borrow.Author.Needs.{needs}
 use Rattle.replies.specs.Held.{heardIn}
-use Rattle.replies.proofs.Turns.{left}
+use Rattle.replies.proofs.Turns.{same-said}
 use Rattle.rules.specs.Count.{badReplies}
-use Rattle.replies.proofs.BadReplies.{good, good-read}
-use Rattle.count.proofs.Decisions.{none-said, final-said, fast-said, unequal-said, contradicts-none, contradicts-other, contradicts-slow, contradicts-fast}
+use Rattle.replies.proofs.BadReplies.{good-facts, good-read}
+use Rattle.count.proofs.Decisions.{none-said, final-said, fast-said, contradicts-none, contradicts-other, contradicts-slow, contradicts-fast}
 use Rattle.count.proofs.answer.contradicts.Statement.{statement}
 use Rattle.count.proofs.answer.contradicts.Tie as tie
 
 lawful : (c : tie.Start) → badReplies (c .args .n) (heardIn (c .args .replies)) ≡ false
-lawful c = good _ _ (c .pre .0) .lawful
+lawful c = good-facts _ _ (c .pre .0) .lawful
 
 returns : tie.Need-returns
 returns c = contradicts-none _ _ (lawful (c .before .before)) (none-said _ _ ((c .before .before) .pre .1 .0) (c .if1 .taken))
@@ -29,7 +29,7 @@ same-requires : tie.Need-same-requires
 same-requires c κs = search needs
 
 returns-4 : tie.Need-returns-4
-returns-4 c = let last = final-said _ _ (lawful (c .before .before .before .before .before .before .before)) _ ((c .before .before .before .before .before .before .before) .pre .1 .0) ((c .before .before .before .before .before) .if1 .left) in let enough = fast-said _ _ (lawful (c .before .before .before .before .before .before .before)) _ ((c .before .before .before .before .before .before .before) .pre .1 .1) ((c .before) .if3 .left) in ap not (c .same .ensures ∙ sym (unequal-said _ _ (last .1) (enough .1))) ∙ contradicts-fast _ _ (lawful (c .before .before .before .before .before .before .before)) _ _ (last .0) (sym ((c .before .before .before .before) .other-final .ensures) ∙ (c .before .before .before) .if2 .left) (enough .0)
+returns-4 c = let last = final-said _ _ (lawful (c .before .before .before .before .before .before .before)) _ ((c .before .before .before .before .before .before .before) .pre .1 .0) ((c .before .before .before .before .before) .if1 .left) in let enough = fast-said _ _ (lawful (c .before .before .before .before .before .before .before)) _ ((c .before .before .before .before .before .before .before) .pre .1 .1) ((c .before) .if3 .left) in ap not (c .same .ensures ∙ sym (same-said _ _ (last .1) (enough .1))) ∙ contradicts-fast _ _ (lawful (c .before .before .before .before .before .before .before)) _ _ (last .0) (sym ((c .before .before .before .before) .other-final .ensures) ∙ (c .before .before .before) .if2 .left) (enough .0)
 
 pub contradicts-spec : {M : Type 1} → statement M
 contradicts-spec =

@@ -4,7 +4,6 @@ use mathlib.Core.Bool.{false}
 use borrow.Author.Needs.{needs}
 use Rattle.replies.specs.Held.{repliesIn}
 use Rattle.replies.specs.Bad.{areBad}
-use Rattle.replies.proofs.Turns.{left}
 use Rattle.count.specs.Answers.{answerAs}
 use Rattle.replies.proofs.BadReplies.{good-read}
 use Rattle.count.proofs.Counts.{bad-refused, contradicted, clear}

@@ -1,5 +1,4 @@
 use native.Mathlib.Omega.{arith}
-use Rattle.replies.proofs.Turns.{left}
 use Rattle.replies.proofs.BadReplies.{good-read, length-heard}
 use Rattle.count.proofs.Decisions.{decided-fast, decided-wait, decided-final, decided-slow}
 use Rattle.count.proofs.answer.decide.Statement.{statement}

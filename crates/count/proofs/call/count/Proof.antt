@@ -7,14 +7,18 @@ use denote.Ref.{now}
 use borrow.Author.Needs.{needs}
 use Rattle.count.specs.Answers.{answerAs}
 use Rattle.count.proofs.Counts.{count-held}
-use Rattle.count.proofs.HeardBytes.{count-whole, count-broken}
+use Rattle.count.proofs.HeardBytes.{count-whole, count-broken, count-long}
 use Rattle.count.proofs.call.count.Statement.{statement}
 use Rattle.count.proofs.call.count.Tie as tie
 
+mul-if1 : tie.Need-mul-if1
+mul-if1 c = omega arith
+
 returns : tie.Need-returns
-returns c =
-    let a = c .before .before .args in
-    ap answerAs (sym (count-broken (a .n) (now (a .bytes)) (omega arith)))
+returns c = let a = c .before .before .args in ap answerAs (sym (count-long (a .n) (now (a .bytes)) (omega arith)))
+
+returns-2 : tie.Need-returns-2
+returns-2 c = let a = c .before .before .before .args in ap answerAs (sym (count-broken (a .n) (now (a .bytes)) (omega arith)))
 
 gather-requires : tie.Need-gather-requires
 gather-requires c κs = search needs
@@ -22,11 +26,11 @@ gather-requires c κs = search needs
 count-requires : tie.Need-count-requires
 count-requires c κs = search needs
 
-returns-2 : tie.Need-returns-2
-returns-2 c =
-    let a = c .before .before .before .before .args in
+returns-3 : tie.Need-returns-3
+returns-3 c =
+    let a = c .before .before .before .before .before .args in
     let whole : length (now (a .bytes)) ≡ 15 * (length (now (a .bytes)) / 15) = omega arith in
     rw (c .count .ensures, c .before .gather .ensures, count-held (a .n), count-whole (a .n) (now (a .bytes)) whole)
 
 pub count-spec : {M : Type 1} → statement M
-count-spec = tie.close (tie.spec returns gather-requires count-requires returns-2)
+count-spec = tie.close (tie.spec mul-if1 returns returns-2 gather-requires count-requires returns-3)

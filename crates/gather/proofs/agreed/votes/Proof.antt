@@ -11,9 +11,10 @@ use borrow.Author.Needs.{needs}
 use Rattle.rules.specs.Tests.{both, bit, count}
 use Rattle.rules.specs.Tables.{valley}
 use Rattle.rules.specs.Merge.{rowsOf}
+use Rattle.rules.proofs.Votes.{bit-most, all-counted}
 use Rattle.gather.specs.Held.{usedOf}
 use Rattle.gather.specs.Agreed.{holdsCodes}
-use Rattle.gather.proofs.Gathered.{lawful-part, votes-on, votes-end, added, bit-most}
+use Rattle.gather.proofs.Gathered.{lawful-part, votes-on, votes-end, added}
 use Rattle.run.specs.Runs.{tablesOf, Images}
 use Rattle.run.proofs.Walks.{room, goes-on, goes-far}
 use Rattle.wire.proofs.Numbers.{all-of}
@@ -31,9 +32,6 @@ counted c = ⊎-elim (λ w. w .1 ∙ rw (sym ((c .before) .has-codes .ensures) �
 
 few : (n m at far : ℕ) (b : Bool) → m ≡ n + bit b → n ≤ at → 24 ≤ far → m ≤ at + far
 few n m at far b e k f = let l = bit-most b in omega arith
-
-all-counted : {n c t : ℕ} → c ≡ 0 → n + c ≡ t → n ≡ t
-all-counted e f = omega arith
 
 loop-holds : tie.Need-loop-holds Inv-loop μ-loop
 loop-holds c = (omega arith, (c .before) .pre .0, omega arith, omega arith)

@@ -5,7 +5,7 @@ use native.Mathlib.Omega.{arith}
 use borrow.Author.Needs.{needs}
 use Rattle.replies.specs.Held.{repliesIn}
 use Rattle.replies.specs.Bad.{anyBad}
-use Rattle.replies.proofs.Turns.{left, starts}
+use Rattle.replies.proofs.Turns.{left, left-all}
 use Rattle.replies.proofs.BadReplies.{bad-wrong, bad-twice, bad-on, bad-over}
 use Rattle.replies.proofs.bad.any_bad.Statement.{statement}
 use Rattle.replies.proofs.bad.any_bad.Tie as tie
@@ -17,7 +17,7 @@ abbrev μ-loop : tie.MeasureT-loop
 μ-loop n view replies i₀ i = replies .number - i
 
 loop-holds : tie.Need-loop-holds Inv-loop μ-loop
-loop-holds c = (omega arith, ap (anyBad (c .args .n) (c .args .view)) (starts (c .args .t1)))
+loop-holds c = (omega arith, ap (anyBad (c .args .n) (c .args .view)) (left-all (c .args .t1)))
 
 mul-reply : tie.Need-mul-reply Inv-loop μ-loop
 mul-reply c = let l = (c .before .before) .pre in let t = c .loop-test .taken in omega arith

@@ -1,14 +1,13 @@
 use mathlib.Core.Path.{sym, _∙_}
 use native.Mathlib.Omega.{arith}
 use borrow.Author.Needs.{needs}
-use Rattle.replies.proofs.Turns.{left}
-use Rattle.replies.proofs.BadReplies.{many, bad-exactly, bad-group, first-has}
+use Rattle.replies.proofs.BadReplies.{too-many, bad-exactly, bad-group, first-has}
 use Rattle.replies.proofs.HeldAll.{length-replies}
 use Rattle.replies.proofs.bad.are_bad.Statement.{statement}
 use Rattle.replies.proofs.bad.are_bad.Tie as tie
 
 returns : tie.Need-returns
-returns c = let l = length-replies ((c .before) .args .t2) 0 ((c .before) .args .t2 .number) in many _ _ (rw l (c .if1 .taken))
+returns c = let l = length-replies ((c .before) .args .t2) 0 ((c .before) .args .t2 .number) in too-many _ _ (rw l (c .if1 .taken))
 
 group-valid-requires : tie.Need-group-valid-requires
 group-valid-requires c κs = search needs

@@ -11,7 +11,8 @@ use Rattle.rules.specs.Count.{agreeing}
 use Rattle.replies.specs.Heard.{allHeard}
 use Rattle.replies.specs.Held.{replyIn, heardIn}
 use Rattle.replies.specs.Results.{resultOf}
-use Rattle.replies.proofs.Turns.{left, starts, all-counted, LeftRead, read-on, compared, agreeing-on, agreeing-over}
+use Rattle.rules.proofs.Votes.{bit-most, all-counted}
+use Rattle.replies.proofs.Turns.{left, left-all, LeftRead, read-on, compared, agreeing-on, agreeing-over}
 use Rattle.rules.specs.Count as rules
 use Rattle.replies.proofs.said.agreeing.Statement.{statement}
 use Rattle.replies.proofs.said.agreeing.Tie as tie
@@ -22,17 +23,23 @@ Inv-loop said replies agreeing₀ i₀ agreeing i = (i ≤ replies .number) × L
 abbrev μ-loop : tie.MeasureT-loop
 μ-loop said replies agreeing₀ i₀ agreeing i = replies .number - i
 
-at-most : (b : Bool) → bit b ≤ 1
-at-most true = omega arith
-at-most false = omega arith
+-- whether the reply at hand agrees
+abbrev agrees : tie.Joined1 Inv-loop μ-loop → Bool
+agrees c =
+    let l = c .before .before .before .before .before in
+    let a = l .before .args in
+    both (eqb (a .said .code) (replyIn (a .t1) (l .loop .i) .result)) (eqb (a .said .retry) (replyIn (a .t1) (l .loop .i) .retry))
 
-counted : (c : tie.Joined1 Inv-loop μ-loop) → c .if1 .agreeing ≡ (c .before .before .before .before .before) .loop .agreeing + bit (both (eqb ((c .before .before .before .before .before .before) .args .said .code) (replyIn ((c .before .before .before .before .before .before) .args .t1) ((c .before .before .before .before .before) .loop .i) .result)) (eqb ((c .before .before .before .before .before .before) .args .said .retry) (replyIn ((c .before .before .before .before .before .before) .args .t1) ((c .before .before .before .before .before) .loop .i) .retry)))
+counted : (c : tie.Joined1 Inv-loop μ-loop) → c .if1 .agreeing ≡ c .before .before .before .before .before .loop .agreeing + bit (agrees c)
 counted c =
-    let same = compared ((c .before .before .before .before .before .before) .args .said) ((c .before .before) .said-by .result) (replyIn ((c .before .before .before .before .before .before) .args .t1) ((c .before .before .before .before .before) .loop .i)) ((c .before) .same .result) ((c .before) .same .ensures) ((c .before .before) .said-by .ensures) in
+    let l = c .before .before .before .before .before in
+    let a = l .before .args in
+    let b = c .before .before .said-by in
+    let same = compared (a .said) (b .result) (replyIn (a .t1) (l .loop .i)) (c .before .same .result) (c .before .same .ensures) (b .ensures) in
     rw (← same) (⊎-elim (λ w. w .1 ∙ rw (w .0 .taken) refl) (λ w. w .1 ∙ rw (w .0 .left) (omega arith)) (c .if1 .came))
 
 loop-holds : tie.Need-loop-holds Inv-loop μ-loop
-loop-holds c = (omega arith, rw (starts (c .args .t1)) (c .pre .0 .1), rw (starts (c .args .t1)) (omega arith), omega arith)
+loop-holds c = (omega arith, rw (left-all (c .args .t1)) (c .pre .0 .1), rw (left-all (c .args .t1)) (omega arith), omega arith)
 
 mul-reply : tie.Need-mul-reply Inv-loop μ-loop
 mul-reply c = let l = (c .before .before) .pre .0 .0 in let t = c .loop-test .taken in omega arith
@@ -56,7 +63,15 @@ loop-less : tie.Need-loop-less Inv-loop μ-loop
 loop-less c = let t = (c .before .before .before .before) .loop-test .taken in omega arith
 
 loop-again : tie.Need-loop-again Inv-loop μ-loop
-loop-again c = let e = counted c in let l = (c .before .before .before .before) .loop-test .taken in let more = agreeing-on _ _ _ ((c .before .before .before .before .before .before) .pre .1) l ((c .before .before .before .before .before) .loop .inv .1) in let few = at-most (both (eqb ((c .before .before .before .before .before .before) .args .said .code) (replyIn ((c .before .before .before .before .before .before) .args .t1) ((c .before .before .before .before .before) .loop .i) .result)) (eqb ((c .before .before .before .before .before .before) .args .said .retry) (replyIn ((c .before .before .before .before .before .before) .args .t1) ((c .before .before .before .before .before) .loop .i) .retry))) in let was = (c .before .before .before .before .before) .loop .inv .2 in let small = (c .before .before .before .before .before) .loop .inv .3 in (omega arith, read-on _ _ l ((c .before .before .before .before .before) .loop .inv .1) .1, omega arith, omega arith)
+loop-again c =
+    let l = c .before .before .before .before .before in
+    let t = c .before .before .before .before .loop-test .taken in
+    let more = agreeing-on _ _ _ (l .before .pre .1) t (l .loop .inv .1) in
+    let e = counted c in
+    let few = bit-most (agrees c) in
+    let was = l .loop .inv .2 in
+    let small = l .loop .inv .3 in
+    (omega arith, read-on _ _ t (l .loop .inv .1) .1, omega arith, omega arith)
 
 returns : tie.Need-returns Inv-loop μ-loop
 returns c = all-counted (agreeing-over _ _ (resultOf ((c .before .before) .args .said)) (c .loop-test .left)) ((c .before) .loop .inv .2)

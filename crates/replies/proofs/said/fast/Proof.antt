@@ -8,7 +8,7 @@ use Rattle.rules.specs.Count.{agreeing, fastOf, isFast}
 use Rattle.replies.specs.Heard.{resultRead}
 use Rattle.replies.specs.Held.{replyIn, heardIn}
 use Rattle.replies.specs.Results.{saidBy, saidAs}
-use Rattle.replies.proofs.Turns.{left, starts, LeftRead, read-on, by-code, fast-yes, fast-no, chosen, chosen-is, chosen-on, chosen-over}
+use Rattle.replies.proofs.Turns.{left, left-all, LeftRead, read-on, by-code, fast-yes, fast-no, chosen, chosen-is, chosen-on, chosen-over}
 use Rattle.message.specs.Messages.{resultByCode}
 use Rattle.replies.specs.declared.held.Reply.{Reply}
 use Rattle.replies.specs.declared.said.Said.{Said}
@@ -29,7 +29,7 @@ fast-requires c κs = c .pre .1
 
 loop-holds : tie.Need-loop-holds Inv-loop μ-loop
 unfolding fastOf
-loop-holds c = (omega arith, rw (starts ((c .before) .args .t1)) ((c .before) .pre .0 .1), rw (starts ((c .before) .args .t1)) refl)
+loop-holds c = (omega arith, rw (left-all ((c .before) .args .t1)) ((c .before) .pre .0 .1), rw (left-all ((c .before) .args .t1)) refl)
 
 mul-reply : tie.Need-mul-reply Inv-loop μ-loop
 mul-reply c = let l = (c .before .before .before) .pre .0 .0 in let t = c .loop-test .taken in omega arith

@@ -7,7 +7,7 @@ use borrow.Author.Tests.{eq-eqb, ne-eqb}
 use Rattle.rules.specs.Count.{finalHeard}
 use Rattle.replies.specs.Held.{heardIn}
 use Rattle.replies.specs.Results.{saidAs}
-use Rattle.replies.proofs.Turns.{left, starts, LeftRead, read-on, chosen, chosen-is, chosen-on, chosen-over}
+use Rattle.replies.proofs.Turns.{left, left-all, LeftRead, read-on, chosen, chosen-is, chosen-on, chosen-over}
 use Rattle.replies.proofs.said.first_final.Statement.{statement}
 use Rattle.replies.proofs.said.first_final.Tie as tie
 
@@ -19,7 +19,7 @@ abbrev μ-loop : tie.MeasureT-loop
 
 loop-holds : tie.Need-loop-holds Inv-loop μ-loop
 unfolding finalHeard
-loop-holds c = (omega arith, rw (starts (c .args .t1)) (c .pre .1), rw (starts (c .args .t1)) refl)
+loop-holds c = (omega arith, rw (left-all (c .args .t1)) (c .pre .1), rw (left-all (c .args .t1)) refl)
 
 mul-reply : tie.Need-mul-reply Inv-loop μ-loop
 mul-reply c = let l = (c .before .before) .pre .0 in let t = c .loop-test .taken in omega arith

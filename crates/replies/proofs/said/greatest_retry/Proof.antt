@@ -6,7 +6,7 @@ use native.Mathlib.Omega.{arith}
 use Rattle.rules.specs.Count.{greatestRetry}
 use Rattle.replies.specs.Heard.{allHeard}
 use Rattle.replies.specs.Held.{replyIn, heardIn}
-use Rattle.replies.proofs.Turns.{left, starts, all-seen, LeftRead, read-on, greatest-on, greatest-over}
+use Rattle.replies.proofs.Turns.{left, left-all, all-seen, LeftRead, read-on, greatest-on, greatest-over}
 use Rattle.replies.proofs.said.greatest_retry.Statement.{statement}
 use Rattle.replies.proofs.said.greatest_retry.Tie as tie
 
@@ -20,7 +20,7 @@ greater : (c : tie.Joined1 Inv-loop μ-loop) → c .if1 .greatest ≡ max ((c .b
 greater c = ⊎-elim (λ w. let e = w .1 in let t = w .0 .taken in omega arith) (λ w. let e = w .1 in let t = w .0 .left in omega arith) (c .if1 .came)
 
 loop-holds : tie.Need-loop-holds Inv-loop μ-loop
-loop-holds c = (omega arith, rw (starts (c .args .t1)) (c .pre .1), rw (starts (c .args .t1)) (omega arith))
+loop-holds c = (omega arith, rw (left-all (c .args .t1)) (c .pre .1), rw (left-all (c .args .t1)) (omega arith))
 
 mul-reply : tie.Need-mul-reply Inv-loop μ-loop
 mul-reply c = let l = (c .before .before) .pre .0 in let t = c .loop-test .taken in omega arith

@@ -3,7 +3,7 @@ use mathlib.Core.Bool.{not}
 use borrow.Author.Needs.{needs}
 use borrow.Author.Tests.{eq-eqb, ne-eqb}
 use Rattle.rules.specs.Tests.{both}
-use Rattle.replies.proofs.Turns.{left, compared}
+use Rattle.replies.proofs.Turns.{compared}
 use Rattle.replies.proofs.said.is_other_final.Statement.{statement}
 use Rattle.replies.proofs.said.is_other_final.Tie as tie
 

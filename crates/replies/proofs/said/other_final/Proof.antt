@@ -9,7 +9,7 @@ use Rattle.rules.specs.Tests.{both, any}
 use Rattle.replies.specs.Heard.{resultRead, heard}
 use Rattle.replies.specs.Held.{repliesIn, heardIn}
 use Rattle.replies.specs.Results.{resultOf}
-use Rattle.replies.proofs.Turns.{left, starts, LeftRead, read-on, other-codes, any-is, any-on, any-over, any-heard}
+use Rattle.replies.proofs.Turns.{left, left-all, LeftRead, read-on, other-codes, any-is, any-on, any-over, any-heard}
 use Rattle.rules.specs.Tables.{sameResult}
 use Rattle.message.specs.Messages.{resultByCode}
 use Rattle.replies.specs.declared.held.Reply.{Reply}
@@ -31,7 +31,7 @@ tested : (a : Said) (r : Reply) {b : Bool} → resultByCode (a .code) (a .retry)
 tested a r k h t = other-codes a r k h ∙ t
 
 loop-holds : tie.Need-loop-holds Inv-loop μ-loop
-loop-holds c = (omega arith, rw (starts (c .args .t1)) (c .pre .0 .1), rw (starts (c .args .t1)) (sym (any-heard _ (repliesIn (c .args .t1)))))
+loop-holds c = (omega arith, rw (left-all (c .args .t1)) (c .pre .0 .1), rw (left-all (c .args .t1)) (sym (any-heard _ (repliesIn (c .args .t1)))))
 
 mul-reply : tie.Need-mul-reply Inv-loop μ-loop
 mul-reply c = let l = (c .before .before) .pre .0 .0 in let t = c .loop-test .taken in omega arith
