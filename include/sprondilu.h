@@ -160,7 +160,7 @@ uint8_t sprondilu_merge(const uint8_t *run, size_t run_len, uint32_t view, uint8
  *
  * A reply of sprondilu_answer to message 1 or 2 whose number is SPRONDILU_DONE has them in these of its 24 bytes, the first
  * being byte 0: the box in byte 2; the view in bytes 4 to 7; the retry stamp in bytes 16 to 23; the result in byte 3, the
- * state byte, which is 1 to 4 for SPRONDILU_OK to SPRONDILU_RETRY, tentative, and 5 to 8 for the same, final.
+ * state byte: 1 to 4 are SPRONDILU_OK to SPRONDILU_RETRY, tentative; 5 to 8 are the result plus 4, final.
  *
  * The answer has the number in bits 0 to 7, the first of these that applies, and SPRONDILU_DONE if none does:
  *   SPRONDILU_BAD_MESSAGE    n is not 3, 5 or 7; or replies_len is no multiple of SPRONDILU_COUNTED_BYTES; or in a reply
@@ -181,6 +181,14 @@ uint8_t sprondilu_merge(const uint8_t *run, size_t run_len, uint32_t view, uint8
  * any is that; else SPRONDILU_OK if f+1 are that; else SPRONDILU_RETRY with the greatest stamp if any is that; else
  * SPRONDILU_ABSTAIN. All other bits are 0. The macros below take an answer apart: its number is to be looked at first, then
  * its kind, and only then its result. No byte changes.
+ *
+ * What may be done with an answer, by rules 2, 3, 4 and 7 of 01:
+ *   SPRONDILU_FAST           the result may be declared final
+ *   SPRONDILU_SLOW           the result may be sent in message 2, for the view of the replies; it may be declared final
+ *                            once f+1 different boxes have confirmed it in that view, with SPRONDILU_DONE
+ *   SPRONDILU_WAIT           nothing yet: there are fewer than f+1 replies, and nothing is decided
+ * A result that was sent or declared stays the only one for its stamp in that view, whatever more replies would come to;
+ * and once an outcome was proposed for the stamp, nothing more is sent in message 2 or declared.
  */
 uint64_t sprondilu_count(uint8_t n, const uint8_t *replies, size_t replies_len);
 

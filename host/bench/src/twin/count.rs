@@ -80,13 +80,12 @@ pub fn count(n: u8, replies: &[u8]) -> u64 {
         Some(counts) => counts,
         None => return BAD_MESSAGE,
     };
-    // More replies than boxes have a box twice or one outside.
-    let heard = replies.len() / RECORD_LENGTH;
-    if replies.len() % RECORD_LENGTH != 0 || heard > usize::from(n) {
+    // No group has more than seven boxes: of more replies one is outside or there twice, and none has to be read.
+    if replies.len() > MOST_REPLIES * RECORD_LENGTH || replies.len() % RECORD_LENGTH != 0 {
         return BAD_MESSAGE;
     }
     let mut records = [Heard::default(); MOST_REPLIES];
-    let heard = &mut records[..heard];
+    let heard = &mut records[..replies.len() / RECORD_LENGTH];
     for (record, bytes) in heard.iter_mut().zip(replies.chunks_exact(RECORD_LENGTH)) {
         *record = Heard::read(bytes);
     }
@@ -152,8 +151,26 @@ fn slow(heard: &[Heard], quorum: usize) -> u64 {
 
 #[cfg(test)]
 mod tests {
-    use super::count;
-    use samples::{replies, Dice};
+    use super::{count, BAD_MESSAGE};
+    use samples::{replies, Dice, Record};
+
+    /// Of boxes that rise, or of the group's over and over: up to seven replies are found bad by the walk, more by their
+    /// length.
+    #[test]
+    fn more_replies_than_boxes_are_bad() {
+        for n in [3, 5, 7] {
+            for (length, boxes) in (n + 1..=15).flat_map(|length| [(length, length), (length, n)]) {
+                let record = |place: u8| Record {
+                    box_number: place % boxes,
+                    view: 9,
+                    result: (1, 0),
+                    is_final: 0,
+                };
+                let records: Vec<Record> = (0..length).map(record).collect();
+                assert_eq!(count(n, &replies::laid(&records)), BAD_MESSAGE);
+            }
+        }
+    }
 
     #[test]
     fn the_twin_counts_as_the_second_program() {

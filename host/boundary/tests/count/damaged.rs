@@ -2,7 +2,7 @@
 
 use crate::lent::Lent;
 use samples::replies::{self, laid, RECORD_LENGTH};
-use samples::{Dice, GREATEST_STAMP};
+use samples::{Dice, Record, GREATEST_STAMP};
 
 /// Where the fields of a record stand, and how wide they are: box, view, result, retry stamp, final byte.
 const FIELDS: [(usize, usize); 5] = [(0, 1), (1, 4), (5, 1), (6, 8), (14, 1)];
@@ -132,7 +132,7 @@ pub fn random_bytes(lent: &mut Lent) {
 }
 
 /// A record of likely numbers.
-fn likely(dice: &mut Dice) -> Vec<u8> {
+fn likely(dice: &mut Dice) -> [u8; RECORD_LENGTH] {
     let view = dice.one_of(&[0, 0, 0, 0, 0, 0, 1]);
     let retry = dice.one_of(&[0, 0, 1, 2]);
     let codes: &[u8] = if retry == 0 {
@@ -140,11 +140,11 @@ fn likely(dice: &mut Dice) -> Vec<u8> {
     } else {
         &[4, 4, 4, 4, 4, 4, 4, 4, 5]
     };
-    let codes = [dice.below(8) as u8, dice.one_of(codes)];
-    let last = dice.one_of(&[0, 0, 0, 0, 0, 0, 1, 2]);
-    let fields = [
-        &[codes[0], 0, 0, 0, view, codes[1]][..],
-        &[0, 0, 0, 0, 0, 0, 0, retry, last],
-    ];
-    fields.concat()
+    let record = Record {
+        box_number: dice.below(8) as u8,
+        view,
+        result: (dice.one_of(codes), retry),
+        is_final: dice.one_of(&[0, 0, 0, 0, 0, 0, 1, 2]),
+    };
+    record.bytes()
 }

@@ -1,16 +1,19 @@
 //! Every list of up to four replies over small alphabets, with n from 0 to 9.
 //!
 //! What decides about a list are its boxes, views, results and final bytes. One alphabet of all that matters in them would
-//! make thousands of millions of lists, so there are four, in each of which some go through all their combinations:
+//! make thousands of millions of lists, so there are five, in each of which some go through all their combinations:
 //!
+//! - a few of each together: four boxes, two views, OK, RETRY with two stamps, and a final OK;
 //! - boxes and views, with a tentative result and a final one: which box is outside or twice and which view is another,
 //!   whatever place it has;
 //! - boxes and results, in one view: each answer by the results alone, whichever boxes gave them;
 //! - results and final bytes, good and bad, of different boxes in one view: each answer that four replies lead to;
-//! - all of them at once, in lists of up to three.
+//! - all of them at once, but for ABSTAIN and for what breaks a rule in a result.
 //!
-//! The first and the third are for every n, the others for the groups, as nothing else is looked at where n is bad; the last
-//! is for every n in lists of up to two. Lists of more replies are in `in_order` and in the random parts.
+//! For 3, 5 and 7 the last is in lists of up to three, the others are in lists of up to four. Another n is bad whatever the
+//! replies are, so for these only the second and the fourth are in lists of up to four, the first is in lists of up to
+//! three, the last in lists of up to two, and the third is left out. Lists of more replies are in `in_order` and in the
+//! random parts.
 
 use crate::lent::Lent;
 use samples::{Record, GREATEST_STAMP};
@@ -91,6 +94,25 @@ fn ask_all<T: Copy>(
     }
     let asked = lent.shares.calls() - before;
     assert_eq!(asked, lists(letters.len(), longest));
+}
+
+/// The first four boxes: all of them are of a group of 5 or 7, and the last is outside of 3.
+fn ask_few_of_each(lent: &mut Lent, n: u8, longest: u32) {
+    let results = [(OK, 0), (RETRY, 0), (RETRY_LATER, 0), (OK, 1)];
+    let letters = letters(&[0, 1, 2, 3], &[VIEW, VIEW + 1], &results);
+    ask_all(lent, n, &letters, longest, <[Record]>::to_vec);
+}
+
+/// For one group, so that each may be asked for by a thread of its own.
+pub fn few_of_each<const N: u8>(lent: &mut Lent) {
+    ask_few_of_each(lent, N, 4);
+    assert_eq!(lent.shares.calls(), 1_082_401);
+}
+
+pub fn few_of_each_for_a_bad_n(lent: &mut Lent) {
+    let bad = [0, 1, 2, 4, 6, 8, 9];
+    bad.iter().for_each(|n| ask_few_of_each(lent, *n, 3));
+    assert_eq!(lent.shares.calls(), 7 * 33_825);
 }
 
 pub fn boxes_and_views(lent: &mut Lent) {

@@ -3,8 +3,12 @@
 use crate::lent::Lent;
 use samples::{message, transactions, Dice, Record, Row, TABLE_BYTES};
 
+/// So often at least the replies of boxes are fast, are slow and are to be waited for.
+const LEAST_OF_A_KIND: u64 = 500;
+
 /// Groups of boxes that hear of the same transactions, not all and not in the same order, and whose replies are counted.
 pub fn groups(lent: &mut Lent) {
+    let mut met = [0; 3];
     for _ in 0..400 {
         let n = lent.dice.one_of(&[3, 5, 7]);
         let mut boxes: Vec<Vec<u8>> = (0..n).map(|box_number| fresh(n, box_number)).collect();
@@ -13,9 +17,21 @@ pub fn groups(lent: &mut Lent) {
             let row = &transactions[lent.dice.index(transactions.len())];
             let records = heard(&mut lent.dice, &mut boxes, row);
             let answer = lent.ask_for(n, &records);
-            follow(&mut lent.dice, &mut boxes, row, answer);
+            if answer & 0xff == 0 {
+                met[kind(answer)] += 1;
+                follow(&mut lent.dice, &mut boxes, row, answer);
+            }
         }
     }
+    let enough = met.iter().all(|count| *count >= LEAST_OF_A_KIND);
+    assert!(enough, "wait, fast and slow: {:?}", met);
+}
+
+const WAIT: usize = 0;
+
+/// The kind of an answer numbered 0: 0 wait, 1 fast, 2 slow.
+fn kind(answer: u64) -> usize {
+    (answer >> 8 & 3) as usize
 }
 
 fn fresh(n: u8, box_number: u8) -> Vec<u8> {
@@ -60,13 +76,13 @@ fn answered(table: &mut [u8], message: &[u8]) -> Option<Record> {
     counted(&reply)
 }
 
-/// Sends message 2 with the answer's result to some boxes, and often the outcome too, so that later checks have something
-/// to find. One in twenty gets another result.
+/// Sends message 2 with the result of an answer numbered 0 to some boxes, and often the outcome too, so that later checks
+/// have something to find. One in twenty gets another result.
 fn follow(dice: &mut Dice, boxes: &mut [Vec<u8>], row: &Row, answer: u64) {
-    let (kind, result) = (answer >> 8 & 3, ((answer >> 10 & 7) as u8, answer >> 16));
-    if answer & 0xff != 0 || kind == 0 {
+    if kind(answer) == WAIT {
         return;
     }
+    let result = ((answer >> 10 & 7) as u8, answer >> 16);
     let verdict = if result.0 == 1 { 1 } else { 2 };
     let (decided, done) = (dice.in_a_hundred(70), dice.in_a_hundred(50));
     for table in boxes {

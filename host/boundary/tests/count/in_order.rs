@@ -1,5 +1,7 @@
 //! Replies of boxes 0, 1, 2 and so on in one view, with every list of results, up to as many as the largest group has boxes:
-//! so every fast count is reached and just missed, and every contradiction and every slow answer of a whole group is met.
+//! so the fast count of each result is reached and just missed. Up to six replies go through all of `ALL`, so that every
+//! contradiction and every slow answer of whole groups of 3 and 5 is met. Seven go through `FEWER`, in which only OK and one
+//! RETRY are final: a whole group of 7 with another final is in the random parts alone.
 
 use crate::every::{every_list, lists, of_boxes_in_order};
 use crate::every::{ABORT, ABSTAIN, OK, RETRY, RETRY_LATER};

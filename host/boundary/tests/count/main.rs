@@ -16,12 +16,16 @@ use shares::Shares;
 use std::io::{self, Write};
 
 /// So many calls at least, of all parts together.
-const LEAST_CALLS: u64 = 8_000_000;
+const LEAST_CALLS: u64 = 12_000_000;
 /// So often at least each answer is given, for each of its reasons and in each group.
 const LEAST_OF_A_KIND: u64 = 100;
 
-/// The parts, each with dice of its own: seven in which every list is asked for, and random ones.
-const PARTS: [fn(&mut Lent); 18] = [
+/// The parts, each with dice of its own: eleven in which every list is asked for, and random ones.
+const PARTS: [fn(&mut Lent); 22] = [
+    every::few_of_each::<3>,
+    every::few_of_each::<5>,
+    every::few_of_each::<7>,
+    every::few_of_each_for_a_bad_n,
     every::boxes_and_views,
     every::boxes_and_results,
     every::results,
