@@ -27,9 +27,9 @@ pub mod tally;
 pub mod transactions;
 
 pub use dice::Dice;
-pub use parts::side_by_side;
+pub use parts::{side_by_side, together};
 pub use replies::Record;
-pub use table::{Access, Row, Table};
+pub use table::{row_of_the_paper, Access, Row, Table};
 pub use tally::Tally;
 
 /// "A stamp is 1 to 2^48-1".

@@ -20,3 +20,19 @@ where
             .collect()
     })
 }
+
+/// What all parts give together.
+pub fn together<P, S>(
+    parts: &[P],
+    asked: impl Fn(u64, P) -> S + Sync,
+    add: impl Fn(&mut S, &S),
+) -> S
+where
+    P: Copy + Send,
+    S: Default + Send,
+{
+    let mut all = S::default();
+    let given = side_by_side(parts, asked);
+    given.iter().for_each(|part| add(&mut all, part));
+    all
+}

@@ -97,18 +97,30 @@ impl Table {
     }
 }
 
+/// The row of "message 1 with stamp 65,537 and one write, register 5, value 7", with this prepare byte and no outcome.
+pub fn row_of_the_paper(prepare: u8) -> Row {
+    let write = Access {
+        register: 5,
+        number: 7,
+    };
+    Row {
+        stamp: 65_537,
+        retry: 0,
+        reads: Vec::new(),
+        writes: vec![write],
+        prepare,
+        outcome: 0,
+    }
+}
+
 #[cfg(test)]
 mod tests {
-    use super::{Access, Row, Table};
+    use super::{row_of_the_paper, Table};
 
     /// "After message 1 with stamp 65,537 and one write, register 5, value 7: rows 1, length 57; one row with offset 48,
     /// counts 0 and 1, prepare 1, outcome 0; body 05 00 00 00 00 00 00 00 07."
     #[test]
     fn the_worked_table_has_the_image_of_the_paper() {
-        let write = Access {
-            register: 5,
-            number: 7,
-        };
         let table = Table {
             box_number: 0,
             n: 3,
@@ -116,14 +128,7 @@ mod tests {
             view: 0,
             promised: 0,
             start_rows: 0,
-            rows: vec![Row {
-                stamp: 65_537,
-                retry: 0,
-                reads: Vec::new(),
-                writes: vec![write],
-                prepare: 1,
-                outcome: 0,
-            }],
+            rows: vec![row_of_the_paper(1)],
         };
         let header = [&[1, 0, 3, 0, 0, 0, 0, 1][..], &[0; 12], &[0, 0, 0, 57]];
         let row = [

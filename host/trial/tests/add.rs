@@ -4,7 +4,7 @@ mod common;
 
 use common::{lengths, read, some_rows, tables, Change, Lent};
 use samples::table::{HEADER_LENGTH, ROW_LENGTH};
-use samples::{random, Access, Dice, Row, Table, Tally, MOST_ROWS, TABLE_BYTES};
+use samples::{random, row_of_the_paper, Access, Dice, Row, Table, Tally, MOST_ROWS, TABLE_BYTES};
 
 /// The table without one of its rows, and that row: so a row that is added can have any stamp that a table has.
 fn taken_out(table: &Table, index: usize) -> (Table, Row) {
@@ -151,18 +151,7 @@ fn the_changes_know_no_row_limit_of_the_paper() {
 #[test]
 fn the_row_of_the_paper_makes_the_table_of_the_paper() {
     let mut dice = Dice::seeded(4);
-    let write = Access {
-        register: 5,
-        number: 7,
-    };
-    let row = Row {
-        stamp: 65_537,
-        retry: 0,
-        reads: Vec::new(),
-        writes: vec![write],
-        prepare: 1,
-        outcome: 0,
-    };
+    let row = row_of_the_paper(1);
     let fresh = reference::Table::fresh(3, 0).expect("box 0 of 3");
     let change = Change::adding(&mut dice, &fresh, &row);
     let header = [&[1, 0, 3, 0, 0, 0, 0, 1][..], &[0; 12], &[0, 0, 0, 57]];

@@ -4,7 +4,7 @@
 use crate::every::{ABORT, ABSTAIN, OK};
 use crate::heard::counted;
 use samples::replies::laid;
-use samples::{message, Access, Record, Row, GREATEST_STAMP, TABLE_BYTES};
+use samples::{message, row_of_the_paper, Record, GREATEST_STAMP, TABLE_BYTES};
 
 const WAIT: u64 = 0;
 const FAST_OK: u64 = 0x500;
@@ -181,18 +181,7 @@ fn the_fields_are_read_at_their_places() {
 /// Boxes of 3 that get the paper's message 1: two replies are slow OK, three are fast OK. Then box 0 has it made final.
 #[test]
 fn replies_of_boxes_are_counted() {
-    let write = Access {
-        register: 5,
-        number: 7,
-    };
-    let row = Row {
-        stamp: 65_537,
-        retry: 0,
-        reads: Vec::new(),
-        writes: vec![write],
-        prepare: 0,
-        outcome: 0,
-    };
+    let row = row_of_the_paper(0);
     let mut tables = vec![vec![0; TABLE_BYTES]; 3];
     let mut records = Vec::new();
     for (box_number, table) in (0..).zip(&mut tables) {

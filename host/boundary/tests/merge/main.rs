@@ -57,11 +57,7 @@ fn all_parts() -> Shares {
         part(&mut lent);
         lent.shares
     };
-    let mut all = Shares::default();
-    samples::side_by_side(&PARTS, asked)
-        .iter()
-        .for_each(|shares| all.add(shares));
-    all
+    samples::together(&PARTS, asked, Shares::add)
 }
 
 #[test]
