@@ -3,5 +3,6 @@
 // Where rows begin is an argument everywhere: what stands before them is for `table`. What a row may hold is said by `rules`.
 pub mod body;
 pub mod lookup;
+pub mod reader;
 pub mod row;
 pub mod walk;

@@ -1,5 +1,6 @@
 // The rows of an image: each read and written by its index, with its body where it lies, and the tests of its fields, one small function each.
 use crate::body;
+use crate::reader;
 ghost use mathlib.Core.Path.{_≡_};
 ghost use Prim.Native.Nat.{_+_, _*_, _≤_, _<_};
 ghost use lib.Dec.{ltb, leb};
@@ -41,8 +42,8 @@ impl RowFields {
     }
 }
 
-// The row at an index of an image whose rows begin there. Whoever goes over rows takes them from here.
-pub fn row_at(image: &[u8], begin: usize, index: usize) -> RowFields
+// The fields of the row at an index of an image whose rows begin there: the reader's work, in a plain slice.
+pub fn fields_at(image: &[u8], begin: usize, index: usize) -> RowFields
     requires { ⌜ begin + 24 * index + 24 ≤ length (now image) ⌝ }
     ensures { λ r. ⌜ r ≡ fieldsAt (now (image .entry)) (begin + 24 * index) ⌝ }
 {
@@ -56,6 +57,14 @@ pub fn row_at(image: &[u8], begin: usize, index: usize) -> RowFields
         prepare: wire::u8_at(image, at + 22),
         outcome: wire::u8_at(image, at + 23),
     }
+}
+
+// The row at an index of an image whose rows begin there, through a reader. Whoever goes over rows takes them from here.
+pub fn row_at(image: &[u8], begin: usize, index: usize) -> RowFields
+    requires { ⌜ begin + 24 * index + 24 ≤ length (now image) ⌝ }
+    ensures { λ r. ⌜ r ≡ fieldsAt (now (image .entry)) (begin + 24 * index) ⌝ }
+{
+    reader::at(image, begin, index).row()
 }
 
 // Writes the row at an index of an image whose rows begin there. Whoever writes a whole row writes it here.
