@@ -1,4 +1,4 @@
-// The changes of `edit`, one by one, for the tests and the measurements of host/. No part of the library: what box firmware links never changes a table but by an answer.
+// The changes of `edit`, one by one, and the body that a lookup hands out, for the tests and the measurements of host/. No part of the library: what box firmware links never changes a table but by an answer.
 //
 // Each asks what the function under it asks, and its caller must see to that: nothing is tested here.
 ghost use mathlib.Core.Path.{_≡_};
@@ -6,11 +6,12 @@ ghost use mathlib.Core.Bool.{true};
 ghost use Prim.Native.Nat.{_+_, _≤_, _<_};
 ghost use lib.ListN.{length};
 ghost use Rattle.rules.specs.Tables.{rising};
-ghost use Rattle.rules.specs.Messages.{withPrepare, withOutcome, promising};
+ghost use Rattle.wire.specs.Parts.{replaced};
+ghost use Rattle.rules.specs.Messages.{held, withPrepare, withOutcome, promising};
 ghost use Rattle.rows.specs.Fields.{fieldsAt, prepareNumbered, outcomeNumbered, retryByCode};
-ghost use Rattle.rows.specs.Read.{rowOf};
-ghost use Rattle.rows.specs.Rows.{sizeOf, BodyInside};
-ghost use Rattle.rows.specs.Places.{placeOf};
+ghost use Rattle.rows.specs.Read.{rowOf, rowsAt};
+ghost use Rattle.rows.specs.Rows.{sizeOf, BodyInside, RowsInside};
+ghost use Rattle.rows.specs.Places.{placeOf, heldBody};
 ghost use Rattle.rows.specs.declared.lookup.Place.the-variants.{Absent};
 ghost use Rattle.table.specs.Headers.{headerAt};
 ghost use Rattle.table.specs.Images.{formatOne};
@@ -67,4 +68,22 @@ pub extern "C" fn trial_take_image(table: &mut [u8], image: &[u8])
     ensures { λ _. ⌜ now (table .exit) ≡ edited formatOne (taking (tableAt formatOne (now (image .entry)))) (now (table .entry)) ⌝ }
 {
     edit::take::take_image(table, image)
+}
+
+// The body of a stamp's row, as a lookup hands it out, copied to the start of a buffer; its length, which is 0 if no row has the stamp.
+#[no_mangle]
+pub extern "C" fn trial_held_body(
+    image: &[u8],
+    begin: usize,
+    rows: usize,
+    stamp: u64,
+    out: &mut [u8],
+) -> usize
+    requires { ⌜ RowsInside (now image) begin rows × (rising 0 (rowsAt (now image) begin rows) ≡ true) × (length (heldBody (held (rowsAt (now image) begin rows) stamp)) ≤ length (now out)) ⌝ }
+    ensures { λ r. ⌜ r ≡ length (heldBody (held (rowsAt (now (image .entry)) begin rows) stamp)) ⌝ }
+    ensures { λ _. ⌜ now (out .exit) ≡ replaced (now (out .entry)) 0 (heldBody (held (rowsAt (now (image .entry)) begin rows) stamp)) ⌝ }
+{
+    let body = rows::lookup::held_body(image, begin, rows, stamp);
+    wire::copy_part(body, out, 0);
+    body.len()
 }

@@ -1,8 +1,8 @@
-//! The proved changes of a table in its lent buffer, one by one, as Rust links them from the library that `rt staticlib
-//! trial` writes. Box firmware links another, so this is for tests and measurements alone. Nothing checks these
+//! The proved changes of a table in its lent buffer, one by one, and the body that a lookup hands out, as Rust links them
+//! from the library that `rt staticlib trial` writes. Box firmware links another, so this is for tests and measurements alone. Nothing checks these
 //! declarations against the library's source, so there is one for each function of `crates/trial` and nothing else.
 //!
-//! Each leaves the image of the changed table at the buffer's start, zeros where the image before was longer, and every
+//! Each change leaves the image of the changed table at the buffer's start, zeros where the image before was longer, and every
 //! other byte as it was. None tests what it asks of its caller, and with less than that it may write anywhere: that is
 //! why each is unsafe. All of them ask for a buffer that begins with an image. It need not be that of a table by the
 //! rules, but its offsets and lengths have to be as the paper lays them.
@@ -38,6 +38,15 @@ mod library {
             image: *const u8,
             image_len: usize,
         );
+        pub fn trial_held_body(
+            image: *const u8,
+            image_len: usize,
+            begin: usize,
+            rows: usize,
+            stamp: u64,
+            out: *mut u8,
+            out_len: usize,
+        ) -> usize;
     }
 }
 
@@ -104,4 +113,29 @@ pub unsafe fn add_row(table: &mut [u8], index: usize, row: &[u8]) {
 /// The buffer begins with an image, the lent bytes begin with one, and the buffer has room for that one.
 pub unsafe fn take_image(table: &mut [u8], image: &[u8]) {
     library::trial_take_image(table.as_mut_ptr(), table.len(), image.as_ptr(), image.len())
+}
+
+/// The body of a stamp's row, which a lookup hands out as the part of the lent image where it lies: here it is copied to
+/// the start of a buffer. Returns its length, 0 if no row has the stamp.
+///
+/// # Safety
+///
+/// The image has so many rows from `begin` on, their stamps rise strictly and their bodies lie inside it, and the buffer
+/// has room for the body.
+pub unsafe fn held_body(
+    image: &[u8],
+    begin: usize,
+    rows: usize,
+    stamp: u64,
+    out: &mut [u8],
+) -> usize {
+    library::trial_held_body(
+        image.as_ptr(),
+        image.len(),
+        begin,
+        rows,
+        stamp,
+        out.as_mut_ptr(),
+        out.len(),
+    )
 }
