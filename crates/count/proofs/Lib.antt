@@ -3,3 +3,4 @@ pub mod HeardBytes
 pub mod Decisions
 pub mod CountWays
 pub mod CountCall
+pub mod Walks

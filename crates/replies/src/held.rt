@@ -2,7 +2,8 @@
 ghost use mathlib.Core.Path.{_≡_};
 ghost use Rattle.replies.specs.Held.{noneHeld, withReply};
 
-// One reply as it is lent: any numbers may stand in it.
+// One reply as it is lent: any numbers may stand in it. Its fields are laid out as C does it, so that a C caller can lend a list of them.
+#[repr(C)]
 pub struct Reply {
     pub boxnumber: u8,
     pub view: u32,
