@@ -12,7 +12,7 @@ use lib.Dec.{ltb→lt, nltb→le, lit<}
 use lib.ListN.{length, drop, getD, drop-of-length-le}
 use lib.Seq.{drop-cons}
 use lib.WfN.{Nat·lt-wfRel}
-use mir.Syntax.{Ty, named, imm, w64, tyInt, tyBool, tyPtr, tyRef}
+use mir.Syntax.{Ty, named, w64, tyInt, tyBool, tyPtr}
 use mir.Val.{Val, vint, vptr}
 use base.Logic.{SProp, ent, emp, via, fst∗, id⊢}
 use base.Fml.{Lft, GName, Share, ftrue, fat, froom, fdies, flft, fshr-bor}
@@ -22,7 +22,7 @@ use prog.Wp.{Heap, Out, Env, afterSeq, afterBlock, afterTurn, Calls, Loops, Wp, 
 use ghost.Atoms.{Atoms}
 use contract.Monad.{Fun}
 use contract.Running.{givenOf, tables, tablesOf}
-use types.Kit.{Given, Item, ‵, raw, _⊛_, ⋆, runs, anyQ, atRet, Sq, _$_, _∵_, !, qed, by, move, keep, drop as gives-up, use0, split, join, rewrite, fsplit, fjoin, suffices, frame, done}
+use types.Kit.{Given, Item, ‵, raw, ⋆, runs, anyQ, atRet, Sq, _$_, _∵_, !, qed, by, move, keep, drop as gives-up, use0, split, join, rewrite, fsplit, fjoin, suffices, frame, done}
 use types.Part.{whole, sub, look-in}
 use types.Run.{look, look-raw, store, init, forget, stop, hop, fld, from, load, lit, of-opd, and-then, no-more, bin, assigns, assigns-last, land, first, blocks, returns, enter, alloc1, alloc0, params1, pass1, pass0, free1, free0, exec, Below, again, loops}
 use types.Share.{arr-parts}
@@ -30,11 +30,10 @@ use sound.WpLaws.{FmC, fmOf, WpFn-mono}
 use denote.Exit.{yes}
 use denote.Index.{place-is, elem-out, elem-back, looks-slice, shuts-slice}
 use denote.Laws.{Is, shows}
-use denote.Memory.{pointee, shares}
-use denote.RattleType.{owns}
+use denote.Memory.{shares}
 use denote.Ref.{RefT}
 use denote.Signature.{plain}
-use denote.Slice.{sliceTy, ShrSlice, Room, slice-vals, shr-slice-tells}
+use denote.Slice.{Room, slice-vals, shr-slice-tells}
 use denote.Steps.{owned, nothing}
 use denote.Struct.Laws as LL
 use denote.Triple.Call.{calls-at}
@@ -42,7 +41,7 @@ use denote.Triple.Entry.{onEntry}
 use denote.Triple.Spec.{Meets, tripleOf}
 use denote.Triple.Statement.{Contract, Triple}
 use denote.Triple.Table.{entered, cited}
-use denote.Triple.Walked.{says, Stays, stay-none-slice, walkOf, goes-none-slice, Walks, ends-at, walked, walk-meets}
+use denote.Triple.Walked.{says, Stays, walkOf, goes-none-slice, Walks, ends-at, walked, walk-meets}
 use Rattle.replies.specs.declared.held.Reply.{Reply}
 use Rattle.replies.specs.declared.held.Replies.{Replies}
 use Rattle.replies.specs.Held.{noReply, noneHeld, withReply, withReplies}
@@ -58,7 +57,7 @@ use Rattle.replies.proofs.held.Replies.with as hold
 use Rattle.replies.proofs.held.Replies.with.Symbol as hold-def
 use Rattle.replies.proofs.held.Replies.with.Symbol.{name as #with}
 use Rattle.replies.proofs.held.Replies.with.Met as hold-thm
-use Rattle.count.proofs.Walks.{listVal, ListOwn, lives, twice, answers, tests}
+use Rattle.count.proofs.Walks.{listVal, listTy, ListOwn, ListedOwn, stay-list, lives, twice, to-listed, answers, tests}
 use Rattle.count.proofs.lent.gather as gather
 use Rattle.count.proofs.lent.gather.Key.{name as #gather}
 use Rattle.count.proofs.lent.gather.Statement as stated
@@ -92,11 +91,8 @@ after i n l r = omega arith
 abbrev word : Ty
 word = tyInt w64
 
-abbrev sliceT : Ty
-sliceT = sliceTy (tyRef (named 0) imm (pointee (R.the-row .written)))
-
 abbrev stayed : Stays (gather.ended .signature .params) (gather.ended .kept)
-stayed = (stay-none-slice (0 ∷ []) tt (plain (λ _. R.the-row)) yes, tt)
+stayed = (stay-list, tt)
 
 abbrev vals : Reply → List Val
 vals = LL.vals R.the-type R′.the-laws
@@ -142,7 +138,7 @@ module _ {M : Type 1} (𝓤 : URA M) (H : Heap 𝓤) (A : Atoms 𝓤) (W : Given
     exits h v is e =
         qed W (‵ (flft κ q) ∷ ‵ (ListOwn κ s) ∷ []) ∵
         suffices ! _ (ends-at 𝓤 H A gather.ended stayed (gather.clauses 𝓤 H A mem run) W (((κ, tt), (q, tt), tt, (s, tt), (listVal s ∷ [], tt)), tt) v h (tt, tt) (tt, tt)) $ says ! e $
-        nothing ! $ move ! (1 ∷ 0 ∷ []) $ join ! $ frame ! $ nothing ! $ move ! (1 ∷ 0 ∷ []) $ fjoin ! $ frame ! $
+        nothing ! $ move ! (1 ∷ 0 ∷ []) $ join ! $ frame ! $ to-listed ! κ s $ frame ! $
         owned ! D.the-row (Is D.the-row) (LL.makes D.the-type D′.the-plain 𝓤 H A) h (v ∷ []) is $ done !
 
     -- ---- the loop: how far it is, and the facts of the invariant
@@ -173,13 +169,13 @@ module _ {M : Type 1} (𝓤 : URA M) (H : Heap 𝓤) (A : Atoms 𝓤) (W : Given
 
       module _ (l₀ l₁ l₂ l₃ l₄ l₅ l₆ l₇ : ℕ) where
         abbrev En : Env 𝓤 H
-        En = (D′.mir, l₀) ∷ (sliceT, l₁) ∷ (D′.mir, l₂) ∷ (word, l₃) ∷ (word, l₄) ∷ (tyBool, l₅) ∷ (tyPtr, l₆) ∷ (R′.mir, l₇) ∷ []
+        En = (D′.mir, l₀) ∷ (listTy, l₁) ∷ (D′.mir, l₂) ∷ (word, l₃) ∷ (word, l₄) ∷ (tyBool, l₅) ∷ (tyPtr, l₆) ∷ (R′.mir, l₇) ∷ []
 
         -- the locals, the last first; the token; the shared borrow, which each turn looks into; what the list owns, for the end
         abbrev At : Upto → List (Item 𝓤)
         At x = ‵ (froom R′.mir l₇ 0) ∷ ‵ (fdies R′.mir l₇) ∷ ‵ (froom tyPtr l₆ 0) ∷ ‵ (fdies tyPtr l₆) ∷ ‵ (froom tyBool l₅ 0) ∷ ‵ (fdies tyBool l₅) ∷ ‵ (froom word l₄ 0) ∷ ‵ (fdies word l₄)
             ∷ ‵ (fat fullShare word l₃ 0 (vint w64 (x .i))) ∷ ‵ (fdies word l₃) ∷ ‵ (fat fullShare D′.mir l₂ 0 (x .v)) ∷ ‵ (fdies D′.mir l₂)
-            ∷ ‵ (fat fullShare sliceT l₁ 0 (listVal s)) ∷ ‵ (fdies sliceT l₁) ∷ ‵ (froom D′.mir l₀ 0) ∷ ‵ (fdies D′.mir l₀)
+            ∷ ‵ (fat fullShare listTy l₁ 0 (listVal s)) ∷ ‵ (fdies listTy l₁) ∷ ‵ (froom D′.mir l₀ 0) ∷ ‵ (fdies D′.mir l₀)
             ∷ ‵ (flft κ q) ∷ ‵ (fshr-bor κ (λ t. arr-parts (shares R.the-row) n .part t ys b o)) ∷ ‵ (ListOwn κ s) ∷ []
 
         -- a turn ends nearer to n, or the loop is left and the rest of the body runs
@@ -222,7 +218,7 @@ module _ {M : Type 1} (𝓤 : URA M) (H : Heap 𝓤) (A : Atoms 𝓤) (W : Given
 
       walk : ent 𝓤 (onEntry 𝓤 H A gather.signature (κ, tt) (q, tt) (s, tt) (listVal s ∷ [], tt)) (WpFn 𝓤 H C Λ code.function (listVal s ∷ []) Post)
       walk =
-          qed W (lives κ q ∷ ‵ (owns (ShrSlice (named 0) κ R.the-row ∷ []) (s, tt) (listVal s ∷ [], tt)) ∷ []) ∵ enter ! C Λ code.function (listVal s ∷ []) _ $
+          qed W (lives κ q ∷ ‵ (ListedOwn κ s) ∷ []) ∵ enter ! C Λ code.function (listVal s ∷ []) _ $
           alloc1 ! (λ l₀. alloc1 ! (λ l₁. alloc1 ! (λ l₂. alloc1 ! (λ l₃. alloc1 ! (λ l₄. alloc1 ! (λ l₅. alloc1 ! (λ l₆. alloc1 ! (λ l₇. alloc0 ! $ params1 ! $
           pass1 ! (init ! 12 refl (tt, (tt, (record { fits = room .0 }, tt)))) $ pass0 ! $
           use0 W (raw (None 𝓤 H A mem run .pre (to-none 𝓤 H A mem run))) goes-none $
