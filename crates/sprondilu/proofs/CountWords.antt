@@ -23,7 +23,7 @@ use Rattle.count.specs.Calls.{countBytes}
 use Rattle.count.proofs.CountWays.{count-numbers}
 use Rattle.count.proofs.CountCall.{answer-by-rule, answer-meant}
 use Rattle.count.proofs.answer.Counted as enum
-use Rattle.sprondilu.specs.Calls.{resultWord, countAnswer}
+use Rattle.sprondilu.specs.Calls.{resultWord, countAnswer, ResultFits}
 
 -- neither fast nor slow: the word is the number
 pub without-result : (a : Counted) → OneOf (1 ∷ 2 ∷ 3 ∷ 4 ∷ []) (tagOf enum.the-type a) → OneOf (0 ∷ 2 ∷ 3 ∷ 4 ∷ []) (tagOf enum.the-type a) → answerNumber a ≡ countAnswer a
@@ -38,14 +38,6 @@ without-result (Slow result retry) h (inr (inr (inr e))) = absurd (omega arith)
 without-result Wait h k = refl
 without-result Bad h k = refl
 without-result Contradiction h k = refl
-
--- a result's code is at most 4, and a retry stamp has 48 bits
-abbrev pub ResultFits : Counted → Type 0
-ResultFits (Fast result retry) = (result < 8) × (retry < 2 ^ 48)
-ResultFits (Slow result retry) = (result < 8) × (retry < 2 ^ 48)
-ResultFits Wait = Unit {0}
-ResultFits Bad = Unit {0}
-ResultFits Contradiction = Unit {0}
 
 small : (r : Result) → resultByRule r ≡ true → (resultCode r < 8) × (resultRetry r < 2 ^ 48)
 unfolding resultByRule isStamp

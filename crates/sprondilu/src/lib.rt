@@ -2,6 +2,7 @@
 //
 // A `&[u8]` passes as a pointer and a length. That the pointers are good is assumed and proved by nobody; all else is the crates' below.
 use count::answer::Counted;
+use replies::held::Reply;
 use table::image::Found;
 use table::model::Model;
 ghost use mathlib.Core.Path.{_≡_};
@@ -13,8 +14,8 @@ ghost use Rattle.table.specs.Fresh.{freshNumber, freshBuffer};
 ghost use Rattle.answer.specs.Calls.{callNumber, callTable, callReply};
 ghost use Rattle.merge.specs.Calls as merging;
 ghost use Rattle.count.specs.Answers.{answerAs, answerNumber};
-ghost use Rattle.count.specs.Calls.{countBytes};
-ghost use Rattle.sprondilu.specs.Calls.{validAnswer, resultWord, countAnswer};
+ghost use Rattle.count.specs.Calls.{countOf, countBytes};
+ghost use Rattle.sprondilu.specs.Calls.{validAnswer, resultWord, countAnswer, ResultFits};
 
 // The fresh table of a box, at the start of a table buffer; the answer is the number.
 #[no_mangle]
@@ -76,12 +77,11 @@ fn number_of(answer: Counted) -> u64
     }
 }
 
-// The coordinator's count of lent replies: number, kind, result and retry stamp in one word.
-#[no_mangle]
-pub extern "C" fn sprondilu_count(n: u8, replies: &[u8]) -> u64
-    ensures { λ r. ⌜ r ≡ countAnswer (answerAs (countBytes n (now (replies .entry)))) ⌝ }
+// The word of an answer, which is taken apart: fast, else slow, else its number.
+fn answer_word(answer: Counted) -> u64
+    requires { ⌜ ResultFits answer ⌝ }
+    ensures { λ r. ⌜ r ≡ countAnswer answer ⌝ }
 {
-    let answer = count::call::count(n, replies);
     let Counted::Fast { result, retry } = answer else {
         let Counted::Slow { result, retry } = answer else {
             return number_of(answer);
@@ -89,4 +89,20 @@ pub extern "C" fn sprondilu_count(n: u8, replies: &[u8]) -> u64
         return result_word(2, result, retry);
     };
     result_word(1, result, retry)
+}
+
+// The coordinator's count of replies lent as bytes: number, kind, result and retry stamp in one word.
+#[no_mangle]
+pub extern "C" fn sprondilu_count(n: u8, replies: &[u8]) -> u64
+    ensures { λ r. ⌜ r ≡ countAnswer (answerAs (countBytes n (now (replies .entry)))) ⌝ }
+{
+    answer_word(count::call::count(n, replies))
+}
+
+// The coordinator's count of replies lent as a list of small records, in the same word.
+#[no_mangle]
+pub extern "C" fn sprondilu_count_records(n: u8, records: &[Reply]) -> u64
+    ensures { λ r. ⌜ r ≡ countAnswer (answerAs (countOf n (now (records .entry)))) ⌝ }
+{
+    answer_word(count::lent::count(n, records))
 }
