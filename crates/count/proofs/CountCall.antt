@@ -2,7 +2,7 @@
 use mathlib.Core.Path.{_≡_, refl, sym, subst, ap, _∙_}
 use mathlib.Core.Bool.{Bool, true, false, cond}
 use mathlib.Core.Logic.{_⊎_, inl, inr}
-use mathlib.Core.List.{List, [], _∷_}
+use mathlib.Core.List.{List, [], _∷_, map}
 use mathlib.Core.Option.{Option, none, some}
 use Prim.Native.Nat.{ℕ, _≤_, _<_}
 use native.Mathlib.Omega.{arith}
@@ -27,11 +27,11 @@ use Rattle.message.proofs.Forms.{result-read}
 use Rattle.replies.specs.declared.held.Reply.{Reply}
 use Rattle.count.specs.declared.answer.Counted.{Counted}
 use Rattle.replies.specs.Heard.{resultRead, heard, allHeard}
-use Rattle.count.specs.Calls.{countOf, allBytes, countBytes}
+use Rattle.count.specs.Calls.{countOf, replyOf, allBytes, countBytes}
 use Rattle.count.specs.Answers.{answerAs, meant}
-use Rattle.count.proofs.HeardBytes.{Lawful, count-of-bytes}
+use Rattle.count.proofs.HeardBytes.{Lawful, count-of-records, count-of-bytes}
 use Rattle.count.proofs.Decisions.{by-rule, chosen-by-rule, results-good, any-retried}
-use Rattle.count.proofs.CountWays.{Whole, lentReplies, lentHeard, BadLent, GoodLent, good-none, bad-or-good, good-lent, whole-lent}
+use Rattle.count.proofs.CountWays.{Lent, Lent.records, Lent.laid, Whole, lentReplies, lentHeard, countLent, BadLent, GoodLent, good-none, bad-or-good, good-lent, whole-lent}
 
 -- ---- what `rules` answers
 
@@ -110,32 +110,32 @@ agreeing-few : (hs : List Heard) (r : Result) → agreeing hs r ≤ length hs
 unfolding agreeing
 agreeing-few hs r = omega (arith, counts-apart (λ h. sameResult r (h .result)) (λ h. false) (λ h t. refl) hs)
 
-module _ (n : ℕ) (s : List ℕ) where
+module _ (n : ℕ) (lent : Lent) where
   -- ---- two answers that the promise allows for one input are equal
 
-  pub count-determined : {a b : Counted} → a ≡ answerAs (countBytes n s) → b ≡ answerAs (countBytes n s) → a ≡ b
+  pub count-determined : {a b : Counted} → a ≡ answerAs (countLent n lent) → b ≡ answerAs (countLent n lent) → a ≡ b
   count-determined e f = e ∙ sym f
 
   -- ---- and each says what `rules` answers
 
   -- what is known of an answer, of the replies lent
-  lent-stands : Stands n (lentHeard s) (countBytes n s)
-  lent-stands = go (bad-or-good n s)
+  lent-stands : Stands n (lentHeard lent) (countLent n lent)
+  lent-stands = go (bad-or-good n lent)
     where
-      go : (BadLent n s × (countBytes n s ≡ refused 3)) ⊎ GoodLent n s → Stands n (lentHeard s) (countBytes n s)
+      go : (BadLent n lent × (countLent n lent ≡ refused 3)) ⊎ GoodLent n lent → Stands n (lentHeard lent) (countLent n lent)
       go (inl (b, e)) = rw e (inl refl)
-      go (inr g) = rw (good-lent n s g) (counted-stands n (lentHeard s))
+      go (inr g) = rw (good-lent n lent g) (counted-stands n (lentHeard lent))
 
   -- the result of a fast or slow answer is by the rules
-  pub answer-by-rule : (r : Result) → (countBytes n s ≡ fast r) ⊎ (countBytes n s ≡ slow r) → resultByRule r ≡ true
-  answer-by-rule r (inl e) = subst (Stands n (lentHeard s)) e lent-stands
-  answer-by-rule r (inr e) = subst (Stands n (lentHeard s)) e lent-stands .0
+  pub answer-by-rule : (r : Result) → (countLent n lent ≡ fast r) ⊎ (countLent n lent ≡ slow r) → resultByRule r ≡ true
+  answer-by-rule r (inl e) = subst (Stands n (lentHeard lent)) e lent-stands
+  answer-by-rule r (inr e) = subst (Stands n (lentHeard lent)) e lent-stands .0
 
   -- so the enum's case, by its code and its retry stamp, is read as that answer again
-  pub answer-meant : meant (answerAs (countBytes n s)) ≡ countBytes n s
-  answer-meant = go (countBytes n s) lent-stands
+  pub answer-meant : meant (answerAs (countLent n lent)) ≡ countLent n lent
+  answer-meant = go (countLent n lent) lent-stands
     where
-      go : (c : rules.Counted) → Stands n (lentHeard s) c → meant (answerAs c) ≡ c
+      go : (c : rules.Counted) → Stands n (lentHeard lent) c → meant (answerAs c) ≡ c
       go (fast r) k = ap fast (result-read r k .0)
       go (slow r) (k, l) = ap slow (result-read r k .0)
       go wait k = refl
@@ -145,36 +145,36 @@ module _ (n : ℕ) (s : List ℕ) where
   -- ---- what stands behind an answer
 
   -- an answer that is no refusal: what is lent is not bad, and the count of `rules` of it is that answer
-  pub answered-by-rules : (c : rules.Counted) → countBytes n s ≡ c → countedNumber c ≡ 0 → (BadLent n s → ⊥) × (counted n (lentHeard s) ≡ c)
-  answered-by-rules c e z = go (bad-or-good n s)
+  pub answered-by-rules : (c : rules.Counted) → countLent n lent ≡ c → countedNumber c ≡ 0 → (BadLent n lent → ⊥) × (counted n (lentHeard lent) ≡ c)
+  answered-by-rules c e z = go (bad-or-good n lent)
     where
-      go : (BadLent n s × (countBytes n s ≡ refused 3)) ⊎ GoodLent n s → (BadLent n s → ⊥) × (counted n (lentHeard s) ≡ c)
+      go : (BadLent n lent × (countLent n lent ≡ refused 3)) ⊎ GoodLent n lent → (BadLent n lent → ⊥) × (counted n (lentHeard lent) ≡ c)
       go (inl (b, k)) = let y : countedNumber c ≡ 3 = ap countedNumber (sym e ∙ k) in absurd (omega arith)
-      go (inr g) = (good-none n s g, sym (good-lent n s g) ∙ e)
+      go (inr g) = (good-none n lent g, sym (good-lent n lent g) ∙ e)
 
   -- "fast with r if the fast count of boxes agree on r"
-  pub fast-behind : (r : Result) → countBytes n s ≡ fast r → (BadLent n s → ⊥) × (fastCount (fOf n) ≤ agreeing (lentHeard s) r)
-  fast-behind r e = let (f, c) = answered-by-rules (fast r) e refl in (f, behind.fast-behind n (lentHeard s) r c .1)
+  pub fast-behind : (r : Result) → countLent n lent ≡ fast r → (BadLent n lent → ⊥) × (fastCount (fOf n) ≤ agreeing (lentHeard lent) r)
+  fast-behind r e = let (f, c) = answered-by-rules (fast r) e refl in (f, behind.fast-behind n (lentHeard lent) r c .1)
 
   -- "wait if fewer than f+1 replies": so slow is from no fewer
-  pub slow-behind : (r : Result) → countBytes n s ≡ slow r → (BadLent n s → ⊥) × (quorum (fOf n) ≤ length (lentReplies s))
+  pub slow-behind : (r : Result) → countLent n lent ≡ slow r → (BadLent n lent → ⊥) × (quorum (fOf n) ≤ length (lentReplies lent))
   slow-behind r e =
       let (f, c) = answered-by-rules (slow r) e refl in
-      let l = subst (Stands n (lentHeard s)) e lent-stands .1 in
-      let k = length-map (lentReplies s) heard in
+      let l = subst (Stands n (lentHeard lent)) e lent-stands .1 in
+      let k = length-map (lentReplies lent) heard in
       (f, omega arith)
 
   -- "the final result if there is one; .. slow OK if f+1 are OK"
-  pub slow-ok-behind : countBytes n s ≡ slow OK → (BadLent n s → ⊥) × (((h : Heard) × (h ∈ lentHeard s) × (h .isFinal ≡ true) × (h .result ≡ OK)) ⊎ (quorum (fOf n) ≤ agreeing (lentHeard s) OK))
-  slow-ok-behind e = let (f, c) = answered-by-rules (slow OK) e refl in (f, behind.ok-behind n (lentHeard s) (inr c) .1)
+  pub slow-ok-behind : countLent n lent ≡ slow OK → (BadLent n lent → ⊥) × (((h : Heard) × (h ∈ lentHeard lent) × (h .isFinal ≡ true) × (h .result ≡ OK)) ⊎ (quorum (fOf n) ≤ agreeing (lentHeard lent) OK))
+  slow-ok-behind e = let (f, c) = answered-by-rules (slow OK) e refl in (f, behind.ok-behind n (lentHeard lent) (inr c) .1)
 
   -- "wait if fewer than f+1 replies", and no result has the fast count
-  pub wait-behind : countBytes n s ≡ wait → (BadLent n s → ⊥) × (length (lentReplies s) < quorum (fOf n)) × ((r : Result) → agreeing (lentHeard s) r < fastCount (fOf n))
+  pub wait-behind : countLent n lent ≡ wait → (BadLent n lent → ⊥) × (length (lentReplies lent) < quorum (fOf n)) × ((r : Result) → agreeing (lentHeard lent) r < fastCount (fOf n))
   wait-behind e =
       let (f, c) = answered-by-rules wait e refl in
-      let l = subst (Stands n (lentHeard s)) e lent-stands in
-      let k = length-map (lentReplies s) heard in
-      (f, omega arith, λ r. omega (arith, agreeing-few (lentHeard s) r, fast-quorum (fOf n)))
+      let l = subst (Stands n (lentHeard lent)) e lent-stands in
+      let k = length-map (lentReplies lent) heard in
+      (f, omega arith, λ r. omega (arith, agreeing-few (lentHeard lent) r, fast-quorum (fOf n)))
 
 -- ---- the order of the replies does not matter
 
@@ -190,13 +190,18 @@ pub count-any-order : (n : ℕ) {rs qs : List Reply} → Reordered rs qs → cou
 unfolding countOf
 count-any-order n p = rw (every-kept resultRead p, orders.count-any-order n (heard-reordered p))
 
--- and any order in which they are laid end to end in the bytes
-pub count-any-laid : (n : ℕ) (s t : List ℕ) → Whole s → Whole t → Reordered (lentReplies s) (lentReplies t) → countBytes n s ≡ countBytes n t
-count-any-laid n s t w v p = whole-lent n s w ∙ count-any-order n p ∙ sym (whole-lent n t v)
+-- and any order in which they are lent, in either form
+pub count-any-lent : (n : ℕ) (lent other : Lent) → Whole lent → Whole other → Reordered (lentReplies lent) (lentReplies other) → countLent n lent ≡ countLent n other
+count-any-lent n lent other w v p = whole-lent n lent w ∙ count-any-order n p ∙ sym (whole-lent n other v)
 
--- ---- replies that were written as bytes: the answer of the call says what `rules` counts of them
+-- ---- replies that were heard: the answer of either call says what `rules` counts of them
+
+-- an answer says the count that it is of
+says : (n : ℕ) (lent : Lent) {c : rules.Counted} → countLent n lent ≡ c → {a : Counted} → a ≡ answerAs (countLent n lent) → (a ≡ answerAs c) × (meant a ≡ c)
+says n lent k e = (e ∙ ap answerAs k, ap meant e ∙ answer-meant n lent ∙ k)
 
 pub counted-heard : (n : ℕ) (hs : List Heard) → Lawful hs → {a : Counted} → a ≡ answerAs (countBytes n (allBytes hs)) → (a ≡ answerAs (counted n hs)) × (meant a ≡ counted n hs)
-counted-heard n hs k e =
-    let c = count-of-bytes n hs k in
-    (e ∙ ap answerAs c, ap meant e ∙ answer-meant n (allBytes hs) ∙ c)
+counted-heard n hs k = says n (laid (allBytes hs)) (count-of-bytes n hs k)
+
+pub counted-records : (n : ℕ) (hs : List Heard) → Lawful hs → {a : Counted} → a ≡ answerAs (countOf n (map replyOf hs)) → (a ≡ answerAs (counted n hs)) × (meant a ≡ counted n hs)
+counted-records n hs k = says n (records (map replyOf hs)) (count-of-records n hs k)

@@ -12,7 +12,7 @@ use borrow.Author.Tests.{eqb-true, eqb-false, eq-eqb, ltb-false, leb-true, le-le
 use Rattle.rules.specs.Tests.{both, either, any, every, twice, somePair}
 use Rattle.rules.specs.Groups.{isGroup, fOf, quorum, fastCount}
 use Rattle.rules.specs.Tables.{Result, sameResult, resultByRule}
-use Rattle.rules.specs.Count.{Heard, unequalViews, badReplies, agreeing, isFast, unequalFinalHeard, fastBesideFinal, Counted.wait, Counted.refused, fastOf, finalHeard, slowResult, slowOr, fastOr, decided, counted, countedNumber}
+use Rattle.rules.specs.Count.{Heard, unequalViews, badReplies, agreeing, isFast, unequalFinalHeard, fastBesideFinal, Counted, Counted.wait, Counted.refused, fastOf, finalHeard, slowResult, slowOr, fastOr, decided, counted, countedNumber}
 use Rattle.rules.proofs.Logic.{impossible, cases, same?, both-left, both-right, either-cases, either-left, either-right, either-first, either-second}
 use Rattle.rules.proofs.Lists.{_∈_, places, any-none, any-some, some-any, every-one, all-every, pair-none}
 use Rattle.rules.proofs.Same.{same-result, result-same, not-other-result}
@@ -29,53 +29,65 @@ use Rattle.count.proofs.Counts.{bad-refused, good-counted, contradicted
 
 -- ---- what is lent
 
--- whole replies, of 15 bytes each
-abbrev pub Whole : List ℕ → Type 0
-Whole s = (k : ℕ) × (length s ≡ 15 * k)
+-- "Replies are lent as a list of small records", or laid end to end in bytes
+pub data Lent : Type 0 where
+  records : List Reply → Lent
+  laid : List ℕ → Lent
+
+-- whole replies: bytes are 15 for each
+abbrev pub Whole : Lent → Type 0
+Whole (records rs) = Unit {0}
+Whole (laid s) = (k : ℕ) × (length s ≡ 15 * k)
 
 -- the replies lent
-abbrev pub lentReplies : List ℕ → List Reply
-lentReplies s = repliesOf (length s / 15) s
+abbrev pub lentReplies : Lent → List Reply
+lentReplies (records rs) = rs
+lentReplies (laid s) = repliesOf (length s / 15) s
 
 -- and what they say
-abbrev pub lentHeard : List ℕ → List Heard
-lentHeard s = allHeard (lentReplies s)
+abbrev pub lentHeard : Lent → List Heard
+lentHeard lent = allHeard (lentReplies lent)
+
+-- the count of them, as the two calls promise it
+abbrev pub countLent : ℕ → Lent → Counted
+countLent n (records rs) = countOf n rs
+countLent n (laid s) = countBytes n s
 
 -- whole replies that are not bad
-abbrev pub GoodLent : ℕ → List ℕ → Type 0
-GoodLent n s = Whole s × (areBad n (lentReplies s) ≡ false)
+abbrev pub GoodLent : ℕ → Lent → Type 0
+GoodLent n lent = Whole lent × (areBad n (lentReplies lent) ≡ false)
 
 -- ---- the circumstances
 
 -- "Bad n, a box outside the group or twice, unequal views or a bad result", and bytes that are no whole replies
-pub data BadLent (n : ℕ) (s : List ℕ) : Type 0 where
+pub data BadLent (n : ℕ) (lent : Lent) : Type 0 where
   -- the bytes are no whole replies: their number is no multiple of 15
-  cut : (Whole s → ⊥) → BadLent n s
+  cut : (Whole lent → ⊥) → BadLent n lent
   -- "Bad n": none of 3, 5 and 7
-  badGroup : isGroup n ≡ false → BadLent n s
+  badGroup : isGroup n ≡ false → BadLent n lent
   -- "a box outside the group"
-  outside : (r : Reply) → r ∈ lentReplies s → n ≤ r .boxnumber → BadLent n s
+  outside : (r : Reply) → r ∈ lentReplies lent → n ≤ r .boxnumber → BadLent n lent
   -- "or twice": two replies, at different places, are of one box
-  again : (before : List Reply) (r : Reply) (between : List Reply) (q : Reply) (after : List Reply) → lentReplies s ≡ before ++ (r ∷ (between ++ (q ∷ after))) → r .boxnumber ≡ q .boxnumber → BadLent n s
+  again : (before : List Reply) (r : Reply) (between : List Reply) (q : Reply) (after : List Reply) → lentReplies lent ≡ before ++ (r ∷ (between ++ (q ∷ after))) → r .boxnumber ≡ q .boxnumber → BadLent n lent
   -- "unequal views"
-  otherView : (r q : Reply) → r ∈ lentReplies s → q ∈ lentReplies s → (r .view ≡ q .view → ⊥) → BadLent n s
+  otherView : (r q : Reply) → r ∈ lentReplies lent → q ∈ lentReplies lent → (r .view ≡ q .view → ⊥) → BadLent n lent
   -- "or a bad result": its code is no result's, its retry stamp is against the rule, or final or not is neither 1 nor 0
-  badResult : (r : Reply) → r ∈ lentReplies s → resultRead r ≡ false → BadLent n s
+  badResult : (r : Reply) → r ∈ lentReplies lent → resultRead r ≡ false → BadLent n lent
 
 -- "Two unequal finals, or a fast count for a result other than a final one"
-pub data Contradicting (n : ℕ) (s : List ℕ) : Type 0 where
+pub data Contradicting (n : ℕ) (lent : Lent) : Type 0 where
   -- "Two unequal finals"
-  finals : (h g : Heard) → h ∈ lentHeard s → g ∈ lentHeard s → h .isFinal ≡ true → g .isFinal ≡ true → (h .result ≡ g .result → ⊥) → Contradicting n s
+  finals : (h g : Heard) → h ∈ lentHeard lent → g ∈ lentHeard lent → h .isFinal ≡ true → g .isFinal ≡ true → (h .result ≡ g .result → ⊥) → Contradicting n lent
   -- "a fast count for a result other than a final one"
-  fastAgainst : (h : Heard) (r : Result) → h ∈ lentHeard s → h .isFinal ≡ true → fastCount (fOf n) ≤ agreeing (lentHeard s) r → (h .result ≡ r → ⊥) → Contradicting n s
+  fastAgainst : (h : Heard) (r : Result) → h ∈ lentHeard lent → h .isFinal ≡ true → fastCount (fOf n) ≤ agreeing (lentHeard lent) r → (h .result ≡ r → ⊥) → Contradicting n lent
 
-pub data CountWay (n : ℕ) (s : List ℕ) : ℕ → Type 0 where
+pub data CountWay (n : ℕ) (lent : Lent) : ℕ → Type 0 where
   -- "Bad n, ..: 3"
-  bad : BadLent n s → CountWay n s 3
+  bad : BadLent n lent → CountWay n lent 3
   -- "Two unequal finals, ..: 6"
-  against : (BadLent n s → ⊥) → Contradicting n s → CountWay n s 6
+  against : (BadLent n lent → ⊥) → Contradicting n lent → CountWay n lent 6
   -- 0: "none below applies"
-  done : (BadLent n s → ⊥) → (Contradicting n s → ⊥) → CountWay n s 0
+  done : (BadLent n lent → ⊥) → (Contradicting n lent → ⊥) → CountWay n lent 0
 
 -- ---- one number twice, by the places where it stands
 
@@ -112,6 +124,25 @@ module _ {A : Type 0} (number : A → ℕ) where
   again-twice [] x between y after e = either-first _ _ (some-any _ (between ++ (y ∷ after)) y (Memᴰ·append-right between (List·Memᴰ·head refl)) (eq-eqb _ _ (sym e)))
   again-twice (z ∷ before) x between y after e = either-second _ _ (again-twice before x between y after e)
 
+-- ---- whole, or not
+
+-- whole replies are counted
+pub whole-lent : (n : ℕ) (lent : Lent) → Whole lent → countLent n lent ≡ countOf n (lentReplies lent)
+whole-lent n (records rs) w = refl
+whole-lent n (laid s) (k, e) = count-whole n s (omega arith)
+
+-- and other bytes are refused
+whole-or-cut : (n : ℕ) (lent : Lent) → Whole lent ⊎ ((Whole lent → ⊥) × (countLent n lent ≡ refused 3))
+whole-or-cut n (records rs) = inl tt
+whole-or-cut n (laid s) = go (same? (length s) (15 * (length s / 15)))
+  where
+    unequal : (k : ℕ) → length s ≡ 15 * k → (length s ≡ 15 * (length s / 15) → ⊥) → ⊥
+    unequal k e f = f (omega arith)
+
+    go : (length s ≡ 15 * (length s / 15)) ⊎ (eqb (length s) (15 * (length s / 15)) ≡ false) → Whole (laid s) ⊎ ((Whole (laid s) → ⊥) × (countBytes n s ≡ refused 3))
+    go (inl e) = inl (length s / 15, e)
+    go (inr e) = let f = eqb-false _ _ e in inr ((λ w. unequal (w .0) (w .1) f), count-broken n s f)
+
 -- ---- 3
 
 -- one of two tests, whichever it is
@@ -125,78 +156,70 @@ one-view : (n : ℕ) (hs : List Heard) → badReplies n hs ≡ false → (h g : 
 unfolding badReplies unequalViews
 one-view n hs lawful h g m i = eqb-true _ _ (not-false _ (pair-none _ hs (either-left _ _ (either-right _ _ (either-right _ _ (either-right _ _ lawful)))) h g m i))
 
-module _ (n : ℕ) (s : List ℕ) where
+module _ (n : ℕ) (lent : Lent) where
   -- what passes a test among all that is heard is a reply's
-  said : (test : Heard → Bool) → any test (lentHeard s) ≡ true → (r : Reply) × (r ∈ lentReplies s) × (test (heard r) ≡ true)
-  said test a = any-some (λ r. test (heard r)) (lentReplies s) (sym (any-heard test (lentReplies s)) ∙ a)
+  said : (test : Heard → Bool) → any test (lentHeard lent) ≡ true → (r : Reply) × (r ∈ lentReplies lent) × (test (heard r) ≡ true)
+  said test a = any-some (λ r. test (heard r)) (lentReplies lent) (sym (any-heard test (lentReplies lent)) ∙ a)
 
   -- bad replies are bad by one of the circumstances
-  bad-found : areBad n (lentReplies s) ≡ true → BadLent n s
+  bad-found : areBad n (lentReplies lent) ≡ true → BadLent n lent
   unfolding areBad badReplies unequalViews somePair
   bad-found b =
       whichever _ _ b unread
       (λ c. whichever _ _ c (λ t. badGroup (not-true _ t))
       (λ d. whichever _ _ d beyond (λ e. whichever _ _ e boxes (λ f. whichever _ _ f views unruly))))
     where
-      unread : not (every resultRead (lentReplies s)) ≡ true → BadLent n s
-      unread t = go (cases (any (λ r. not (resultRead r)) (lentReplies s)))
+      unread : not (every resultRead (lentReplies lent)) ≡ true → BadLent n lent
+      unread t = go (cases (any (λ r. not (resultRead r)) (lentReplies lent)))
         where
-          go : (any (λ r. not (resultRead r)) (lentReplies s) ≡ true) ⊎ (any (λ r. not (resultRead r)) (lentReplies s) ≡ false) → BadLent n s
-          go (inl a) = let (r, m, f) = any-some (λ r. not (resultRead r)) (lentReplies s) a in badResult r m (not-true _ f)
-          go (inr a) = impossible (all-every resultRead (lentReplies s) (λ r m. not-false _ (any-none (λ q. not (resultRead q)) (lentReplies s) a r m))) (not-true _ t)
+          go : (any (λ r. not (resultRead r)) (lentReplies lent) ≡ true) ⊎ (any (λ r. not (resultRead r)) (lentReplies lent) ≡ false) → BadLent n lent
+          go (inl a) = let (r, m, f) = any-some (λ r. not (resultRead r)) (lentReplies lent) a in badResult r m (not-true _ f)
+          go (inr a) = impossible (all-every resultRead (lentReplies lent) (λ r m. not-false _ (any-none (λ q. not (resultRead q)) (lentReplies lent) a r m))) (not-true _ t)
 
-      beyond : any (λ h. not (ltb (h .box) n)) (lentHeard s) ≡ true → BadLent n s
+      beyond : any (λ h. not (ltb (h .box) n)) (lentHeard lent) ≡ true → BadLent n lent
       beyond t = let (r, m, f) = said (λ h. not (ltb (h .box) n)) t in outside r m (ltb-false _ _ (not-true _ f))
 
-      boxes : twice (λ h. h .box) (lentHeard s) ≡ true → BadLent n s
+      boxes : twice (λ h. h .box) (lentHeard lent) ≡ true → BadLent n lent
       boxes t =
-          let (before, r, between, q, after, k, e) = twice-again (λ r. r .boxnumber) (lentReplies s) (sym (twice-heard (lentReplies s)) ∙ t) in
+          let (before, r, between, q, after, k, e) = twice-again (λ r. r .boxnumber) (lentReplies lent) (sym (twice-heard (lentReplies lent)) ∙ t) in
           again before r between q after k e
 
-      views : any (λ h. any (λ g. not (eqb (h .view) (g .view))) (lentHeard s)) (lentHeard s) ≡ true → BadLent n s
+      views : any (λ h. any (λ g. not (eqb (h .view) (g .view))) (lentHeard lent)) (lentHeard lent) ≡ true → BadLent n lent
       views t =
-          let (r, m, u) = said (λ h. any (λ g. not (eqb (h .view) (g .view))) (lentHeard s)) t in
+          let (r, m, u) = said (λ h. any (λ g. not (eqb (h .view) (g .view))) (lentHeard lent)) t in
           let (q, i, f) = said (λ g. not (eqb (r .view) (g .view))) u in
           otherView r q m i (eqb-false _ _ (not-true _ f))
 
-      unruly : any (λ h. not (resultByRule (h .result))) (lentHeard s) ≡ true → BadLent n s
+      unruly : any (λ h. not (resultByRule (h .result))) (lentHeard lent) ≡ true → BadLent n lent
       unruly t = let (r, m, f) = said (λ h. not (resultByRule (h .result))) t in go r m (not-true _ f) (cases (resultRead r))
         where
-          go : (r : Reply) → r ∈ lentReplies s → resultByRule (heard r .result) ≡ false → (resultRead r ≡ true) ⊎ (resultRead r ≡ false) → BadLent n s
+          go : (r : Reply) → r ∈ lentReplies lent → resultByRule (heard r .result) ≡ false → (resultRead r ≡ true) ⊎ (resultRead r ≡ false) → BadLent n lent
           go r m f (inl c) = impossible (coded r c .byRule) f
           go r m f (inr c) = badResult r m c
 
   -- and replies that are not bad by none
-  pub good-none : GoodLent n s → BadLent n s → ⊥
+  pub good-none : GoodLent n lent → BadLent n lent → ⊥
   good-none (w, e) (cut c) = c w
-  good-none (w, e) (badGroup g) = impossible (sym (bad-group n (lentReplies s) g)) e
-  good-none (w, e) (outside r m l) = let k = replies-inside n (lentHeard s) (good-facts n (lentReplies s) e .lawful) (heard r) (Memᴰ·map heard m) in omega arith
+  good-none (w, e) (badGroup g) = impossible (sym (bad-group n (lentReplies lent) g)) e
+  good-none (w, e) (outside r m l) = let k = replies-inside n (lentHeard lent) (good-facts n (lentReplies lent) e .lawful) (heard r) (Memᴰ·map heard m) in omega arith
   good-none (w, e) (again before r between q after k b) =
       impossible (ap (twice (λ (r : Reply). r .boxnumber)) k ∙ again-twice (λ (r : Reply). r .boxnumber) before r between q after b)
-      (sym (twice-heard (lentReplies s)) ∙ replies-different n (lentHeard s) (good-facts n (lentReplies s) e .lawful))
-  good-none (w, e) (otherView r q m i d) = d (one-view n (lentHeard s) (good-facts n (lentReplies s) e .lawful) (heard r) (heard q) (Memᴰ·map heard m) (Memᴰ·map heard i))
-  good-none (w, e) (badResult r m f) = impossible (every-one resultRead (lentReplies s) (good-facts n (lentReplies s) e .read) r m) f
-
-  -- so many whole replies as 15 goes into the length
-  whole-length : Whole s → length s ≡ 15 * (length s / 15)
-  whole-length (k, e) = omega arith
+      (sym (twice-heard (lentReplies lent)) ∙ replies-different n (lentHeard lent) (good-facts n (lentReplies lent) e .lawful))
+  good-none (w, e) (otherView r q m i d) = d (one-view n (lentHeard lent) (good-facts n (lentReplies lent) e .lawful) (heard r) (heard q) (Memᴰ·map heard m) (Memᴰ·map heard i))
+  good-none (w, e) (badResult r m f) = impossible (every-one resultRead (lentReplies lent) (good-facts n (lentReplies lent) e .read) r m) f
 
   -- 3, or not
-  pub bad-or-good : (BadLent n s × (countBytes n s ≡ refused 3)) ⊎ GoodLent n s
-  bad-or-good = go (same? (length s) (15 * (length s / 15))) (cases (areBad n (lentReplies s)))
+  pub bad-or-good : (BadLent n lent × (countLent n lent ≡ refused 3)) ⊎ GoodLent n lent
+  bad-or-good = go (whole-or-cut n lent) (cases (areBad n (lentReplies lent)))
     where
-      go : (length s ≡ 15 * (length s / 15)) ⊎ (eqb (length s) (15 * (length s / 15)) ≡ false) → (areBad n (lentReplies s) ≡ true) ⊎ (areBad n (lentReplies s) ≡ false) → (BadLent n s × (countBytes n s ≡ refused 3)) ⊎ GoodLent n s
-      go (inr e) b = let f = eqb-false _ _ e in inl (cut (λ w. f (whole-length w)), count-broken n s f)
-      go (inl e) (inl b) = inl (bad-found b, count-whole n s e ∙ bad-refused n (lentReplies s) b)
-      go (inl e) (inr b) = inr ((length s / 15, e), b)
+      go : Whole lent ⊎ ((Whole lent → ⊥) × (countLent n lent ≡ refused 3)) → (areBad n (lentReplies lent) ≡ true) ⊎ (areBad n (lentReplies lent) ≡ false) → (BadLent n lent × (countLent n lent ≡ refused 3)) ⊎ GoodLent n lent
+      go (inr (c, e)) b = inl (cut c, e)
+      go (inl w) (inl b) = inl (bad-found b, whole-lent n lent w ∙ bad-refused n (lentReplies lent) b)
+      go (inl w) (inr b) = inr (w, b)
 
-  -- whole replies are counted
-  pub whole-lent : Whole s → countBytes n s ≡ countOf n (lentReplies s)
-  whole-lent w = count-whole n s (whole-length w)
-
-  -- and what is not bad is counted by `rules`
-  pub good-lent : GoodLent n s → countBytes n s ≡ counted n (lentHeard s)
-  good-lent (w, e) = whole-lent w ∙ good-counted n (lentReplies s) e
+  -- what is not bad is counted by `rules`
+  pub good-lent : GoodLent n lent → countLent n lent ≡ counted n (lentHeard lent)
+  good-lent (w, e) = whole-lent n lent w ∙ good-counted n (lentReplies lent) e
 
 -- ---- 6
 
@@ -213,31 +236,31 @@ agreed-by hs r l = go (cases (any (λ h. sameResult r (h .result)) hs))
     go (inl a) = let (g, m, e) = any-some (λ h. sameResult r (h .result)) hs a in (g, m, same-result r (g .result) e)
     go (inr a) = let z = count-none (λ h. sameResult r (h .result)) hs a in absurd (omega arith)
 
-module _ (n : ℕ) (s : List ℕ) where
+module _ (n : ℕ) (lent : Lent) where
   -- replies contradict each other by one of the two circumstances
-  against-found : contradicting n (lentHeard s) ≡ true → Contradicting n s
+  against-found : contradicting n (lentHeard lent) ≡ true → Contradicting n lent
   unfolding unequalFinalHeard fastBesideFinal isFast somePair
   against-found c = whichever _ _ c two one
     where
-      two : any (λ h. any (λ g. both (both (h .isFinal) (g .isFinal)) (not (sameResult (h .result) (g .result)))) (lentHeard s)) (lentHeard s) ≡ true → Contradicting n s
+      two : any (λ h. any (λ g. both (both (h .isFinal) (g .isFinal)) (not (sameResult (h .result) (g .result)))) (lentHeard lent)) (lentHeard lent) ≡ true → Contradicting n lent
       two t =
-          let (h, m, u) = any-some _ (lentHeard s) t in
-          let (g, i, v) = any-some _ (lentHeard s) u in
+          let (h, m, u) = any-some _ (lentHeard lent) t in
+          let (g, i, v) = any-some _ (lentHeard lent) u in
           finals h g m i (both-left _ _ (both-left _ _ v)) (both-right _ _ (both-left _ _ v)) (other-result _ _ (both-right _ _ v))
 
-      one : any (λ h. any (λ g. both (both (h .isFinal) (leb (fastCount (fOf n)) (agreeing (lentHeard s) (g .result)))) (not (sameResult (h .result) (g .result)))) (lentHeard s)) (lentHeard s) ≡ true → Contradicting n s
+      one : any (λ h. any (λ g. both (both (h .isFinal) (leb (fastCount (fOf n)) (agreeing (lentHeard lent) (g .result)))) (not (sameResult (h .result) (g .result)))) (lentHeard lent)) (lentHeard lent) ≡ true → Contradicting n lent
       one t =
-          let (h, m, u) = any-some _ (lentHeard s) t in
-          let (g, i, v) = any-some _ (lentHeard s) u in
+          let (h, m, u) = any-some _ (lentHeard lent) t in
+          let (g, i, v) = any-some _ (lentHeard lent) u in
           fastAgainst h (g .result) m (both-left _ _ (both-left _ _ v)) (leb-true _ _ (both-right _ _ (both-left _ _ v))) (other-result _ _ (both-right _ _ v))
 
   -- and else by none
-  clear-none : contradicting n (lentHeard s) ≡ false → Contradicting n s → ⊥
+  clear-none : contradicting n (lentHeard lent) ≡ false → Contradicting n lent → ⊥
   unfolding unequalFinalHeard fastBesideFinal isFast both
-  clear-none c (finals h g m i p q d) = d (not-other-result _ _ (rw (p, q) at (pair-none _ (lentHeard s) (either-left _ _ c) h g m i)))
+  clear-none c (finals h g m i p q d) = d (not-other-result _ _ (rw (p, q) at (pair-none _ (lentHeard lent) (either-left _ _ c) h g m i)))
   clear-none c (fastAgainst h r m p l d) =
-      let (g, i, e) = agreed-by (lentHeard s) r (omega arith) in
-      d (not-other-result _ _ (rw (p, ← e, le-leb _ _ l) at (pair-none _ (lentHeard s) (either-right _ _ c) h g m i)))
+      let (g, i, e) = agreed-by (lentHeard lent) r (omega arith) in
+      d (not-other-result _ _ (rw (p, ← e, le-leb _ _ l) at (pair-none _ (lentHeard lent) (either-right _ _ c) h g m i)))
 
 -- ---- 0
 
@@ -252,49 +275,49 @@ decided-number n hs = go (fastOf n hs) (ltb (length hs) (quorum (fOf n))) (final
     go none false (some r) = refl
     go none false none = refl
 
-module _ (n : ℕ) (s : List ℕ) where
+module _ (n : ℕ) (lent : Lent) where
   -- replies that are not bad, with a contradiction
-  against-number : GoodLent n s → contradicting n (lentHeard s) ≡ true → countedNumber (countBytes n s) ≡ 6
-  against-number (w, e) c = rw (whole-lent n s w, contradicted n (lentReplies s) e c)
+  against-number : GoodLent n lent → contradicting n (lentHeard lent) ≡ true → countedNumber (countLent n lent) ≡ 6
+  against-number (w, e) c = rw (whole-lent n lent w, contradicted n (lentReplies lent) e c)
 
   -- and without one
-  clear-number : GoodLent n s → contradicting n (lentHeard s) ≡ false → countedNumber (countBytes n s) ≡ 0
-  clear-number (w, e) c = rw (whole-lent n s w, clear n (lentReplies s) e c, decided-number)
+  clear-number : GoodLent n lent → contradicting n (lentHeard lent) ≡ false → countedNumber (countLent n lent) ≡ 0
+  clear-number (w, e) c = rw (whole-lent n lent w, clear n (lentReplies lent) e c, decided-number)
 
   -- ---- one of the ways applies
 
-  pub count-way : CountWay n s (countedNumber (countBytes n s))
-  count-way = go (bad-or-good n s) (cases (contradicting n (lentHeard s)))
+  pub count-way : CountWay n lent (countedNumber (countLent n lent))
+  count-way = go (bad-or-good n lent) (cases (contradicting n (lentHeard lent)))
     where
-      go : (BadLent n s × (countBytes n s ≡ refused 3)) ⊎ GoodLent n s → (contradicting n (lentHeard s) ≡ true) ⊎ (contradicting n (lentHeard s) ≡ false) → CountWay n s (countedNumber (countBytes n s))
+      go : (BadLent n lent × (countLent n lent ≡ refused 3)) ⊎ GoodLent n lent → (contradicting n (lentHeard lent) ≡ true) ⊎ (contradicting n (lentHeard lent) ≡ false) → CountWay n lent (countedNumber (countLent n lent))
       go (inl (b, e)) c = rw e (bad b)
-      go (inr g) (inl c) = rw (against-number g c) (against (good-none n s g) (against-found n s c))
-      go (inr g) (inr c) = rw (clear-number g c) (done (good-none n s g) (clear-none n s c))
+      go (inr g) (inl c) = rw (against-number g c) (against (good-none n lent g) (against-found n lent c))
+      go (inr g) (inr c) = rw (clear-number g c) (done (good-none n lent g) (clear-none n lent c))
 
   -- ---- and a way that applies is the call's: its number is given where its circumstances are
 
-  pub way-exactly : {k : ℕ} → CountWay n s k → countedNumber (countBytes n s) ≡ k
-  way-exactly w = go (bad-or-good n s) (cases (contradicting n (lentHeard s))) w
+  pub way-exactly : {k : ℕ} → CountWay n lent k → countedNumber (countLent n lent) ≡ k
+  way-exactly w = go (bad-or-good n lent) (cases (contradicting n (lentHeard lent))) w
     where
-      go : {k : ℕ} → (BadLent n s × (countBytes n s ≡ refused 3)) ⊎ GoodLent n s → (contradicting n (lentHeard s) ≡ true) ⊎ (contradicting n (lentHeard s) ≡ false) → CountWay n s k → countedNumber (countBytes n s) ≡ k
+      go : {k : ℕ} → (BadLent n lent × (countLent n lent ≡ refused 3)) ⊎ GoodLent n lent → (contradicting n (lentHeard lent) ≡ true) ⊎ (contradicting n (lentHeard lent) ≡ false) → CountWay n lent k → countedNumber (countLent n lent) ≡ k
       go (inl (b, e)) c (bad d) = rw e
       go (inl (b, e)) c (against f d) = absurd (f b)
       go (inl (b, e)) c (done f d) = absurd (f b)
-      go (inr g) c (bad b) = absurd (good-none n s g b)
+      go (inr g) c (bad b) = absurd (good-none n lent g b)
       go (inr g) (inl c) (against f d) = against-number g c
-      go (inr g) (inl c) (done f d) = absurd (d (against-found n s c))
-      go (inr g) (inr c) (against f d) = absurd (clear-none n s c d)
+      go (inr g) (inl c) (done f d) = absurd (d (against-found n lent c))
+      go (inr g) (inr c) (against f d) = absurd (clear-none n lent c d)
       go (inr g) (inr c) (done f d) = clear-number g c
 
   -- a number is given exactly in its circumstances, for every number at once
-  pub count-way-exactly : (k : ℕ) → (countedNumber (countBytes n s) ≡ k → CountWay n s k) × (CountWay n s k → countedNumber (countBytes n s) ≡ k)
+  pub count-way-exactly : (k : ℕ) → (countedNumber (countLent n lent) ≡ k → CountWay n lent k) × (CountWay n lent k → countedNumber (countLent n lent) ≡ k)
   count-way-exactly k = (λ e. rw e at count-way, way-exactly)
 
   -- and no other number is given: 0, 3 or 6
-  pub count-numbers : countedNumber (countBytes n s) ∈ (0 ∷ 3 ∷ 6 ∷ [])
+  pub count-numbers : countedNumber (countLent n lent) ∈ (0 ∷ 3 ∷ 6 ∷ [])
   count-numbers = go count-way
     where
-      go : {k : ℕ} → CountWay n s k → k ∈ (0 ∷ 3 ∷ 6 ∷ [])
+      go : {k : ℕ} → CountWay n lent k → k ∈ (0 ∷ 3 ∷ 6 ∷ [])
       go (bad b) = search places depth 11
       go (against f c) = search places depth 11
       go (done f c) = search places depth 11

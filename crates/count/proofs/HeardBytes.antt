@@ -1,13 +1,13 @@
--- Replies as bytes, 15 each: what was written is read back and counted as it stands, and a walk over the bytes reads one reply after the other.
-use mathlib.Core.Path.{_≡_, refl, ap, _∙_}
+-- Replies as bytes, 15 each: what was written is read back and counted as the list of records is, and a walk over the bytes reads one reply after the other.
+use mathlib.Core.Path.{_≡_, refl, sym, ap, subst, _∙_}
 use mathlib.Core.Bool.{Bool, true, false}
 use mathlib.Core.Logic.{_⊎_, inl, inr}
-use mathlib.Core.List.{List, [], _∷_, _++_, map, List·Memᴰ·head, List·Memᴰ·tail}
+use mathlib.Core.List.{List, [], _∷_, _++_, map, List·Memᴰ·head, List·Memᴰ·tail, List·Memᴰ·cases-cons, List·Memᴰ·not-nil}
 use Prim.Native.Nat.{ℕ, zero, suc, _+_, _-_, _*_, _/_, _^_, _≤_, _<_}
 use native.Mathlib.Nat.{add-zero}
 use native.Mathlib.Omega.{arith}
 use lib.Dec.{eqb, leb}
-use lib.ListN.{length, drop, length-append}
+use lib.ListN.{length, drop, length-append, length-map}
 use lib.Seq.{drop-at, drop-drop}
 use borrow.Author.Tests.{eqb-false, eq-eqb, ne-eqb}
 use Rattle.wire.specs.Numbers.{numberAt}
@@ -15,7 +15,7 @@ use Rattle.wire.proofs.Numbers.{length-bytes}
 use Rattle.wire.proofs.Stands.{stands-between}
 use Rattle.wire.proofs.Fields.{field-read, last-read}
 use Rattle.rules.specs.Tests.{bit, every}
-use Rattle.rules.specs.Tables.{resultCode, resultRetry, resultByRule}
+use Rattle.rules.specs.Tables.{resultByRule}
 use Rattle.rules.specs.Numbers.{Number.badMessage, numberCode}
 use Rattle.rules.specs.Count as rules
 use Rattle.rules.proofs.Logic.{same?, both-true}
@@ -23,7 +23,7 @@ use Rattle.rules.proofs.Lists.{_∈_}
 use Rattle.message.proofs.Forms.{result-small, result-read}
 use Rattle.replies.specs.declared.held.Reply.{Reply}
 use Rattle.replies.specs.Heard.{resultRead, heard, allHeard}
-use Rattle.count.specs.Calls.{countOf, heardBytes, allBytes, replyAt, repliesOf, countBytes}
+use Rattle.count.specs.Calls.{countOf, replyOf, replyBytes, repliesBytes, allBytes, replyAt, repliesOf, countBytes}
 use Rattle.count.proofs.Counts.{many-bad}
 
 -- ---- a walk over the bytes
@@ -76,15 +76,60 @@ count-long n s l = go (same? (length s) (15 * (length s / 15)))
 -- ---- replies that were written
 
 -- 15 bytes a reply
-length-heard : (h : rules.Heard) → length (heardBytes h) ≡ 15
-unfolding heardBytes
-length-heard h = simp (length-append, length-bytes)
+length-reply : (r : Reply) → length (replyBytes r) ≡ 15
+unfolding replyBytes
+length-reply r = simp (length-append, length-bytes)
 
 -- and as many for each of a list
-pub length-all : (hs : List rules.Heard) → length (allBytes hs) ≡ 15 * length hs
-unfolding allBytes
+length-all : (rs : List Reply) → length (repliesBytes rs) ≡ 15 * length rs
+unfolding repliesBytes
 length-all [] = refl
-length-all (h ∷ hs) = rw (length-append, length-heard h, length-all hs) (omega arith)
+length-all (r ∷ rs) = rw (length-append, length-reply r, length-all rs) (omega arith)
+
+-- each number of a record fits its field, as C's types have it
+pub record FieldsFit (r : Reply) : Type 0 where
+  pub boxnumber : r .boxnumber < 256
+  pub view : r .view < 2 ^ 32
+  pub result : r .result < 256
+  pub retry : r .retry < 2 ^ 64
+  pub finality : r .finality < 256
+
+-- so it is with all of a list
+abbrev pub AllFit : List Reply → Type 0
+AllFit rs = (r : Reply) → r ∈ rs → FieldsFit r
+
+-- a reply that was written is read
+pub reply-read : (r : Reply) (rest : List ℕ) → FieldsFit r → replyAt (replyBytes r ++ rest) 0 ≡ r
+unfolding replyAt replyBytes
+reply-read r rest k =
+    let s : List ℕ = replyBytes r ++ rest in
+    let a = field-read 1 (r .boxnumber) s 0 1 _ (k .boxnumber) refl (stands-between [] (replyBytes r) rest 0 refl) in
+    let b = field-read 4 (r .view) s 1 5 _ (k .view) refl (a .1) in
+    let c = field-read 1 (r .result) s 5 6 _ (k .result) refl (b .1) in
+    let d = field-read 8 (r .retry) s 6 14 _ (k .retry) refl (c .1) in
+    let e = last-read 1 (r .finality) s 14 (k .finality) (d .1) in
+    rw (a .0, b .0, c .0, d .0, e)
+
+-- and so are all of a list
+pub replies-read : (rs : List Reply) → AllFit rs → repliesOf (length rs) (repliesBytes rs) ≡ rs
+unfolding repliesOf repliesBytes
+replies-read [] k = refl
+replies-read (r ∷ rs) k =
+    rw (
+      reply-read r (repliesBytes rs) (k r (List·Memᴰ·head refl)),
+      drop-at (replyBytes r) (repliesBytes rs) 15 (length-reply r),
+      replies-read rs (λ q m. k q (List·Memᴰ·tail m)),
+    )
+
+-- they are as many as 15 goes into the bytes, with nothing left
+pub bytes-whole : (rs : List Reply) → (length (repliesBytes rs) ≡ 15 * (length (repliesBytes rs) / 15)) × (length (repliesBytes rs) / 15 ≡ length rs)
+bytes-whole rs = let l : length (repliesBytes rs) ≡ 15 * length rs = length-all rs in (omega arith, omega arith)
+
+-- a list of records and the same replies as bytes have the same answer
+pub same-count : (n : ℕ) (rs : List Reply) → AllFit rs → countBytes n (repliesBytes rs) ≡ countOf n rs
+same-count n rs k = let (w, e) = bytes-whole rs in count-whole n (repliesBytes rs) w ∙ rw (e, replies-read rs k)
+
+-- ---- replies that were heard
 
 -- what is heard fits its bytes, and its result is by the rules
 pub record Fits (h : rules.Heard) : Type 0 where
@@ -96,50 +141,30 @@ pub record Fits (h : rules.Heard) : Type 0 where
 abbrev pub Lawful : List rules.Heard → Type 0
 Lawful hs = (h : rules.Heard) → h ∈ hs → Fits h
 
--- what is heard, in plain numbers
-abbrev pub replyOf : rules.Heard → Reply
-replyOf h = record {
-  boxnumber = h .box;
-  view = h .view;
-  result = resultCode (h .result);
-  retry = resultRetry (h .result);
-  finality = bit (h .isFinal);
-}
-
--- a reply that was written is read
-pub reply-read : (h : rules.Heard) (rest : List ℕ) → Fits h → replyAt (heardBytes h ++ rest) 0 ≡ replyOf h
-unfolding replyAt heardBytes
-reply-read h rest k =
-    let s : List ℕ = heardBytes h ++ rest in
-    let small = result-small (h .result) (k .result) in
-    let a = field-read 1 (h .box) s 0 1 _ (k .box) refl (stands-between [] (heardBytes h) rest 0 refl) in
-    let b = field-read 4 (h .view) s 1 5 _ (k .view) refl (a .1) in
-    let c = field-read 1 (resultCode (h .result)) s 5 6 _ (small .0) refl (b .1) in
-    let d = field-read 8 (resultRetry (h .result)) s 6 14 _ (small .1) refl (c .1) in
-    let e = last-read 1 (bit (h .isFinal)) s 14 (bit-small (h .isFinal)) (d .1) in
-    rw (a .0, b .0, c .0, d .0, e)
-  where
-    bit-small : (b : Bool) → bit b < 256 ^ 1
-    bit-small true = omega arith
-    bit-small false = omega arith
-
--- and so are all of a list
-replies-read : (hs : List rules.Heard) → Lawful hs → repliesOf (length hs) (allBytes hs) ≡ map replyOf hs
-unfolding repliesOf allBytes
-replies-read [] k = refl
-replies-read (h ∷ hs) k =
-    rw (
-      reply-read h (allBytes hs) (k h (List·Memᴰ·head refl)),
-      drop-at (heardBytes h) (allBytes hs) 15 (length-heard h),
-      replies-read hs (λ g m. k g (List·Memᴰ·tail m)),
-    )
-
 -- "final or not" is 1 or 0
 final-read : (b : Bool) → (eqb (bit b) 1 ≡ b) × (leb (bit b) 1 ≡ true)
 final-read true = (refl, refl)
 final-read false = (refl, refl)
 
--- the numbers of what is heard say it
+-- the numbers of what is heard fit their fields
+heard-fits : (h : rules.Heard) → Fits h → FieldsFit (replyOf h)
+heard-fits h k =
+    let small = result-small (h .result) (k .result) in
+    record { boxnumber = k .box; view = k .view; result = small .0; retry = small .1; finality = bit-small (h .isFinal) }
+  where
+    bit-small : (b : Bool) → bit b < 256
+    bit-small true = omega arith
+    bit-small false = omega arith
+
+all-fit : (hs : List rules.Heard) → Lawful hs → AllFit (map replyOf hs)
+all-fit [] k r m = absurd (List·Memᴰ·not-nil m)
+all-fit (h ∷ hs) k r m = go (List·Memᴰ·cases-cons m) (all-fit hs (λ g j. k g (List·Memᴰ·tail j)) r)
+  where
+    go : (r ≡ replyOf h) ⊎ (r ∈ map replyOf hs) → (r ∈ map replyOf hs → FieldsFit r) → FieldsFit r
+    go (inl e) below = subst FieldsFit (sym e) (heard-fits h (k h (List·Memᴰ·head refl)))
+    go (inr i) below = below i
+
+-- and they say it
 said-again : (h : rules.Heard) → Fits h → (heard (replyOf h) ≡ h) × (resultRead (replyOf h) ≡ true)
 unfolding resultRead
 said-again h k =
@@ -158,18 +183,15 @@ unfolding every
 none-bad [] k = refl
 none-bad (h ∷ hs) k = both-true (said-again h (k h (List·Memᴰ·head refl)) .1) (none-bad hs (λ g m. k g (List·Memᴰ·tail m)))
 
--- replies that were written are read back
-pub bytes-read : (hs : List rules.Heard) → Lawful hs → allHeard (repliesOf (length hs) (allBytes hs)) ≡ hs
-bytes-read hs k = rw (replies-read hs k) (all-said hs k)
-
--- with no bad result
-pub results-read : (hs : List rules.Heard) → Lawful hs → every resultRead (repliesOf (length hs) (allBytes hs)) ≡ true
-results-read hs k = rw (replies-read hs k) (none-bad hs k)
-
--- a list of replies written as bytes is counted as `rules` counts the list
-pub count-of-bytes : (n : ℕ) (hs : List rules.Heard) → Lawful hs → countBytes n (allBytes hs) ≡ rules.counted n hs
+-- so records of what is heard are counted as `rules` counts it
+pub count-of-records : (n : ℕ) (hs : List rules.Heard) → Lawful hs → countOf n (map replyOf hs) ≡ rules.counted n hs
 unfolding countOf
-count-of-bytes n hs k =
-    let l : length (allBytes hs) ≡ 15 * length hs = length-all hs in
-    let e : length (allBytes hs) / 15 ≡ length hs = omega arith in
-    count-whole n (allBytes hs) (omega arith) ∙ rw (e, results-read hs k, bytes-read hs k)
+count-of-records n hs k = rw (none-bad hs k, all-said hs k)
+
+-- replies that were written as bytes are read back
+pub bytes-read : (hs : List rules.Heard) → Lawful hs → allHeard (repliesOf (length hs) (allBytes hs)) ≡ hs
+bytes-read hs k = rw (← length-map hs replyOf, replies-read (map replyOf hs) (all-fit hs k)) (all-said hs k)
+
+-- and counted as `rules` counts the list
+pub count-of-bytes : (n : ℕ) (hs : List rules.Heard) → Lawful hs → countBytes n (allBytes hs) ≡ rules.counted n hs
+count-of-bytes n hs k = same-count n (map replyOf hs) (all-fit hs k) ∙ count-of-records n hs k

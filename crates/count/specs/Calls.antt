@@ -1,6 +1,6 @@
--- Replies that are counted, as they cross the boundary, 15 bytes a reply: box 1, view 4, result 1, retry stamp 8, final 1.
+-- Replies that are counted, as they cross the boundary: as a list of small records, or 15 bytes a reply.
 use mathlib.Core.Bool.{cond}
-use mathlib.Core.List.{List, [], _∷_, _++_}
+use mathlib.Core.List.{List, [], _∷_, _++_, map}
 use Prim.Native.Nat.{ℕ, zero, suc, _+_, _*_, _/_}
 use lib.Dec.{eqb}
 use lib.ListN.{length, drop}
@@ -14,15 +14,28 @@ use Rattle.replies.specs.Heard.{resultRead, allHeard}
 
 -- ---- replies to bytes
 
-unfoldable pub heardBytes : rules.Heard → List ℕ
-heardBytes h =
-    bytes 1 (h .box)
-    ++ (bytes 4 (h .view) ++ (bytes 1 (resultCode (h .result)) ++ (bytes 8 (resultRetry (h .result)) ++ bytes 1 (bit (h .isFinal)))))
+-- what is heard, in plain numbers
+abbrev pub replyOf : rules.Heard → Reply
+replyOf h = record {
+  boxnumber = h .box;
+  view = h .view;
+  result = resultCode (h .result);
+  retry = resultRetry (h .result);
+  finality = bit (h .isFinal);
+}
+
+-- box 1, view 4, result 1, retry stamp 8, final 1
+unfoldable pub replyBytes : Reply → List ℕ
+replyBytes r = bytes 1 (r .boxnumber) ++ (bytes 4 (r .view) ++ (bytes 1 (r .result) ++ (bytes 8 (r .retry) ++ bytes 1 (r .finality))))
 
 -- one after the other
-unfoldable pub allBytes : List rules.Heard → List ℕ
-allBytes [] = []
-allBytes (h ∷ hs) = heardBytes h ++ allBytes hs
+unfoldable pub repliesBytes : List Reply → List ℕ
+repliesBytes [] = []
+repliesBytes (r ∷ rs) = replyBytes r ++ repliesBytes rs
+
+-- all that is heard
+abbrev pub allBytes : List rules.Heard → List ℕ
+allBytes hs = repliesBytes (map replyOf hs)
 
 -- ---- bytes to replies
 
