@@ -6,8 +6,8 @@
  * What a call promises stands above it, and holds where all of this does:
  *
  * - The machine is an x86-64, calls go by the System V convention, and size_t has 64 bits.
- * - A pointer is valid for as many bytes as the length behind it says: for reading, and where it is not const for
- *   writing too. A null pointer has length 0.
+ * - A pointer is valid for as many bytes as the length behind it says, and one to records for as many records, aligned
+ *   as C aligns them: for reading, and where it is not const for writing too. A null pointer has length 0.
  * - Two buffers lent to one call do not overlap.
  * - Nobody else touches a lent buffer during a call: one call at a time for each buffer. Calls on other buffers may run
  *   at the same time.
@@ -21,12 +21,17 @@
 #include <stddef.h>
 #include <stdint.h>
 
+/* For this file alone: C and C++ have other words for the same. */
 #ifdef __cplusplus
-static_assert(sizeof(size_t) == 8, "libsprondilu.a takes lengths of 64 bits");
+#define SPRONDILU_ASSERT(holds, why) static_assert(holds, why)
+#define SPRONDILU_ALIGN_OF(type) alignof(type)
 extern "C" {
 #else
-_Static_assert(sizeof(size_t) == 8, "libsprondilu.a takes lengths of 64 bits");
+#define SPRONDILU_ASSERT(holds, why) _Static_assert(holds, why)
+#define SPRONDILU_ALIGN_OF(type) _Alignof(type)
 #endif
+
+SPRONDILU_ASSERT(sizeof(size_t) == 8, "libsprondilu.a takes lengths of 64 bits");
 
 /*
  * The numbers, each given exactly in the circumstances above it. The first that applies wins, in this order: 1, 2, 3, 4,
@@ -85,7 +90,7 @@ uint8_t sprondilu_fresh(uint8_t *table, size_t table_len, uint8_t n, uint8_t box
  */
 uint64_t sprondilu_valid(const uint8_t *bytes, size_t bytes_len);
 
-/* The number in an answer of 64 bits, that of sprondilu_valid or of sprondilu_count. */
+/* The number in an answer of 64 bits, that of sprondilu_valid, sprondilu_count or sprondilu_count_records. */
 #define SPRONDILU_NUMBER_OF(answer) ((answer) & 0xffu)
 
 /* The image's length in an answer of sprondilu_valid whose number is SPRONDILU_DONE. */
@@ -142,7 +147,7 @@ uint8_t sprondilu_answer(uint8_t *table, size_t table_len, const uint8_t *messag
  */
 uint8_t sprondilu_merge(const uint8_t *run, size_t run_len, uint32_t view, uint8_t *out, size_t out_len);
 
-/* The codes of 01's four results, in a reply that is counted and in an answer of sprondilu_count. */
+/* The codes of 01's four results, in a reply that is counted and in an answer of either count. */
 #define SPRONDILU_OK 1
 #define SPRONDILU_ABORT 2
 #define SPRONDILU_ABSTAIN 3
@@ -192,7 +197,42 @@ uint8_t sprondilu_merge(const uint8_t *run, size_t run_len, uint32_t view, uint8
  */
 uint64_t sprondilu_count(uint8_t n, const uint8_t *replies, size_t replies_len);
 
-/* The kind of an answer of sprondilu_count whose number is SPRONDILU_DONE, and the kinds. */
+/*
+ * One reply as sprondilu_count_records takes it. From the 24 bytes of a reply of sprondilu_answer to message 1 or 2 whose
+ * number is SPRONDILU_DONE: `box` is byte 2; `view` is bytes 4 to 7 and `retry` bytes 16 to 23, as numbers whose first byte
+ * counts most; byte 3 is the state byte: if it is 1 to 4 it is `result`, and `is_final` is 0; if it is 5 to 8 `result` is 4
+ * less, and `is_final` is 1.
+ */
+typedef struct sprondilu_record {
+    uint8_t box;
+    uint32_t view;
+    uint8_t result;
+    uint64_t retry;
+    uint8_t is_final;
+} sprondilu_record;
+
+/* C's own layout on the machine of the library, which reads the fields there. */
+SPRONDILU_ASSERT(offsetof(sprondilu_record, box) == 0, "the box of a record is its first byte");
+SPRONDILU_ASSERT(offsetof(sprondilu_record, view) == 4, "the view of a record is at byte 4");
+SPRONDILU_ASSERT(offsetof(sprondilu_record, result) == 8, "the result of a record is at byte 8");
+SPRONDILU_ASSERT(offsetof(sprondilu_record, retry) == 16, "the retry stamp of a record is at byte 16");
+SPRONDILU_ASSERT(offsetof(sprondilu_record, is_final) == 24, "whether a record is final is at byte 24");
+SPRONDILU_ASSERT(sizeof(sprondilu_record) == 32, "a record has 32 bytes");
+SPRONDILU_ASSERT(SPRONDILU_ALIGN_OF(sprondilu_record) == 8, "a record is aligned to 8 bytes");
+
+/*
+ * The count of sprondilu_count, of replies that are lent as an array of records instead of bytes. records_len is how many
+ * there are, not how many bytes: any number, also none.
+ *
+ * The answer is the one that sprondilu_count gives for the same replies in the same order, SPRONDILU_COUNTED_BYTES each
+ * with the numbers of these fields: every bit of it, refusals too, and the same may be done with it. A number that fits
+ * its field may stand there, also one that breaks a rule. There are no replies cut short here, so no length is refused for
+ * that; more than seven records are SPRONDILU_BAD_MESSAGE, whatever they are, since no group has so many boxes.
+ * The padding of a record, its bytes that are part of no field, is not looked at. No byte changes.
+ */
+uint64_t sprondilu_count_records(uint8_t n, const sprondilu_record *records, size_t records_len);
+
+/* The kind of an answer of either count whose number is SPRONDILU_DONE, and the kinds. */
 #define SPRONDILU_KIND_OF(answer) ((answer) >> 8 & 0x3u)
 #define SPRONDILU_WAIT 0
 #define SPRONDILU_FAST 1
@@ -201,6 +241,9 @@ uint64_t sprondilu_count(uint8_t n, const uint8_t *replies, size_t replies_len);
 /* The result in such an answer whose kind is SPRONDILU_FAST or SPRONDILU_SLOW, and its retry stamp. */
 #define SPRONDILU_RESULT_OF(answer) ((answer) >> 10 & 0x7u)
 #define SPRONDILU_RETRY_OF(answer) ((answer) >> 16)
+
+#undef SPRONDILU_ASSERT
+#undef SPRONDILU_ALIGN_OF
 
 #ifdef __cplusplus
 }

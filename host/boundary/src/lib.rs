@@ -2,6 +2,8 @@
 //! source, so there is one for each call of `include/sprondilu.h` and nothing else.
 
 mod library {
+    use super::Record;
+
     extern "C" {
         pub fn sprondilu_fresh(table: *mut u8, table_len: usize, n: u8, box_number: u8) -> u8;
         pub fn sprondilu_valid(bytes: *const u8, bytes_len: usize) -> u64;
@@ -21,6 +23,7 @@ mod library {
             out_len: usize,
         ) -> u8;
         pub fn sprondilu_count(n: u8, replies: *const u8, replies_len: usize) -> u64;
+        pub fn sprondilu_count_records(n: u8, records: *const Record, records_len: usize) -> u64;
     }
 }
 
@@ -70,4 +73,34 @@ pub fn merge(run: &[u8], view: u32, out: &mut [u8]) -> u8 {
 pub fn count(n: u8, replies: &[u8]) -> u64 {
     // A slice is valid for its length, and the call only reads.
     unsafe { library::sprondilu_count(n, replies.as_ptr(), replies.len()) }
+}
+
+/// One reply as C lays out its `sprondilu_record`, with padding behind the box, the result and the final byte.
+#[repr(C)]
+#[derive(Clone, Copy, Debug, PartialEq, Eq)]
+pub struct Record {
+    pub box_number: u8,
+    pub view: u32,
+    pub result: u8,
+    pub retry: u64,
+    pub is_final: u8,
+}
+
+/// How many words of 8 bytes a record takes.
+pub const RECORD_WORDS: usize = 4;
+
+// Records are seen in words below.
+const _: () = assert!(std::mem::size_of::<Record>() == 8 * RECORD_WORDS);
+const _: () = assert!(std::mem::align_of::<Record>() == std::mem::align_of::<u64>());
+
+/// The records that whole words stand for, four each, so that their padding can be set and looked at too.
+pub fn records_in(words: &[u64]) -> &[Record] {
+    // A record is as long as its words and aligned as they are, and any bytes are one.
+    unsafe { std::slice::from_raw_parts(words.as_ptr().cast(), words.len() / RECORD_WORDS) }
+}
+
+/// The coordinator's count of replies lent as records: the answer as the call codes it.
+pub fn count_records(n: u8, records: &[Record]) -> u64 {
+    // A slice is valid for its length, which counts records, and the call only reads.
+    unsafe { library::sprondilu_count_records(n, records.as_ptr(), records.len()) }
 }

@@ -1,7 +1,7 @@
 /*
  * The worked example of the C boundary: a fresh table in a lent buffer, the image in it, the paper's message answered by
- * that box, the merge of its table and another box's fresh one, the count of three boxes' replies, and refusals of each
- * call.
+ * that box, the merge of its table and another box's fresh one, the count of three boxes' replies as bytes and as records,
+ * and refusals of each call.
  * It prints what the calls answered; whoever runs it compares that with the paper.
  */
 #include "sprondilu.h"
@@ -23,6 +23,9 @@ _Static_assert(_Generic(&sprondilu_merge, uint8_t (*)(const uint8_t *, size_t, u
                "sprondilu_merge has another type");
 _Static_assert(_Generic(&sprondilu_count, uint64_t (*)(uint8_t, const uint8_t *, size_t): 1, default: 0),
                "sprondilu_count has another type");
+_Static_assert(_Generic(&sprondilu_count_records, uint64_t (*)(uint8_t, const sprondilu_record *, size_t): 1,
+                        default: 0),
+               "sprondilu_count_records has another type");
 
 /* What stands in the buffer before a call, so that every byte written is seen. */
 #define DIRT 0xee
@@ -32,6 +35,8 @@ static uint8_t reply[SPRONDILU_REPLY_BYTES + 1];
 static uint8_t run[200];
 static size_t run_length = 0;
 static uint8_t replies[3 * SPRONDILU_COUNTED_BYTES];
+/* The same replies, and more than any group has. */
+static sprondilu_record records[8];
 
 /* The paper's message 1: stamp 65,537 and one write, register 5, value 7. A byte follows it that is no part of it. */
 static const uint8_t message[21] = {1, 0, 0, 0, 0, 0, 1, 0, 1, 0, 1, 5, 0, 0, 0, 0, 0, 0, 0, 7, 0};
@@ -132,6 +137,16 @@ static void merge_all(void)
     print_bytes(table, bytes_changed());
 }
 
+/* A number whose first byte counts most. */
+static uint64_t number_in(const uint8_t *bytes, size_t length)
+{
+    uint64_t number = 0;
+    for (size_t place = 0; place < length; place++) {
+        number = number << 8 | bytes[place];
+    }
+    return number;
+}
+
 /* What a reply to message 1 or 2 says, as it is counted. */
 static void lay_reply(uint8_t *counted)
 {
@@ -143,29 +158,58 @@ static void lay_reply(uint8_t *counted)
     counted[14] = is_final;
 }
 
-/* The number is looked at first, then the kind, and only then the result. */
+/* The same as a record, whatever its padding holds. */
+static void fill_record(sprondilu_record *record)
+{
+    record->box = reply[2];
+    record->view = (uint32_t)number_in(reply + 4, 4);
+    record->is_final = reply[3] > SPRONDILU_RETRY;
+    record->result = record->is_final ? (uint8_t)(reply[3] - SPRONDILU_RETRY) : reply[3];
+    record->retry = number_in(reply + 16, 8);
+}
+
+/* The answer to records, of which no byte may change, padding or not. */
+static uint64_t count_records(uint8_t n, const sprondilu_record *lent, size_t length)
+{
+    static sprondilu_record before[sizeof records / sizeof records[0]];
+    memcpy(before, records, sizeof records);
+    uint64_t counted = sprondilu_count_records(n, lent, length);
+    if (memcmp(before, records, sizeof records) != 0) {
+        printf("the records changed\n");
+    }
+    return counted;
+}
+
+/* The number is looked at first, then the kind, and only then the result. Whole replies are counted as records too. */
 static void count(const char *what, uint8_t n, const uint8_t *bytes, size_t length)
 {
     uint64_t counted = sprondilu_count(n, bytes, length);
     printf("count, %s: ", what);
     if (SPRONDILU_NUMBER_OF(counted) != SPRONDILU_DONE) {
-        printf("number %" PRIu64 ", answer %" PRIx64 "\n", SPRONDILU_NUMBER_OF(counted), counted);
+        printf("number %" PRIu64 ", answer %" PRIx64, SPRONDILU_NUMBER_OF(counted), counted);
     } else if (SPRONDILU_KIND_OF(counted) == SPRONDILU_WAIT) {
-        printf("wait, answer %" PRIx64 "\n", counted);
+        printf("wait, answer %" PRIx64, counted);
     } else {
         const char *kind = SPRONDILU_KIND_OF(counted) == SPRONDILU_FAST ? "fast" : "slow";
-        printf("%s with %" PRIu64 ", retry stamp %" PRIu64 ", answer %" PRIx64 "\n", kind, SPRONDILU_RESULT_OF(counted),
+        printf("%s with %" PRIu64 ", retry stamp %" PRIu64 ", answer %" PRIx64, kind, SPRONDILU_RESULT_OF(counted),
                SPRONDILU_RETRY_OF(counted), counted);
     }
+    if (length % SPRONDILU_COUNTED_BYTES == 0) {
+        const sprondilu_record *lent = bytes == NULL ? NULL : records;
+        printf(", of records %" PRIx64, count_records(n, lent, length / SPRONDILU_COUNTED_BYTES));
+    }
+    printf("\n");
 }
 
 /* The message of the paper to three fresh boxes, and what their replies come to; then other results in their places. */
 static void count_all(void)
 {
+    memset(records, DIRT, sizeof records);
     for (uint8_t box = 0; box < 3; box++) {
         fresh("a box of 3", table, sizeof table, 3, box);
         answer("the message of the paper", sizeof table, 20, sizeof reply);
         lay_reply(replies + box * SPRONDILU_COUNTED_BYTES);
+        fill_record(records + box);
     }
     print_bytes(replies, sizeof replies);
     count("a null pointer", 3, NULL, 0);
@@ -174,15 +218,26 @@ static void count_all(void)
     count("three replies", 3, replies, sizeof replies);
     count("n 4", 4, replies, sizeof replies);
     count("a byte too few", 3, replies, sizeof replies - 1);
-    replies[5] = SPRONDILU_ABORT;
+    replies[5] = records[0].result = SPRONDILU_ABORT;
     count("one is ABORT", 3, replies, sizeof replies);
-    replies[14] = 1;
-    replies[2 * SPRONDILU_COUNTED_BYTES + 14] = 1;
+    replies[14] = records[0].is_final = 1;
+    replies[2 * SPRONDILU_COUNTED_BYTES + 14] = records[2].is_final = 1;
     count("two unequal finals", 3, replies, sizeof replies);
     count("two unequal finals and n 6", 6, replies, sizeof replies);
-    replies[5] = SPRONDILU_RETRY;
+    replies[5] = records[0].result = SPRONDILU_RETRY;
     replies[13] = 9;
+    records[0].retry = 9;
     count("RETRY is final", 3, replies, 2 * SPRONDILU_COUNTED_BYTES);
+}
+
+/* The most replies that a group has, and one more. */
+static void count_most(void)
+{
+    for (uint8_t box = 0; box < 8; box++) {
+        records[box] = (sprondilu_record){.box = box, .view = 9, .result = SPRONDILU_OK};
+    }
+    printf("records, seven of 7: answer %" PRIx64 "\n", count_records(7, records, 7));
+    printf("records, eight: answer %" PRIx64 "\n", count_records(7, records, 8));
 }
 
 int main(void)
@@ -202,5 +257,6 @@ int main(void)
     answer_all();
     merge_all();
     count_all();
+    count_most();
     return 0;
 }

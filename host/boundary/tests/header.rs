@@ -7,7 +7,7 @@ use std::process::{Command, Output};
 use std::{env, fs};
 
 /// What `fresh.c` has to print; the images are those of the paper, and so is the reply, but for the last image: the paper's
-/// row as a merge settles it. Of a count the answer stands behind its parts, whole.
+/// row as a merge settles it. Of a count the answer stands behind its parts, whole, and then that of the records.
 const PRINTED: &str = "\
 fresh, a null pointer: number 1, 0 bytes changed
 fresh, a byte too short: number 1, 0 bytes changed
@@ -66,16 +66,18 @@ answer, the message of the paper: number 0, reply
 00 00 00 00 00 01 00 00 00 00 00 00 00 00 00 \
 01 00 00 00 00 01 00 00 00 00 00 00 00 00 00 \
 02 00 00 00 00 01 00 00 00 00 00 00 00 00 00
-count, a null pointer: wait, answer 0
-count, one reply: wait, answer 0
-count, two replies: slow with 1, retry stamp 0, answer 600
-count, three replies: fast with 1, retry stamp 0, answer 500
-count, n 4: number 3, answer 3
+count, a null pointer: wait, answer 0, of records 0
+count, one reply: wait, answer 0, of records 0
+count, two replies: slow with 1, retry stamp 0, answer 600, of records 600
+count, three replies: fast with 1, retry stamp 0, answer 500, of records 500
+count, n 4: number 3, answer 3, of records 3
 count, a byte too few: number 3, answer 3
-count, one is ABORT: slow with 2, retry stamp 0, answer a00
-count, two unequal finals: number 6, answer 6
-count, two unequal finals and n 6: number 3, answer 3
-count, RETRY is final: slow with 4, retry stamp 9, answer 91200
+count, one is ABORT: slow with 2, retry stamp 0, answer a00, of records a00
+count, two unequal finals: number 6, answer 6, of records 6
+count, two unequal finals and n 6: number 3, answer 3, of records 3
+count, RETRY is final: slow with 4, retry stamp 9, answer 91200, of records 91200
+records, seven of 7: answer 500
+records, eight: answer 3
 ";
 
 const WARNINGS: [&str; 6] = [
@@ -133,12 +135,16 @@ fn a_c_program_gets_what_the_paper_says() {
 
 const CPP: &str = "#include \"sprondilu.h\"\n\
     int main() {\n\
+    const sprondilu_record records[2] = {{0, 9, SPRONDILU_RETRY, 5, 0}, {1, 9, SPRONDILU_OK, 0, 1}};\n\
     return SPRONDILU_NUMBER_OF(sprondilu_valid(nullptr, 0)) == SPRONDILU_BAD_TABLE\n\
     && sprondilu_fresh(nullptr, 0, 3, 0) == SPRONDILU_SMALL_BUFFER\n\
     && sprondilu_answer(nullptr, 0, nullptr, 0, nullptr, 0) == SPRONDILU_SMALL_BUFFER\n\
     && sprondilu_merge(nullptr, 0, 1, nullptr, 0) == SPRONDILU_SMALL_BUFFER\n\
     && SPRONDILU_NUMBER_OF(sprondilu_count(3, nullptr, 0)) == SPRONDILU_DONE\n\
-    && SPRONDILU_KIND_OF(sprondilu_count(3, nullptr, 0)) == SPRONDILU_WAIT ? 0 : 1;\n\
+    && SPRONDILU_KIND_OF(sprondilu_count(3, nullptr, 0)) == SPRONDILU_WAIT\n\
+    && sprondilu_count_records(3, nullptr, 0) == sprondilu_count(3, nullptr, 0)\n\
+    && SPRONDILU_KIND_OF(sprondilu_count_records(3, records, 2)) == SPRONDILU_SLOW\n\
+    && SPRONDILU_RESULT_OF(sprondilu_count_records(3, records, 2)) == SPRONDILU_OK ? 0 : 1;\n\
     }\n";
 
 #[test]

@@ -1,4 +1,4 @@
-//! Lengths that need more than 32 bits: a table buffer and lent bytes may be that long.
+//! Lengths that need more than 32 bits: a table buffer, lent bytes and lent records may be that long.
 
 use samples::replies::{laid, Record};
 use samples::{random, Dice, TABLE_BYTES};
@@ -79,4 +79,47 @@ fn the_length_of_a_count_is_taken_whole() {
     assert_eq!(boundary::count(3, &long), 3);
     assert_eq!(boundary::count(3, &long[..1 << 32]), 3);
     assert_eq!(boundary::count(3, &long[..replies.len()]), 0x500);
+}
+
+/// The words of three records that agree: the box beside the view, then the result, no retry stamp, tentative.
+fn three_records() -> Vec<u64> {
+    let words = |box_number: u64| [box_number | 9 << 32, 1, 0, 0];
+    [words(0), words(1), words(2)].concat()
+}
+
+/// In bytes and cut to 32 bits, the length of the first long list would be that of the three records, and the length of the
+/// second 0.
+#[test]
+fn the_length_of_records_is_taken_whole() {
+    let three = three_records();
+    let most = (1 << 32) / 8;
+    let mut long = vec![0; most + three.len()];
+    long[..three.len()].copy_from_slice(&three);
+    let count = |words: &[u64]| boundary::count_records(3, boundary::records_in(words));
+    assert_eq!(count(&long), 3);
+    assert_eq!(count(&long[..most]), 3);
+    assert_eq!(count(&long[..three.len()]), 0x500);
+}
+
+extern "C" {
+    fn mmap(at: *mut u8, length: usize, access: i32, kind: i32, file: i32, from: i64) -> *mut u8;
+}
+
+/// So many words of 0 that are only read, for which the machine gives no memory, however many they are.
+fn only_read(words: usize) -> &'static [u64] {
+    // Reading alone, private, of no file, and with no memory kept for it; what is mapped stays until the program ends.
+    let mapped = unsafe { mmap(std::ptr::null_mut(), 8 * words, 1, 0x4022, -1, 0) };
+    assert!(mapped as isize != -1, "no addresses for {} words", words);
+    // It begins at a page, is mapped for so many words, and nobody writes to it.
+    unsafe { std::slice::from_raw_parts(mapped.cast(), words) }
+}
+
+/// Their number cut to 32 bits would be 0, and that of the longer list 1; none would be waited for.
+#[test]
+fn the_number_of_records_is_taken_whole() {
+    let words = only_read(((1 << 32) + 1) * boundary::RECORD_WORDS);
+    let records = boundary::records_in(words);
+    assert_eq!(boundary::count_records(3, &records[..1 << 32]), 3);
+    assert_eq!(boundary::count_records(3, records), 3);
+    assert_eq!(boundary::count_records(3, &records[..0]), 0);
 }

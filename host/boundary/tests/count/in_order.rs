@@ -32,7 +32,7 @@ fn ask_all(lent: &mut Lent, n: u8, letters: &[((u8, u64), u8)], length: usize) {
         let mut records = of_boxes_in_order(results);
         let answer = lent.ask_for(n, &records);
         records.reverse();
-        assert_eq!(boundary::count(n, &laid(&records)), answer, "backwards");
+        lent.assert_counted(n, &laid(&records), &[], answer);
     });
 }
 

@@ -28,6 +28,15 @@ pub fn lengths(lent: &mut Lent) {
     }
 }
 
+/// Lists of every length from the first that no group has up to some hundreds.
+pub fn every_length(lent: &mut Lent) {
+    for length in 8..=600 {
+        for (turn, n) in (0..).zip([3, 5, 7]) {
+            in_every_way(lent, n, length, turn);
+        }
+    }
+}
+
 /// A list by the rules, and behind it as many copies of its boxes as a number of two bytes would lose.
 fn past_two_bytes(lent: &mut Lent) {
     let (n, records) = loop {

@@ -62,6 +62,8 @@ const MORE: usize = 26;
 pub struct Shares {
     calls: [u64; COLUMNS.len()],
     rows: [[u64; COLUMNS.len()]; ROWS.len()],
+    /// How many calls were made with records.
+    pub as_records: u64,
 }
 
 fn column(n: u8) -> usize {
@@ -200,6 +202,7 @@ impl Shares {
 
     pub fn add(&mut self, other: &Shares) {
         add_all(&mut self.calls, &other.calls);
+        self.as_records += other.as_records;
         let rows = self.rows.iter_mut().zip(&other.rows);
         rows.for_each(|(here, there)| add_all(here, there));
     }
@@ -247,6 +250,6 @@ impl Display for Shares {
                 write!(f, "{:>17}", share)?;
             }
         }
-        Ok(())
+        write!(f, "\nwith records: {} calls", self.as_records)
     }
 }

@@ -3,6 +3,7 @@
 
 use crate::every::{ABORT, ABSTAIN, OK};
 use crate::heard::counted;
+use crate::lent::Lent;
 use samples::replies::laid;
 use samples::{message, row_of_the_paper, Record, GREATEST_STAMP, TABLE_BYTES};
 
@@ -33,16 +34,24 @@ fn replies(finals: &[(u8, u64)], tentative: &[(u8, u64)]) -> Vec<Record> {
     (0..).zip(all).map(record).collect()
 }
 
+/// The library's answer, which is the same for the bytes of a list and for its records.
+fn count_list(n: u8, records: &[Record]) -> u64 {
+    let bytes = laid(records);
+    let answer = boundary::count(n, &bytes);
+    Lent::seeded(0).assert_counted(n, &bytes, &[], answer);
+    answer
+}
+
 /// The library's answer, which is the same in every rotation of the list and backwards.
 fn count(n: u8, finals: &[(u8, u64)], tentative: &[(u8, u64)]) -> u64 {
     let mut records = replies(finals, tentative);
-    let answer = boundary::count(n, &laid(&records));
+    let answer = count_list(n, &records);
     for _ in 0..records.len() {
         records.rotate_left(1);
-        assert_eq!(boundary::count(n, &laid(&records)), answer);
+        assert_eq!(count_list(n, &records), answer);
     }
     records.reverse();
-    assert_eq!(boundary::count(n, &laid(&records)), answer);
+    assert_eq!(count_list(n, &records), answer);
     answer
 }
 
@@ -142,7 +151,7 @@ fn two_unequal_finals_are_a_contradiction() {
 #[test]
 fn each_rule_broken_is_3_before_a_contradiction() {
     let good = replies(&[OK, ABORT], &[OK]);
-    assert_eq!(boundary::count(3, &laid(&good)), CONTRADICTION);
+    assert_eq!(count_list(3, &good), CONTRADICTION);
     let breaks: [fn(&mut Record); 8] = [
         |record| record.box_number = 3,
         |record| record.box_number = 0,
@@ -156,14 +165,13 @@ fn each_rule_broken_is_3_before_a_contradiction() {
     for broken in breaks {
         let mut records = good.clone();
         broken(&mut records[2]);
-        assert_eq!(boundary::count(3, &laid(&records)), BAD_MESSAGE);
+        assert_eq!(count_list(3, &records), BAD_MESSAGE);
     }
-    let bytes = laid(&good);
     for n in [0, 1, 2, 4, 6, 8, 9, 255] {
-        assert_eq!(boundary::count(n, &bytes), BAD_MESSAGE);
-        assert_eq!(boundary::count(n, &[]), BAD_MESSAGE);
+        assert_eq!(count_list(n, &good), BAD_MESSAGE);
+        assert_eq!(count_list(n, &[]), BAD_MESSAGE);
     }
-    assert_eq!(boundary::count(3, &bytes[..44]), BAD_MESSAGE);
+    assert_eq!(boundary::count(3, &laid(&good)[..44]), BAD_MESSAGE);
 }
 
 /// A reply as its bytes stand, in view 0x01020304 with RETRY and a stamp of six different bytes.
@@ -178,6 +186,30 @@ fn the_fields_are_read_at_their_places() {
     assert_eq!(boundary::count(3, &both), 0xa1a2_a3a4_a5a6_1200);
 }
 
+/// The same two replies as records, written as C lays them out, their padding bytes 0xee.
+#[test]
+fn the_fields_of_a_record_are_read_at_their_places() {
+    let one: [u64; 4] = [
+        0x0102_0304_eeee_ee00,
+        0xeeee_eeee_eeee_ee04,
+        0x0000_a1a2_a3a4_a5a6,
+        0xeeee_eeee_eeee_ee00,
+    ];
+    let mut other = one;
+    (other[0], other[3]) = (one[0] | 1, one[3] | 1);
+    let words = [one, other].concat();
+    let records = boundary::records_in(&words);
+    let fields = boundary::Record {
+        box_number: 1,
+        view: 0x0102_0304,
+        result: 4,
+        retry: 0xa1a2_a3a4_a5a6,
+        is_final: 1,
+    };
+    assert_eq!(records[1], fields);
+    assert_eq!(boundary::count_records(3, records), 0xa1a2_a3a4_a5a6_1200);
+}
+
 /// Boxes of 3 that get the paper's message 1: two replies are slow OK, three are fast OK. Then box 0 has it made final.
 #[test]
 fn replies_of_boxes_are_counted() {
@@ -188,13 +220,13 @@ fn replies_of_boxes_are_counted() {
         assert_eq!(boundary::fresh(table, 3, box_number), 0);
         records.push(answered(table, &message::propose_prepare(&row)));
     }
-    assert_eq!(boundary::count(3, &laid(&records[..1])), WAIT);
-    assert_eq!(boundary::count(3, &laid(&records[..2])), SLOW_OK);
-    assert_eq!(boundary::count(3, &laid(&records)), FAST_OK);
+    assert_eq!(count_list(3, &records[..1]), WAIT);
+    assert_eq!(count_list(3, &records[..2]), SLOW_OK);
+    assert_eq!(count_list(3, &records), FAST_OK);
     let finalise = message::finalise_prepare(row.stamp, 0, ABORT);
     records[0] = answered(&mut tables[0], &finalise);
     assert_eq!(records[0], final_of_box_0(ABORT));
-    assert_eq!(boundary::count(3, &laid(&records)), SLOW_ABORT);
+    assert_eq!(count_list(3, &records), SLOW_ABORT);
 }
 
 fn answered(table: &mut [u8], message: &[u8]) -> Record {
