@@ -1,31 +1,61 @@
 //! The coordinator's count: what all sides make of the replies of a whole group.
 
-use crate::{Side, Work, SECOND};
+use crate::{Side, Work, BYTES, SECOND};
 use samples::replies::{laid, Record};
 
 /// Replies of all boxes of a group. Either all agree, or each is RETRY with a stamp of its own.
-pub struct Counting<const SAME: bool> {
+/// They are bytes; or they are records for a side that can count those, and bytes for the others.
+pub struct Counting<const SAME: bool, const RECORDS: bool> {
     n: u8,
     replies: Vec<u8>,
+    records: Vec<boundary::Record>,
     /// As the second program has it.
     answer: u64,
 }
 
-impl<const SAME: bool> Work for Counting<SAME> {
-    const NAME: &'static str = if SAME { "count-same" } else { "count-apart" };
+/// A reply as C lays it out.
+fn in_c(record: &Record) -> boundary::Record {
+    boundary::Record {
+        box_number: record.box_number,
+        view: record.view,
+        result: record.result.0,
+        retry: record.result.1,
+        is_final: record.is_final,
+    }
+}
+
+impl<const SAME: bool, const RECORDS: bool> Work for Counting<SAME, RECORDS> {
+    const NAME: &'static str = match (SAME, RECORDS) {
+        (true, false) => "count-same",
+        (false, false) => "count-apart",
+        (true, true) => "records-same",
+        (false, true) => "records-apart",
+    };
     const SIZES: [usize; 3] = [3, 5, 7];
     const UNIT: &'static str = "boxes";
-    const BESIDE: Option<Side> = Some(SECOND);
-    const ABOUT: &'static str = if SAME {
-        "\
+    const BESIDE: Option<Side> = if RECORDS { Some(BYTES) } else { Some(SECOND) };
+    const ABOUT: &'static str = match (SAME, RECORDS) {
+        (true, false) => {
+            "\
 The count of replies that all agree, 'sprondilu_count' of the library against the same walks in safe Rust. Input: a tentative
 OK of each box of the group in one view, so that the answer is fast OK. No buffer was cleared: the call writes nothing.
 Beside it the time of the second program."
-    } else {
-        "The count of replies of which no two agree: RETRY of each box with a stamp of its own, so that it is slow RETRY."
+        }
+        (false, false) => {
+            "The count of replies of which no two agree: RETRY of each box with a stamp of its own, so that it is slow RETRY."
+        }
+        (true, true) => {
+            "\
+The count of the replies that all agree, lent as records: 'sprondilu_count_records' of the library against the twin of
+'sprondilu_count', which reads the same replies from their bytes. The bytes printed are those of the records. Beside it the
+time of 'sprondilu_count' of the library."
+        }
+        (false, true) => {
+            "The count of the replies of which no two agree, lent as records, against the same twin."
+        }
     };
 
-    fn of(boxes: usize) -> Counting<SAME> {
+    fn of(boxes: usize) -> Counting<SAME, RECORDS> {
         let record = |box_number: u8| Record {
             box_number,
             view: 9,
@@ -40,11 +70,21 @@ Beside it the time of the second program."
         let records: Vec<Record> = (0..n).map(record).collect();
         let replies = laid(&records);
         let answer = reference::count(n, &replies);
-        Counting { n, replies, answer }
+        let records = records.iter().map(in_c).collect();
+        Counting {
+            n,
+            replies,
+            records,
+            answer,
+        }
     }
 
     fn bytes(&self) -> usize {
-        self.replies.len()
+        if RECORDS {
+            std::mem::size_of_val(&self.records[..])
+        } else {
+            self.replies.len()
+        }
     }
 
     /// A count changes nothing, so there is nothing to get ready.
@@ -52,9 +92,12 @@ Beside it the time of the second program."
 
     /// A side is called by a pointer that the compiler does not see through, so it cannot take one answer for all.
     fn done_by(&mut self, side: Side, times: usize) {
-        for _ in 0..times {
-            let answer = (side.count)(self.n, &self.replies);
-            assert_eq!(answer, self.answer, "{} counted otherwise", side.name);
+        let right = |answer| assert_eq!(answer, self.answer, "{} counted otherwise", side.name);
+        match side.count_records {
+            Some(count) if RECORDS => {
+                (0..times).for_each(|_| right(count(self.n, &self.records)));
+            }
+            _ => (0..times).for_each(|_| right((side.count)(self.n, &self.replies))),
         }
     }
 
@@ -69,17 +112,18 @@ mod tests {
 
     #[test]
     fn what_is_measured_is_fast_ok_and_slow_retry() {
-        for boxes in Counting::<true>::SIZES {
-            assert_eq!(Counting::<true>::of(boxes).answer, 0x500);
+        for boxes in [3, 5, 7] {
+            assert_eq!(Counting::<true, true>::of(boxes).answer, 0x500);
             let greatest = 65_536 * boxes as u64;
-            assert_eq!(Counting::<false>::of(boxes).answer, 0x1200 | greatest << 16);
+            let apart = Counting::<false, true>::of(boxes).answer;
+            assert_eq!(apart, 0x1200 | greatest << 16);
         }
     }
 
-    fn all_sides<const SAME: bool>() {
-        for boxes in Counting::<SAME>::SIZES {
-            let mut work = Counting::<SAME>::of(boxes);
-            for side in sides::<Counting<SAME>>() {
+    fn all_sides<const SAME: bool, const RECORDS: bool>() {
+        for boxes in Counting::<SAME, RECORDS>::SIZES {
+            let mut work = Counting::<SAME, RECORDS>::of(boxes);
+            for side in sides::<Counting<SAME, RECORDS>>() {
                 work.done_by(side, 2);
             }
         }
@@ -87,7 +131,9 @@ mod tests {
 
     #[test]
     fn all_sides_count_what_is_measured_as_the_second_program() {
-        all_sides::<true>();
-        all_sides::<false>();
+        all_sides::<true, false>();
+        all_sides::<false, false>();
+        all_sides::<true, true>();
+        all_sides::<false, true>();
     }
 }

@@ -49,7 +49,7 @@ pub trait Work {
 }
 
 /// A side of the comparison: its name, and its ways to judge lent bytes, to add a row to a table, to answer a message, to
-/// merge tables, and to count replies.
+/// merge tables, and to count replies, in bytes and, if it has one for them, as records.
 #[derive(Clone, Copy)]
 pub struct Side {
     name: &'static str,
@@ -58,6 +58,7 @@ pub struct Side {
     answer: fn(&mut [u8], &[u8], &mut [u8]) -> u8,
     merge: fn(&[u8], u32, &mut [u8]) -> u8,
     count: fn(u8, &[u8]) -> u64,
+    count_records: Option<fn(u8, &[boundary::Record]) -> u64>,
 }
 
 pub const LIBRARY: Side = Side {
@@ -67,6 +68,7 @@ pub const LIBRARY: Side = Side {
     answer: boundary::answer,
     merge: boundary::merge,
     count: boundary::count,
+    count_records: Some(boundary::count_records),
 };
 
 pub const TWIN: Side = Side {
@@ -76,6 +78,7 @@ pub const TWIN: Side = Side {
     answer: twin::answer::answer,
     merge: twin::merge::merge,
     count: twin::count::count,
+    count_records: None,
 };
 
 /// The twin, but for a merge by another algorithm.
@@ -89,6 +92,13 @@ pub const CURSORS: Side = Side {
 pub const SECOND: Side = Side {
     name: "second",
     count: reference::count,
+    ..TWIN
+};
+
+/// The twin, but for the count, which is that of the library from bytes.
+pub const BYTES: Side = Side {
+    name: "bytes",
+    count: boundary::count,
     ..TWIN
 };
 
@@ -107,7 +117,7 @@ const fn named<W: Work>() -> Named {
     }
 }
 
-const WORKS: [Named; 13] = [
+const WORKS: [Named; 15] = [
     named::<Judging>(),
     named::<Inserting>(),
     named::<Answering<1>>(),
@@ -119,8 +129,10 @@ const WORKS: [Named; 13] = [
     named::<Answering<7>>(),
     named::<Merging<true>>(),
     named::<Merging<false>>(),
-    named::<Counting<true>>(),
-    named::<Counting<false>>(),
+    named::<Counting<true, false>>(),
+    named::<Counting<false, false>>(),
+    named::<Counting<true, true>>(),
+    named::<Counting<false, true>>(),
 ];
 
 fn main() {
