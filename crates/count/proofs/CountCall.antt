@@ -9,11 +9,11 @@ use native.Mathlib.Omega.{arith}
 use lib.Dec.{eqb, ltb, leb}
 use lib.ListN.{length, length-map}
 use borrow.Author.Tests.{ltb-true, ltb-false}
-use Rattle.rules.specs.Tests.{both, either, any, every, greatest}
+use Rattle.rules.specs.Tests.{both, either, any, greatest}
 use Rattle.rules.specs.Groups.{fOf, quorum, fastCount}
 use Rattle.rules.specs.Stamps.{isStamp}
 use Rattle.rules.specs.Tables.{Result, Result.OK, Result.ABORT, Result.ABSTAIN, Result.RETRY, resultCode, resultRetry, sameResult, resultByRule}
-use Rattle.rules.specs.Numbers.{Number.badMessage, Number.contradiction, numberCode, number, first, applies}
+use Rattle.rules.specs.Numbers.{Number.badMessage, Number.contradiction, number, first, applies}
 use Rattle.rules.specs.Count as rules
 use Rattle.rules.specs.Count.{Heard, badReplies, agreeing, isFast, unequalFinalHeard, fastBesideFinal, countCircumstances, countNumber, Counted.fast, Counted.slow, Counted.wait, Counted.refused, fastOf, finalHeard, greatestRetry, slowResult, slowOr, fastOr, decided, counted, countedNumber}
 use Rattle.rules.proofs.Logic.{cases}
@@ -94,16 +94,6 @@ module _ (n : ℕ) (hs : List Heard) where
   pub counted-by-rule : (r : Result) → (counted n hs ≡ fast r) ⊎ (counted n hs ≡ slow r) → resultByRule r ≡ true
   counted-by-rule r (inl e) = subst Stands e counted-stands
   counted-by-rule r (inr e) = subst Stands e counted-stands .0
-
--- so is one of a list of replies: a bad result among them is refused
-pub list-by-rule : (n : ℕ) (rs : List Reply) (r : Result) → (countOf n rs ≡ fast r) ⊎ (countOf n rs ≡ slow r) → resultByRule r ≡ true
-unfolding countOf
-list-by-rule n rs r h = go (every resultRead rs) h
-  where
-    go : (b : Bool) → (cond b (counted n (allHeard rs)) (refused (numberCode badMessage)) ≡ fast r) ⊎ (cond b (counted n (allHeard rs)) (refused (numberCode badMessage)) ≡ slow r) → resultByRule r ≡ true
-    go true k = counted-by-rule n (allHeard rs) r k
-    go false (inl e) = absurd (omega (arith, ap countedNumber e))
-    go false (inr e) = absurd (omega (arith, ap countedNumber e))
 
 -- no more boxes agree than have replied
 agreeing-few : (hs : List Heard) (r : Result) → agreeing hs r ≤ length hs

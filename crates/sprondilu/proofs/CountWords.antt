@@ -16,11 +16,13 @@ use Rattle.rules.specs.Tables.{Result, Result.OK, Result.ABORT, Result.ABSTAIN,
 use Rattle.rules.specs.Count as rules
 use Rattle.rules.proofs.Logic.{both-right}
 use Rattle.rules.proofs.Lists.{_∈_}
+use Rattle.replies.specs.declared.held.Reply.{Reply}
 use Rattle.count.specs.declared.answer.Counted.{Counted}
 use Rattle.count.specs.declared.answer.Counted.the-variants.{Fast, Slow, Wait, Bad, Contradiction}
 use Rattle.count.specs.Answers.{answerAs, meant, answerNumber}
-use Rattle.count.specs.Calls.{countBytes}
-use Rattle.count.proofs.CountWays.{count-numbers}
+use Rattle.count.specs.Calls.{repliesBytes}
+use Rattle.count.proofs.HeardBytes.{AllFit, same-count}
+use Rattle.count.proofs.CountWays.{Lent, Lent.records, Lent.laid, countLent, count-numbers}
 use Rattle.count.proofs.CountCall.{answer-by-rule, answer-meant}
 use Rattle.count.proofs.answer.Counted as enum
 use Rattle.sprondilu.specs.Calls.{resultWord, countAnswer, ResultFits}
@@ -46,7 +48,7 @@ small ABORT h = (omega arith, omega arith)
 small ABSTAIN h = (omega arith, omega arith)
 small (RETRY s) h = (omega arith, ltb-true s (2 ^ 48) (both-right _ _ h))
 
-pub result-fits : (c : rules.Counted) → ((r : Result) → (c ≡ rules.Counted.fast r) ⊎ (c ≡ rules.Counted.slow r) → resultByRule r ≡ true) → (a : Counted) → a ≡ answerAs c → ResultFits a
+result-fits : (c : rules.Counted) → ((r : Result) → (c ≡ rules.Counted.fast r) ⊎ (c ≡ rules.Counted.slow r) → resultByRule r ≡ true) → (a : Counted) → a ≡ answerAs c → ResultFits a
 result-fits c h a e = subst ResultFits (sym e) (go c h)
   where
     refusal : (b : Bool) → ResultFits (cond b Contradiction Bad)
@@ -59,15 +61,19 @@ result-fits c h a e = subst ResultFits (sym e) (go c h)
     go rules.Counted.wait k = tt
     go (rules.Counted.refused j) k = refusal (eqb j (numberCode contradiction))
 
--- ---- the word that the call answers
+-- whatever is lent
+pub lent-fits : (n : ℕ) (lent : Lent) (a : Counted) → a ≡ answerAs (countLent n lent) → ResultFits a
+lent-fits n lent = result-fits (countLent n lent) (answer-by-rule n lent)
+
+-- ---- the word that either call answers
 
 -- number, kind, result and retry stamp are taken out of a word again by their bits, and no other bit is set
 pub word-apart : (kind result retry : ℕ) → kind < 4 → result < 8 → let w = resultWord kind result retry in (w % 256 ≡ 0) × (w / 256 % 4 ≡ kind) × (w / 1024 % 8 ≡ result) × (w / 8192 % 8 ≡ 0) × (w / 65536 ≡ retry)
 word-apart kind result retry k l = (omega arith, omega arith, omega arith, omega arith, omega arith)
 
--- the answer of the count to these bytes
-abbrev pub countWord : ℕ → List ℕ → ℕ
-countWord n s = countAnswer (answerAs (countBytes n s))
+-- the answer of the count to what is lent
+abbrev pub countWord : ℕ → Lent → ℕ
+countWord n lent = countAnswer (answerAs (countLent n lent))
 
 -- what a word says, read by its bits alone
 abbrev pub Says : ℕ → rules.Counted → Type 0
@@ -77,8 +83,8 @@ Says w rules.Counted.wait = w ≡ 0
 Says w (rules.Counted.refused k) = w ≡ k
 
 -- it says the count of `rules`
-pub word-says : (n : ℕ) (s : List ℕ) → Says (countWord n s) (countBytes n s)
-word-says n s = go (countBytes n s) (answer-by-rule n s) (answer-meant n s)
+pub word-says : (n : ℕ) (lent : Lent) → Says (countWord n lent) (countLent n lent)
+word-says n lent = go (countLent n lent) (answer-by-rule n lent) (answer-meant n lent)
   where
     go : (c : rules.Counted) → ((r : Result) → (c ≡ rules.Counted.fast r) ⊎ (c ≡ rules.Counted.slow r) → resultByRule r ≡ true) → meant (answerAs c) ≡ c → Says (countAnswer (answerAs c)) c
     go (rules.Counted.fast r) h m = let (k, l) = small r (h r (inl refl)) in rw (zero-add (resultWord 1 (resultCode r) (resultRetry r))) (word-apart 1 (resultCode r) (resultRetry r) (omega arith) k)
@@ -91,20 +97,25 @@ word-says n s = go (countBytes n s) (answer-by-rule n s) (answer-meant n s)
         refusal false e = ap rules.countedNumber e
 
 -- so its number is that of the count
-pub word-number : (n : ℕ) (s : List ℕ) → countWord n s % 256 ≡ rules.countedNumber (countBytes n s)
-word-number n s = go (countBytes n s) (word-says n s) (count-numbers n s)
+pub word-number : (n : ℕ) (lent : Lent) → countWord n lent % 256 ≡ rules.countedNumber (countLent n lent)
+word-number n lent = go (countLent n lent) (word-says n lent) (count-numbers n lent)
   where
-    go : (c : rules.Counted) → Says (countWord n s) c → rules.countedNumber c ∈ (0 ∷ 3 ∷ 6 ∷ []) → countWord n s % 256 ≡ rules.countedNumber c
+    go : (c : rules.Counted) → Says (countWord n lent) c → rules.countedNumber c ∈ (0 ∷ 3 ∷ 6 ∷ []) → countWord n lent % 256 ≡ rules.countedNumber c
     go (rules.Counted.fast r) e m = e .0
     go (rules.Counted.slow r) e m = e .0
     go rules.Counted.wait e m = omega arith
     go (rules.Counted.refused k) e m = below m
       where
-        below : k ∈ (0 ∷ 3 ∷ 6 ∷ []) → countWord n s % 256 ≡ k
+        below : k ∈ (0 ∷ 3 ∷ 6 ∷ []) → countWord n lent % 256 ≡ k
         below (List·Memᴰ·head f) = omega arith
         below (List·Memᴰ·tail (List·Memᴰ·head f)) = omega arith
         below (List·Memᴰ·tail (List·Memᴰ·tail (List·Memᴰ·head f))) = omega arith
 
--- two words that the promise allows for the same n and bytes are equal
-pub word-determined : (n : ℕ) (s : List ℕ) {word other : ℕ} → word ≡ countWord n s → other ≡ countWord n s → word ≡ other
-word-determined n s a b = a ∙ sym b
+-- two words that the promise allows for the same n and replies are equal
+pub word-determined : (n : ℕ) (lent : Lent) {word other : ℕ} → word ≡ countWord n lent → other ≡ countWord n lent → word ≡ other
+word-determined n lent a b = a ∙ sym b
+
+-- ---- records, and the same replies as bytes
+
+pub same-word : (n : ℕ) (rs : List Reply) → AllFit rs → countWord n (records rs) ≡ countWord n (laid (repliesBytes rs))
+same-word n rs k = ap (λ c. countAnswer (answerAs c)) (sym (same-count n rs k))

@@ -2,10 +2,9 @@
 use mathlib.Core.Path.{ap, _∙_}
 use borrow.Author.Needs.{needs}
 use denote.Ref.{now}
-use Rattle.count.specs.Calls.{countBytes}
-use Rattle.count.proofs.CountCall.{answer-by-rule}
+use Rattle.count.proofs.CountWays.{Lent.laid}
 use Rattle.sprondilu.specs.Calls.{countAnswer}
-use Rattle.sprondilu.proofs.CountWords.{result-fits}
+use Rattle.sprondilu.proofs.CountWords.{lent-fits}
 use Rattle.sprondilu.proofs.sprondilu_count.Statement.{statement}
 use Rattle.sprondilu.proofs.sprondilu_count.Tie as tie
 
@@ -13,7 +12,7 @@ count-requires : tie.Need-count-requires
 count-requires c κs = search needs
 
 answer-word-requires : tie.Need-answer-word-requires
-answer-word-requires c κs = let a = c .before .before .args in result-fits (countBytes (a .n) (now (a .replies))) (answer-by-rule (a .n) (now (a .replies))) _ (c .count .ensures)
+answer-word-requires c κs = let a = c .before .before .args in lent-fits (a .n) (laid (now (a .replies))) _ (c .count .ensures)
 
 returns : tie.Need-returns
 returns c = c .answer-word .ensures ∙ ap countAnswer (c .before .count .ensures)

@@ -34,7 +34,7 @@ use Rattle.replies.proofs.held.Reply as R
 use Rattle.count.specs.declared.answer.Counted.{Counted}
 use Rattle.count.specs.Answers.{answerAs}
 use Rattle.count.specs.Calls.{countOf}
-use Rattle.count.proofs.CountCall.{list-by-rule}
+use Rattle.count.proofs.CountWays.{Lent.records as listed}
 use Rattle.count.proofs.Walks.{listVal, SizedOwn, lives, twice, to-sized, of-sized, answers, Ends, ends, sized-meets}
 use Rattle.count.proofs.answer.Counted as E
 use Rattle.count.proofs.answer.Counted.Laws as E′
@@ -43,7 +43,7 @@ use Rattle.count.proofs.lent.count.Symbol as count-def
 use Rattle.count.proofs.lent.count.Symbol.{name as #count}
 use Rattle.count.proofs.lent.count.Met as count-thm
 use Rattle.sprondilu.specs.Calls.{countAnswer, ResultFits}
-use Rattle.sprondilu.proofs.CountWords.{result-fits}
+use Rattle.sprondilu.proofs.CountWords.{lent-fits}
 use Rattle.sprondilu.proofs.answer_word as word
 use Rattle.sprondilu.proofs.answer_word.Symbol as word-def
 use Rattle.sprondilu.proofs.answer_word.Symbol.{name as #word}
@@ -89,7 +89,7 @@ module _ {M : Type 1} (𝓤 : URA M) (H : Heap 𝓤) (A : Atoms 𝓤) (W : Given
       calls-at ! fm (Count 𝓤 H A mem run) known-count (to-count 𝓤 H A mem run κ q n s) (and-then ! (load ! (from ! (stop !)) (look ! 6 refl)) (and-then ! (load ! (from ! (stop !)) (look ! 4 refl)) (no-more !))) (λ u.
       answers ! tt count.ended (count.clauses 𝓤 H A mem run) (κ, tt) (n, (s, tt)) tt (lives κ q) u (λ a. a ≡ answerAs (countOf n (now s))) (λ a e. id⊢ 𝓤 _) (λ a e is.
       land ! (from ! (stop !)) (init ! 2 refl (EL.lawful E.the-type E′.the-laws 𝓤 H A W tt .typed a _ is .0)) $
-      use0 W (raw (Word 𝓤 H A mem run .pre (to-word 𝓤 H A mem run a u))) (goes-word a u is (result-fits (countOf n (now s)) (list-by-rule n (now s)) a e)) $
+      use0 W (raw (Word 𝓤 H A mem run .pre (to-word 𝓤 H A mem run a u))) (goes-word a u is (lent-fits n (listed (now s)) a e)) $
       calls-at ! fm (Word 𝓤 H A mem run) known-word (to-word 𝓤 H A mem run a u) (and-then ! (load ! (from ! (stop !)) (look ! 3 refl)) (no-more !)) (λ u′.
       answers ! tt word.ended (word.clauses 𝓤 H A mem run) tt (a, tt) tt (‵ ftrue) u′ (λ r. r ≡ countAnswer a) (λ r e′. id⊢ 𝓤 _) (λ r e′ is′. drop ! $
       -- [the token; what the list owns; _3; …; _2; …; _1; …; room for _0; …]
