@@ -7,3 +7,4 @@ pub mod Walks
 pub mod RowsRead
 pub mod Turns
 pub mod Sought
+pub mod Readers

@@ -29,13 +29,14 @@ use denote.Triple.Spec.{tripleOf}
 use denote.Triple.Statement.{Contract, Triple}
 use denote.Triple.Table.{entered, cited}
 use denote.Triple.Walked.{says}
+use Rattle.wire.proofs.HandWalks.{twice, lives, answers}
 use Rattle.replies.specs.declared.held.Reply.{Reply}
 use Rattle.replies.proofs.held.Reply as R
 use Rattle.count.specs.declared.answer.Counted.{Counted}
 use Rattle.count.specs.Answers.{answerAs}
 use Rattle.count.specs.Calls.{countOf}
 use Rattle.count.proofs.CountWays.{Lent.records as listed}
-use Rattle.count.proofs.Walks.{listVal, SizedOwn, lives, twice, to-sized, of-sized, answers, Ends, ends, sized-meets}
+use Rattle.count.proofs.Walks.{listVal, SizedOwn, to-sized, of-sized, Ends, ends, sized-meets}
 use Rattle.count.proofs.answer.Counted as E
 use Rattle.count.proofs.answer.Counted.Laws as E′
 use Rattle.count.proofs.lent.count as count
@@ -84,7 +85,7 @@ module _ {M : Type 1} (𝓤 : URA M) (H : Heap 𝓤) (A : Atoms 𝓤) (W : Given
       qed W (lives κ q ∷ ‵ (SizedOwn κ n s) ∷ []) ∵ enter ! C Λ code.function (vint w8 n ∷ listVal s ∷ []) _ $
       alloc1 ! (λ l₀. alloc1 ! (λ l₁. alloc1 ! (λ l₂. alloc1 ! (λ l₃. alloc0 ! $ params1 ! $
       pass1 ! (init ! 4 refl (tt, record { fits = l })) $ pass1 ! (init ! 2 refl (shr-slice-lawful 𝓤 H A W (named 0) κ R.the-row .typed s _ p .0)) $ pass0 ! $
-      move ! (9 ∷ []) $ of-sized ! κ n s $ twice ! κ s $ to-sized ! κ n s l $ move ! (10 ∷ 0 ∷ []) $ use2 W (raw (Count 𝓤 H A mem run .pre (to-count 𝓤 H A mem run κ q n s))) goes-count $
+      move ! (9 ∷ []) $ of-sized ! κ n s $ twice ! R.the-row κ s $ to-sized ! κ n s l $ move ! (10 ∷ 0 ∷ []) $ use2 W (raw (Count 𝓤 H A mem run .pre (to-count 𝓤 H A mem run κ q n s))) goes-count $
       -- [what the count asks; what the list owns; room for _3; …; _2; …; _1; …; room for _0; …]
       calls-at ! fm (Count 𝓤 H A mem run) known-count (to-count 𝓤 H A mem run κ q n s) (and-then ! (load ! (from ! (stop !)) (look ! 6 refl)) (and-then ! (load ! (from ! (stop !)) (look ! 4 refl)) (no-more !))) (λ u.
       answers ! tt count.ended (count.clauses 𝓤 H A mem run) (κ, tt) (n, (s, tt)) tt (lives κ q) u (λ a. a ≡ answerAs (countOf n (now s))) (λ a e. id⊢ 𝓤 _) (λ a e is.

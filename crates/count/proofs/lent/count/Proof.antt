@@ -33,6 +33,7 @@ use denote.Triple.Call.{calls-at}
 use denote.Triple.Spec.{tripleOf}
 use denote.Triple.Statement.{Contract, Triple}
 use denote.Triple.Table.{entered, cited}
+use Rattle.wire.proofs.HandWalks.{twice, lives, answers}
 use Rattle.replies.specs.declared.held.Reply.{Reply}
 use Rattle.replies.specs.declared.held.Replies.{Replies}
 use Rattle.replies.specs.Held.{repliesIn, noneHeld, withReplies}
@@ -44,7 +45,7 @@ use Rattle.count.specs.declared.answer.Counted.the-variants.{Bad}
 use Rattle.count.specs.Answers.{answerAs}
 use Rattle.count.specs.Calls.{countOf}
 use Rattle.count.proofs.Counts.{many-bad, count-held}
-use Rattle.count.proofs.Walks.{listVal, listTy, ListOwn, ListedOwn, SizedOwn, lives, twice, to-listed, of-sized, answers, Ends, ends, sized-meets}
+use Rattle.count.proofs.Walks.{listVal, listTy, ListOwn, ListedOwn, SizedOwn, to-listed, of-sized, Ends, ends, sized-meets}
 use Rattle.count.proofs.answer.Counted as E
 use Rattle.count.proofs.answer.Counted.Laws as E′
 use Rattle.count.proofs.answer.count as decided
@@ -128,7 +129,7 @@ module _ {M : Type 1} (𝓤 : URA M) (H : Heap 𝓤) (A : Atoms 𝓤) (W : Given
           returns-within ! Post refl (look ! 10 refl) $ forget ! 2 refl $ forget ! 4 refl $ forget ! 6 refl $ forget ! 8 refl $ forget ! 10 refl $
           leaves Bad _ bad-is (ap answerAs (sym (many-bad n (now s) (ltb→lt 7 (length (now s)) more)))))
           (λ few. skips ! $ exec ! C Λ En body.t-4 (atRet En Post) $
-          move ! (13 ∷ []) $ twice ! κ s $ to-listed ! κ s $ move ! (14 ∷ 0 ∷ []) $ use2 W (raw (Gather 𝓤 H A mem run .pre (to-gather 𝓤 H A mem run κ q s))) goes-gather $
+          move ! (13 ∷ []) $ twice ! R.the-row κ s $ to-listed ! κ s $ move ! (14 ∷ 0 ∷ []) $ use2 W (raw (Gather 𝓤 H A mem run .pre (to-gather 𝓤 H A mem run κ q s))) goes-gather $
           -- [what `gather` asks; what the list owns; room for _5; …; _2; …; _1; …; room for _0; …]
           calls-at ! fm (Gather 𝓤 H A mem run) known-gather (to-gather 𝓤 H A mem run κ q s) (and-then ! (load ! (from ! (stop !)) (look ! 8 refl)) (no-more !)) (λ u.
           answers ! tt gather.ended (gather.clauses 𝓤 H A mem run) (κ, tt) (s, tt) tt (lives κ q) u (λ h. h ≡ withReplies noneHeld (now s)) (λ h e. id⊢ 𝓤 _) (λ h e is.

@@ -42,6 +42,7 @@ use denote.Triple.Spec.{Meets, tripleOf}
 use denote.Triple.Statement.{Contract, Triple}
 use denote.Triple.Table.{entered, cited}
 use denote.Triple.Walked.{says, Stays, walkOf, goes-none-slice, Walks, ends-at, walked, walk-meets}
+use Rattle.wire.proofs.HandWalks.{twice, lives, answers, tests}
 use Rattle.replies.specs.declared.held.Reply.{Reply}
 use Rattle.replies.specs.declared.held.Replies.{Replies}
 use Rattle.replies.specs.Held.{noReply, noneHeld, withReply, withReplies}
@@ -57,7 +58,7 @@ use Rattle.replies.proofs.held.Replies.with as hold
 use Rattle.replies.proofs.held.Replies.with.Symbol as hold-def
 use Rattle.replies.proofs.held.Replies.with.Symbol.{name as #with}
 use Rattle.replies.proofs.held.Replies.with.Met as hold-thm
-use Rattle.count.proofs.Walks.{listVal, listTy, ListOwn, ListedOwn, stay-list, lives, twice, to-listed, answers, tests}
+use Rattle.count.proofs.Walks.{listVal, listTy, ListOwn, ListedOwn, stay-list, to-listed}
 use Rattle.count.proofs.lent.gather as gather
 use Rattle.count.proofs.lent.gather.Key.{name as #gather}
 use Rattle.count.proofs.lent.gather.Statement as stated
@@ -227,7 +228,7 @@ module _ {M : Type 1} (𝓤 : URA M) (H : Heap 𝓤) (A : Atoms 𝓤) (W : Given
           land ! (from ! (stop !)) (init ! 10 refl (LL.lawful D.the-type D′.the-laws 𝓤 H A W .typed k _ is .0)) $
           assigns ! (of-opd ! (lit ! tt)) (from ! (stop !)) (init ! 8 refl (tt, record { fits = lit< tt })) $
           -- of what the list owns one is kept whole, and of the other the shared borrow
-          move ! (17 ∷ []) $ fsplit ! $ twice ! κ s $ fsplit ! $ gives-up ! $ fsplit ! $ gives-up ! $ move ! (19 ∷ []) $ split ! $
+          move ! (17 ∷ []) $ fsplit ! $ twice ! R.the-row κ s $ fsplit ! $ gives-up ! $ fsplit ! $ gives-up ! $ move ! (19 ∷ []) $ split ! $
           -- [the token; true; the shared borrow; what the list owns; true; _7; …]
           keep ! (5 ∷ 6 ∷ 7 ∷ 8 ∷ 9 ∷ 10 ∷ 11 ∷ 12 ∷ 13 ∷ 14 ∷ 15 ∷ 16 ∷ 17 ∷ 18 ∷ 19 ∷ 20 ∷ 0 ∷ 2 ∷ 3 ∷ []) $
           from-here l₀ l₁ l₂ l₃ l₄ l₅ l₆ l₇ (record { i = 0; h = k; v = u; le = zero-le; is = is; left = ap (λ (z : Replies). withReplies z ys) e })))))))))))
