@@ -205,19 +205,19 @@ uint64_t sprondilu_count(uint8_t n, const uint8_t *replies, size_t replies_len);
  */
 typedef struct sprondilu_record {
     uint8_t box;
-    uint32_t view;
     uint8_t result;
-    uint64_t retry;
     uint8_t is_final;
+    uint32_t view;
+    uint64_t retry;
 } sprondilu_record;
 
 /* C's own layout on the machine of the library, which reads the fields there. */
 SPRONDILU_ASSERT(offsetof(sprondilu_record, box) == 0, "the box of a record is its first byte");
+SPRONDILU_ASSERT(offsetof(sprondilu_record, result) == 1, "the result of a record is at byte 1");
+SPRONDILU_ASSERT(offsetof(sprondilu_record, is_final) == 2, "whether a record is final is at byte 2");
 SPRONDILU_ASSERT(offsetof(sprondilu_record, view) == 4, "the view of a record is at byte 4");
-SPRONDILU_ASSERT(offsetof(sprondilu_record, result) == 8, "the result of a record is at byte 8");
-SPRONDILU_ASSERT(offsetof(sprondilu_record, retry) == 16, "the retry stamp of a record is at byte 16");
-SPRONDILU_ASSERT(offsetof(sprondilu_record, is_final) == 24, "whether a record is final is at byte 24");
-SPRONDILU_ASSERT(sizeof(sprondilu_record) == 32, "a record has 32 bytes");
+SPRONDILU_ASSERT(offsetof(sprondilu_record, retry) == 8, "the retry stamp of a record is at byte 8");
+SPRONDILU_ASSERT(sizeof(sprondilu_record) == 16, "a record has 16 bytes");
 SPRONDILU_ASSERT(SPRONDILU_ALIGN_OF(sprondilu_record) == 8, "a record is aligned to 8 bytes");
 
 /*

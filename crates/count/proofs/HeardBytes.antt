@@ -23,7 +23,7 @@ use Rattle.rules.proofs.Lists.{_∈_}
 use Rattle.message.proofs.Forms.{result-small, result-read}
 use Rattle.replies.specs.declared.held.Reply.{Reply}
 use Rattle.replies.specs.Heard.{resultRead, heard, allHeard}
-use Rattle.count.specs.Calls.{countOf, replyOf, replyBytes, repliesBytes, allBytes, replyAt, repliesOf, countBytes}
+use Rattle.count.specs.Calls.{countOf, replyOf, recordBytes, recordsBytes, allBytes, replyAt, repliesOf, countBytes}
 use Rattle.count.proofs.Counts.{many-bad}
 
 -- ---- a walk over the bytes
@@ -76,15 +76,15 @@ count-long n s l = go (same? (length s) (15 * (length s / 15)))
 -- ---- replies that were written
 
 -- 15 bytes a reply
-length-reply : (r : Reply) → length (replyBytes r) ≡ 15
-unfolding replyBytes
-length-reply r = simp (length-append, length-bytes)
+length-record : (r : Reply) → length (recordBytes r) ≡ 15
+unfolding recordBytes
+length-record r = simp (length-append, length-bytes)
 
 -- and as many for each of a list
-length-all : (rs : List Reply) → length (repliesBytes rs) ≡ 15 * length rs
-unfolding repliesBytes
+length-all : (rs : List Reply) → length (recordsBytes rs) ≡ 15 * length rs
+unfolding recordsBytes
 length-all [] = refl
-length-all (r ∷ rs) = rw (length-append, length-reply r, length-all rs) (omega arith)
+length-all (r ∷ rs) = rw (length-append, length-record r, length-all rs) (omega arith)
 
 -- each number of a record fits its field, as C's types have it
 pub record FieldsFit (r : Reply) : Type 0 where
@@ -99,11 +99,11 @@ abbrev pub AllFit : List Reply → Type 0
 AllFit rs = (r : Reply) → r ∈ rs → FieldsFit r
 
 -- a reply that was written is read
-pub reply-read : (r : Reply) (rest : List ℕ) → FieldsFit r → replyAt (replyBytes r ++ rest) 0 ≡ r
-unfolding replyAt replyBytes
+pub reply-read : (r : Reply) (rest : List ℕ) → FieldsFit r → replyAt (recordBytes r ++ rest) 0 ≡ r
+unfolding replyAt recordBytes
 reply-read r rest k =
-    let s : List ℕ = replyBytes r ++ rest in
-    let a = field-read 1 (r .boxnumber) s 0 1 _ (k .boxnumber) refl (stands-between [] (replyBytes r) rest 0 refl) in
+    let s : List ℕ = recordBytes r ++ rest in
+    let a = field-read 1 (r .boxnumber) s 0 1 _ (k .boxnumber) refl (stands-between [] (recordBytes r) rest 0 refl) in
     let b = field-read 4 (r .view) s 1 5 _ (k .view) refl (a .1) in
     let c = field-read 1 (r .result) s 5 6 _ (k .result) refl (b .1) in
     let d = field-read 8 (r .retry) s 6 14 _ (k .retry) refl (c .1) in
@@ -111,23 +111,23 @@ reply-read r rest k =
     rw (a .0, b .0, c .0, d .0, e)
 
 -- and so are all of a list
-pub replies-read : (rs : List Reply) → AllFit rs → repliesOf (length rs) (repliesBytes rs) ≡ rs
-unfolding repliesOf repliesBytes
+pub replies-read : (rs : List Reply) → AllFit rs → repliesOf (length rs) (recordsBytes rs) ≡ rs
+unfolding repliesOf recordsBytes
 replies-read [] k = refl
 replies-read (r ∷ rs) k =
     rw (
-      reply-read r (repliesBytes rs) (k r (List·Memᴰ·head refl)),
-      drop-at (replyBytes r) (repliesBytes rs) 15 (length-reply r),
+      reply-read r (recordsBytes rs) (k r (List·Memᴰ·head refl)),
+      drop-at (recordBytes r) (recordsBytes rs) 15 (length-record r),
       replies-read rs (λ q m. k q (List·Memᴰ·tail m)),
     )
 
 -- they are as many as 15 goes into the bytes, with nothing left
-pub bytes-whole : (rs : List Reply) → (length (repliesBytes rs) ≡ 15 * (length (repliesBytes rs) / 15)) × (length (repliesBytes rs) / 15 ≡ length rs)
-bytes-whole rs = let l : length (repliesBytes rs) ≡ 15 * length rs = length-all rs in (omega arith, omega arith)
+pub bytes-whole : (rs : List Reply) → (length (recordsBytes rs) ≡ 15 * (length (recordsBytes rs) / 15)) × (length (recordsBytes rs) / 15 ≡ length rs)
+bytes-whole rs = let l : length (recordsBytes rs) ≡ 15 * length rs = length-all rs in (omega arith, omega arith)
 
 -- a list of records and the same replies as bytes have the same answer
-pub same-count : (n : ℕ) (rs : List Reply) → AllFit rs → countBytes n (repliesBytes rs) ≡ countOf n rs
-same-count n rs k = let (w, e) = bytes-whole rs in count-whole n (repliesBytes rs) w ∙ rw (e, replies-read rs k)
+pub same-count : (n : ℕ) (rs : List Reply) → AllFit rs → countBytes n (recordsBytes rs) ≡ countOf n rs
+same-count n rs k = let (w, e) = bytes-whole rs in count-whole n (recordsBytes rs) w ∙ rw (e, replies-read rs k)
 
 -- ---- replies that were heard
 

@@ -25,17 +25,17 @@ replyOf h = record {
 }
 
 -- box 1, view 4, result 1, retry stamp 8, final 1
-unfoldable pub replyBytes : Reply → List ℕ
-replyBytes r = bytes 1 (r .boxnumber) ++ (bytes 4 (r .view) ++ (bytes 1 (r .result) ++ (bytes 8 (r .retry) ++ bytes 1 (r .finality))))
+unfoldable pub recordBytes : Reply → List ℕ
+recordBytes r = bytes 1 (r .boxnumber) ++ (bytes 4 (r .view) ++ (bytes 1 (r .result) ++ (bytes 8 (r .retry) ++ bytes 1 (r .finality))))
 
 -- one after the other
-unfoldable pub repliesBytes : List Reply → List ℕ
-repliesBytes [] = []
-repliesBytes (r ∷ rs) = replyBytes r ++ repliesBytes rs
+unfoldable pub recordsBytes : List Reply → List ℕ
+recordsBytes [] = []
+recordsBytes (r ∷ rs) = recordBytes r ++ recordsBytes rs
 
 -- all that is heard
 abbrev pub allBytes : List rules.Heard → List ℕ
-allBytes hs = repliesBytes (map replyOf hs)
+allBytes hs = recordsBytes (map replyOf hs)
 
 -- ---- bytes to replies
 

@@ -2,14 +2,14 @@
 ghost use mathlib.Core.Path.{_≡_};
 ghost use Rattle.replies.specs.Held.{noneHeld, withReply};
 
-// One reply as it is lent: any numbers may stand in it. Its fields are laid out as C does it, so that a C caller can lend a list of them.
+// One reply as it is lent: any numbers may stand in it. Its fields are laid out as C does it, so that a C caller can lend a list of them; the small ones come first, which leaves one byte between them unused.
 #[repr(C)]
 pub struct Reply {
     pub boxnumber: u8,
-    pub view: u32,
     pub result: u8,
-    pub retry: u64,
     pub finality: u8,
+    pub view: u32,
+    pub retry: u64,
 }
 
 // The first `number` places hold replies; 8 says that there were more than seven.
@@ -24,10 +24,10 @@ impl Replies {
     {
         let reply = Reply {
             boxnumber: 0,
-            view: 0,
             result: 0,
-            retry: 0,
             finality: 0,
+            view: 0,
+            retry: 0,
         };
         let all = [reply; 7];
         Replies { all, number: 0 }

@@ -20,7 +20,7 @@ use Rattle.replies.specs.declared.held.Reply.{Reply}
 use Rattle.count.specs.declared.answer.Counted.{Counted}
 use Rattle.count.specs.declared.answer.Counted.the-variants.{Fast, Slow, Wait, Bad, Contradiction}
 use Rattle.count.specs.Answers.{answerAs, meant, answerNumber}
-use Rattle.count.specs.Calls.{repliesBytes}
+use Rattle.count.specs.Calls.{recordsBytes}
 use Rattle.count.proofs.HeardBytes.{AllFit, same-count}
 use Rattle.count.proofs.CountWays.{Lent, Lent.records, Lent.laid, countLent, count-numbers}
 use Rattle.count.proofs.CountCall.{answer-by-rule, answer-meant}
@@ -117,5 +117,5 @@ word-determined n lent a b = a ∙ sym b
 
 -- ---- records, and the same replies as bytes
 
-pub same-word : (n : ℕ) (rs : List Reply) → AllFit rs → countWord n (records rs) ≡ countWord n (laid (repliesBytes rs))
+pub same-word : (n : ℕ) (rs : List Reply) → AllFit rs → countWord n (records rs) ≡ countWord n (laid (recordsBytes rs))
 same-word n rs k = ap (λ c. countAnswer (answerAs c)) (sym (same-count n rs k))

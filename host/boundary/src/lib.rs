@@ -75,25 +75,25 @@ pub fn count(n: u8, replies: &[u8]) -> u64 {
     unsafe { library::sprondilu_count(n, replies.as_ptr(), replies.len()) }
 }
 
-/// One reply as C lays out its `sprondilu_record`, with padding behind the box, the result and the final byte.
+/// One reply as C lays out its `sprondilu_record`, with one byte of padding, behind the final byte.
 #[repr(C)]
 #[derive(Clone, Copy, Debug, PartialEq, Eq)]
 pub struct Record {
     pub box_number: u8,
-    pub view: u32,
     pub result: u8,
-    pub retry: u64,
     pub is_final: u8,
+    pub view: u32,
+    pub retry: u64,
 }
 
 /// How many words of 8 bytes a record takes.
-pub const RECORD_WORDS: usize = 4;
+pub const RECORD_WORDS: usize = 2;
 
 // Records are seen in words below.
 const _: () = assert!(std::mem::size_of::<Record>() == 8 * RECORD_WORDS);
 const _: () = assert!(std::mem::align_of::<Record>() == std::mem::align_of::<u64>());
 
-/// The records that whole words stand for, four each, so that their padding can be set and looked at too.
+/// The records that whole words stand for, two each, so that their padding can be set and looked at too.
 pub fn records_in(words: &[u64]) -> &[Record] {
     // A record is as long as its words and aligned as they are, and any bytes are one.
     unsafe { std::slice::from_raw_parts(words.as_ptr().cast(), words.len() / RECORD_WORDS) }

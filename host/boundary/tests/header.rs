@@ -135,7 +135,7 @@ fn a_c_program_gets_what_the_paper_says() {
 
 const CPP: &str = "#include \"sprondilu.h\"\n\
     int main() {\n\
-    const sprondilu_record records[2] = {{0, 9, SPRONDILU_RETRY, 5, 0}, {1, 9, SPRONDILU_OK, 0, 1}};\n\
+    const sprondilu_record records[2] = {{0, SPRONDILU_RETRY, 0, 9, 5}, {1, SPRONDILU_OK, 1, 9, 0}};\n\
     return SPRONDILU_NUMBER_OF(sprondilu_valid(nullptr, 0)) == SPRONDILU_BAD_TABLE\n\
     && sprondilu_fresh(nullptr, 0, 3, 0) == SPRONDILU_SMALL_BUFFER\n\
     && sprondilu_answer(nullptr, 0, nullptr, 0, nullptr, 0) == SPRONDILU_SMALL_BUFFER\n\

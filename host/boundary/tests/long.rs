@@ -81,9 +81,9 @@ fn the_length_of_a_count_is_taken_whole() {
     assert_eq!(boundary::count(3, &long[..replies.len()]), 0x500);
 }
 
-/// The words of three records that agree: the box beside the view, then the result, no retry stamp, tentative.
+/// The words of three records that agree: the box, the result and the view, tentative; then no retry stamp.
 fn three_records() -> Vec<u64> {
-    let words = |box_number: u64| [box_number | 9 << 32, 1, 0, 0];
+    let words = |box_number: u64| [box_number | 1 << 8 | 9 << 32, 0];
     [words(0), words(1), words(2)].concat()
 }
 

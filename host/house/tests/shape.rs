@@ -64,3 +64,30 @@ fn no_proof_assumes_anything() {
         }
     }
 }
+
+/// The sources with a line of code in which the words stand, each as often as it has one.
+fn with_the_words(words: &str) -> Vec<String> {
+    let mut found = Vec::new();
+    for file in files("crates", ".rt") {
+        for line in text(&file).lines() {
+            let code = line.split("//").next().unwrap_or("");
+            if code.contains(words) {
+                found.push(file.clone());
+            }
+        }
+    }
+    found
+}
+
+/// "One small reader over a lent image serves every row-by-row walk": a row is read in one place, which the reader calls,
+/// and a reader is asked for its row in one place, which all the others call.
+#[test]
+fn a_row_is_read_through_the_reader_alone() {
+    let row = "crates/rows/src/row.rt".to_string();
+    let reader = "crates/rows/src/reader.rt".to_string();
+    assert_eq!(with_the_words("fields_at("), [reader, row.clone()]);
+    assert_eq!(with_the_words("reader::at("), [row.clone()]);
+    assert_eq!(with_the_words(".row()"), [row]);
+    let walks = with_the_words("row_at(").len();
+    assert!(walks > 10, "only {} lines take a row", walks);
+}

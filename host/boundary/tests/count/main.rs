@@ -20,7 +20,7 @@ use std::io::{self, Write};
 /// So many calls at least, of all parts together.
 const LEAST_CALLS: u64 = 12_000_000;
 /// And so many with records.
-const LEAST_WITH_RECORDS: u64 = 15_000_000;
+const LEAST_WITH_RECORDS: u64 = 14_000_000;
 /// So often at least each answer is given, for each of its reasons and in each group.
 const LEAST_OF_A_KIND: u64 = 100;
 

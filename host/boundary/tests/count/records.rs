@@ -6,21 +6,20 @@ use samples::replies::{self, laid, RECORD_LENGTH};
 use samples::Dice;
 
 /// Where the padding of a record is: its bytes that are part of no field.
-const PADDING: [u64; RECORD_WORDS] = [0xffff_ff00, !0xff, 0, !0xff];
+const PADDING: [u64; RECORD_WORDS] = [0xff00_0000, 0];
 
 /// So many words at most stand before the first record, which so begins at every place of 64 bytes where one may.
 const MOST_BEFORE: usize = 7;
 
-/// The fields of a reply of 15 bytes at their places in a record, the least byte of each first: the box at byte 0, the view
-/// at 4, the result at 8, the retry stamp at 16 and the final byte at 24.
+/// The fields of a reply of 15 bytes at their places in a record, the least byte of each first: the box at byte 0, the
+/// result at 1, the final byte at 2, the view at 4 and the retry stamp at 8.
 fn words(reply: &[u8]) -> [u64; RECORD_WORDS] {
     let view = u32::from_be_bytes(reply[1..5].try_into().expect("four bytes"));
     let retry = u64::from_be_bytes(reply[6..14].try_into().expect("eight bytes"));
+    let small = [reply[0], reply[5], reply[14], 0];
     [
-        u64::from(view) << 32 | u64::from(reply[0]),
-        reply[5].into(),
+        u64::from(view) << 32 | u64::from(u32::from_le_bytes(small)),
         retry,
-        reply[14].into(),
     ]
 }
 

@@ -186,25 +186,19 @@ fn the_fields_are_read_at_their_places() {
     assert_eq!(boundary::count(3, &both), 0xa1a2_a3a4_a5a6_1200);
 }
 
-/// The same two replies as records, written as C lays them out, their padding bytes 0xee.
+/// The same two replies as records, written as C lays them out, their padding byte 0xee.
 #[test]
 fn the_fields_of_a_record_are_read_at_their_places() {
-    let one: [u64; 4] = [
-        0x0102_0304_eeee_ee00,
-        0xeeee_eeee_eeee_ee04,
-        0x0000_a1a2_a3a4_a5a6,
-        0xeeee_eeee_eeee_ee00,
-    ];
-    let mut other = one;
-    (other[0], other[3]) = (one[0] | 1, one[3] | 1);
+    let one: [u64; 2] = [0x0102_0304_ee00_0400, 0x0000_a1a2_a3a4_a5a6];
+    let other = [one[0] | 0x1_0001, one[1]];
     let words = [one, other].concat();
     let records = boundary::records_in(&words);
     let fields = boundary::Record {
         box_number: 1,
-        view: 0x0102_0304,
         result: 4,
-        retry: 0xa1a2_a3a4_a5a6,
         is_final: 1,
+        view: 0x0102_0304,
+        retry: 0xa1a2_a3a4_a5a6,
     };
     assert_eq!(records[1], fields);
     assert_eq!(boundary::count_records(3, records), 0xa1a2_a3a4_a5a6_1200);

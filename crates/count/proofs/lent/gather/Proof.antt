@@ -80,8 +80,8 @@ over : (h : Replies) (ys : List Reply) (i : ℕ) → length ys ≤ i → withRep
 unfolding withReplies
 over h ys i l = ap (withReplies h) (drop-of-length-le ys l)
 
--- a reply has 32 bytes
-reach : (i n : ℕ) → i < n → n * 32 < 2 ^ 63 → i * 32 < 2 ^ 64
+-- a reply has 16 bytes
+reach : (i n : ℕ) → i < n → n * 16 < 2 ^ 63 → i * 16 < 2 ^ 64
 reach i n l r = omega arith
 
 after : (i n : ℕ) → i < n → n < 2 ^ 64 → i + 1 < 2 ^ 64
@@ -192,7 +192,7 @@ module _ {M : Type 1} (𝓤 : URA M) (H : Heap 𝓤) (A : Atoms 𝓤) (W : Given
             (λ less. let l : x .i < n = ltb→lt (x .i) n less in
             assigns ! (bin ! (load ! (from ! (stop !)) (look ! 8 refl)) (lit ! tt) (record { fits = reach (x .i) n l (room .1) })) (from ! (stop !)) (store ! 6 refl (tt, record { fits = reach (x .i) n l (room .1) })) $
             assigns ! (bin ! (load ! (from ! (fld ! refl (stop !))) (look-in ! 12 (sub ! 0 refl (whole !)))) (load ! (from ! (stop !)) (look ! 6 refl)) tt) (from ! (stop !)) (init ! 2 refl (tt, tt)) $
-            rewrite ! 2 (λ (p : ℕ). ‵ (fat fullShare tyPtr l₆ 0 (vptr b p))) (sym (place-is 32 o (x .i))) refl $ move ! (17 ∷ 16 ∷ []) $
+            rewrite ! 2 (λ (p : ℕ). ‵ (fat fullShare tyPtr l₆ 0 (vptr b p))) (sym (place-is 16 o (x .i))) refl $ move ! (17 ∷ 16 ∷ []) $
             looks-slice ! tt R.the-row (Is R.the-row) (shows 𝓤 H A R.the-row) vals (LL.tells R.the-type R′.the-laws) (LL.copy R.the-type R′.the-copy 𝓤 H A W) ys b o (λ q′.
             elem-out ! R.the-row (Is R.the-row) (shows 𝓤 H A R.the-row) vals (LL.tells R.the-type R′.the-laws) q′ ys (x .i) noReply b o l (λ g.
             -- [the reply at i; what it owns; the others; what shuts the list; the shared borrow; _7; …; _6; …]
