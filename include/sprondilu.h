@@ -205,10 +205,10 @@ uint64_t sprondilu_count(uint8_t n, const uint8_t *replies, size_t replies_len);
  */
 typedef struct sprondilu_record {
     uint8_t box;
-    uint8_t result;
-    uint8_t is_final;
+    uint8_t result;   /* SPRONDILU_OK to SPRONDILU_RETRY */
+    uint8_t is_final; /* 1 if the result is final, 0 if it is tentative */
     uint32_t view;
-    uint64_t retry;
+    uint64_t retry; /* the retry stamp of SPRONDILU_RETRY, 0 for another result */
 } sprondilu_record;
 
 /* C's own layout on the machine of the library, which reads the fields there. */
@@ -228,7 +228,7 @@ SPRONDILU_ASSERT(SPRONDILU_ALIGN_OF(sprondilu_record) == 8, "a record is aligned
  * with the numbers of these fields: every bit of it, refusals too, and the same may be done with it. A number that fits
  * its field may stand there, also one that breaks a rule. There are no replies cut short here, so no length is refused for
  * that; more than seven records are SPRONDILU_BAD_MESSAGE, whatever they are, since no group has so many boxes.
- * The padding of a record, its bytes that are part of no field, is not looked at. No byte changes.
+ * The padding of a record, its byte that is part of no field, is not looked at. No byte changes.
  */
 uint64_t sprondilu_count_records(uint8_t n, const sprondilu_record *records, size_t records_len);
 
