@@ -198,10 +198,10 @@ uint8_t sprondilu_merge(const uint8_t *run, size_t run_len, uint32_t view, uint8
 uint64_t sprondilu_count(uint8_t n, const uint8_t *replies, size_t replies_len);
 
 /*
- * One reply as sprondilu_count_records takes it. From the 24 bytes of a reply of sprondilu_answer to message 1 or 2 whose
- * number is SPRONDILU_DONE: `box` is byte 2; `view` is bytes 4 to 7 and `retry` bytes 16 to 23, as numbers whose first byte
- * counts most; byte 3 is the state byte: if it is 1 to 4 it is `result`, and `is_final` is 0; if it is 5 to 8 `result` is 4
- * less, and `is_final` is 1.
+ * One reply as sprondilu_count_records takes it. From the 24 bytes, the first being byte 0, of a reply of sprondilu_answer
+ * to message 1 or 2 whose number is SPRONDILU_DONE: `box` is byte 2; `view` is bytes 4 to 7 and `retry` bytes 16 to 23, as
+ * numbers whose first byte counts most; byte 3 is the state byte: if it is 1 to 4 it is `result`, and `is_final` is 0; if it
+ * is 5 to 8 `result` is 4 less, and `is_final` is 1.
  */
 typedef struct sprondilu_record {
     uint8_t box;

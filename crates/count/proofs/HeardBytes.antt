@@ -122,7 +122,7 @@ replies-read (r ∷ rs) k =
     )
 
 -- they are as many as 15 goes into the bytes, with nothing left
-pub bytes-whole : (rs : List Reply) → (length (recordsBytes rs) ≡ 15 * (length (recordsBytes rs) / 15)) × (length (recordsBytes rs) / 15 ≡ length rs)
+bytes-whole : (rs : List Reply) → (length (recordsBytes rs) ≡ 15 * (length (recordsBytes rs) / 15)) × (length (recordsBytes rs) / 15 ≡ length rs)
 bytes-whole rs = let l : length (recordsBytes rs) ≡ 15 * length rs = length-all rs in (omega arith, omega arith)
 
 -- a list of records and the same replies as bytes have the same answer

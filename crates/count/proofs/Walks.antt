@@ -65,7 +65,7 @@ module _ {M : Type 1} {𝓤 : URA M} {H : Heap 𝓤} {A : Atoms 𝓤} {K : Type 
 
 -- ---- a function that takes n and a list, with any result
 
-abbrev pub Sized : Slot 1 → Ended
+abbrev Sized : Slot 1 → Ended
 Sized out = record {
   signature = record { lifetimes = 1; outlives = []; params = plain (λ _. u8) ∷ shrSliceOf (0 ∷ []) tt (plain (λ _. R.the-row)) ∷ []; result = out };
   kept = (yes, (yes, tt));

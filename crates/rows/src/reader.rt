@@ -35,4 +35,12 @@ impl<'a> Reader<'a> {
     {
         row::fields_at(self.image, self.begin, self.index)
     }
+
+    // The body of that row, as the part of the image where it lies.
+    pub fn body(self) -> &'a [u8]
+        requires { ⌜ (self .begin + 24 * self .index + 24 ≤ length (now (self .image))) × BodyInside (now (self .image)) (fieldsAt (now (self .image)) (self .begin + 24 * self .index)) ⌝ }
+        ensures { λ r. ⌜ now r ≡ bodyPart (now (self .entry .image)) (fieldsAt (now (self .entry .image)) (self .entry .begin + 24 * self .entry .index)) ⌝ }
+    {
+        row::body_in(self.image, self.begin, self.index)
+    }
 }

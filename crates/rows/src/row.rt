@@ -103,12 +103,20 @@ pub fn body_of(image: &[u8], row: RowFields) -> &[u8]
     &image[from..to]
 }
 
-// The body of the row at an index.
+// The body of the row at an index: the reader's work, in a plain slice.
+pub fn body_in(image: &[u8], begin: usize, index: usize) -> &[u8]
+    requires { ⌜ (begin + 24 * index + 24 ≤ length (now image)) × BodyInside (now image) (fieldsAt (now image) (begin + 24 * index)) ⌝ }
+    ensures { λ r. ⌜ now r ≡ bodyPart (now (image .entry)) (fieldsAt (now (image .entry)) (begin + 24 * index)) ⌝ }
+{
+    body_of(image, fields_at(image, begin, index))
+}
+
+// The body of the row at an index, through a reader.
 pub fn body_at(image: &[u8], begin: usize, index: usize) -> &[u8]
     requires { ⌜ (begin + 24 * index + 24 ≤ length (now image)) × BodyInside (now image) (fieldsAt (now image) (begin + 24 * index)) ⌝ }
     ensures { λ r. ⌜ now r ≡ bodyPart (now (image .entry)) (fieldsAt (now (image .entry)) (begin + 24 * index)) ⌝ }
 {
-    body_of(image, row_at(image, begin, index))
+    reader::at(image, begin, index).body()
 }
 
 // A stamp is 1 to 2^48-1.

@@ -24,7 +24,7 @@ countAnswer Wait = answerNumber Wait + resultWord 0 0 0
 countAnswer Bad = answerNumber Bad
 countAnswer Contradiction = answerNumber Contradiction
 
--- a result's code is at most 4, and a retry stamp has 48 bits
+-- a result fits its 3 bits and a retry stamp its 48: what is asked of an answer before its word is made
 abbrev pub ResultFits : Counted → Type 0
 ResultFits (Fast result retry) = (result < 8) × (retry < 2 ^ 48)
 ResultFits (Slow result retry) = (result < 8) × (retry < 2 ^ 48)

@@ -41,7 +41,7 @@ SliceOwn R κ s = ShrSlice (named 0) κ R .own s (sliceAs R s ∷ [])
 
 -- what a call has left: its result, of which the machine has u, and the tokens i
 module _ {M : Type 1} (𝓤 : URA M) (H : Heap 𝓤) (A : Atoms 𝓤) (F : Ended) (c : Clauses 𝓤 F) (κs : Lfts (F .signature .lifetimes)) (a : Args (F .signature) κs) (g : c κs a .ghost) where
-  abbrev pub Left : Item 𝓤 → Val → Item 𝓤
+  abbrev Left : Item 𝓤 → Val → Item 𝓤
   Left i u = later (some (λ (r : Res (F .signature) κs). (i ⊛ ‵ (typeAt (F .signature .result) κs .own r (u ∷ []))) ⊛ raw (ensured 𝓤 H A F c κs a g r)))
 
   -- no parameter was changed, so what is said of last values is let go

@@ -1,5 +1,6 @@
 //! The proved calls, as Rust links them from the static library. Nothing checks these declarations against the library's
-//! source, so there is one for each call of `include/sprondilu.h` and nothing else.
+//! source, so there is one for each call of `include/sprondilu.h`; beside them only the header's struct, and words seen as
+//! such structs.
 
 mod library {
     use super::Record;

@@ -1,6 +1,7 @@
 //! The house rules that a machine can hold the sources to.
 
 use house::{files, text};
+use std::collections::BTreeSet;
 
 /// The lines of each function of a Rattle source, from `fn` to the closing brace, with its name.
 fn functions(source: &str) -> Vec<(String, usize)> {
@@ -79,15 +80,35 @@ fn with_the_words(words: &str) -> Vec<String> {
     found
 }
 
-/// "One small reader over a lent image serves every row-by-row walk": a row is read in one place, which the reader calls,
-/// and a reader is asked for its row in one place, which all the others call.
+/// "One small reader over a lent image serves every row-by-row walk": a row and its body are found in one place each, which
+/// the reader calls, and a reader is asked for either in one place, which all the others call.
 #[test]
 fn a_row_is_read_through_the_reader_alone() {
-    let row = "crates/rows/src/row.rt".to_string();
-    let reader = "crates/rows/src/reader.rt".to_string();
-    assert_eq!(with_the_words("fields_at("), [reader, row.clone()]);
-    assert_eq!(with_the_words("reader::at("), [row.clone()]);
+    let row = "crates/rows/src/row.rt";
+    let reader = "crates/rows/src/reader.rt";
+    assert_eq!(with_the_words("row::fields_at("), [reader]);
+    assert_eq!(with_the_words(" fields_at("), [row; 2]);
+    assert_eq!(with_the_words("body_in("), [reader, row]);
+    assert_eq!(with_the_words("reader::at("), [row; 2]);
     assert_eq!(with_the_words(".row()"), [row]);
+    assert_eq!(with_the_words(".body()"), [row]);
     let walks = with_the_words("row_at(").len();
     assert!(walks > 10, "only {} lines take a row", walks);
+}
+
+/// Whoever read a row's numbers past the reader would have to take them from bytes. These sources do that at all: a reply that
+/// is counted, a message, an access of a body, a row, a header.
+#[test]
+fn numbers_are_taken_from_bytes_in_few_places() {
+    let readers = ["wire::u8_at(", "wire::u32_at(", "wire::u64_at("];
+    let sources: BTreeSet<String> = readers.into_iter().flat_map(with_the_words).collect();
+    let expected = [
+        "crates/count/src/call.rt",
+        "crates/message/src/kinds.rt",
+        "crates/rows/src/body.rt",
+        "crates/rows/src/row.rt",
+        "crates/table/src/header.rt",
+    ];
+    assert!(sources.iter().eq(expected), "{:?}", sources);
+    assert_eq!(with_the_words("number_at("), ["crates/wire/src/lib.rt"; 5]);
 }

@@ -4,9 +4,10 @@ use crate::lent::Lent;
 use samples::replies::{self, laid};
 use samples::Record;
 
-/// How many replies, beside those of a group: about the ends of a byte and of two, and 65,535 bytes.
-const LENGTHS: [usize; 13] = [
-    8, 9, 15, 16, 31, 100, 255, 256, 257, 4_368, 4_369, 4_370, 65_536,
+/// How many replies, beside those of a group: about the ends of a byte and of two, and 65,536 bytes, as records and as 15
+/// bytes each.
+const LENGTHS: [usize; 14] = [
+    8, 9, 15, 16, 31, 100, 255, 256, 257, 4_096, 4_368, 4_369, 4_370, 65_536,
 ];
 
 /// Lists as long as these and a little longer, so that cut to one byte or two they would be those of a group.

@@ -67,13 +67,13 @@ use Rattle.count.proofs.lent.gather.Code.Mir as body
 
 -- ---- lists and numbers
 
-abbrev replyAt : List Reply → ℕ → Reply
-replyAt ys i = getD ys i noReply
+abbrev listedAt : List Reply → ℕ → Reply
+listedAt ys i = getD ys i noReply
 
 -- one reply more
-turned : (h : Replies) (ys : List Reply) (i : ℕ) → i < length ys → withReplies h (drop i ys) ≡ withReplies (withReply h (replyAt ys i)) (drop (i + 1) ys)
+turned : (h : Replies) (ys : List Reply) (i : ℕ) → i < length ys → withReplies h (drop i ys) ≡ withReplies (withReply h (listedAt ys i)) (drop (i + 1) ys)
 unfolding withReplies
-turned h ys i l = ap (withReplies h) (drop-cons ys i noReply l) ∙ ap (λ (k : ℕ). withReplies (withReply h (replyAt ys i)) (drop k ys)) (sym (add-one i))
+turned h ys i l = ap (withReplies h) (drop-cons ys i noReply l) ∙ ap (λ (k : ℕ). withReplies (withReply h (listedAt ys i)) (drop k ys)) (sym (add-one i))
 
 -- none is left
 over : (h : Replies) (ys : List Reply) (i : ℕ) → length ys ≤ i → withReplies h (drop i ys) ≡ h
@@ -117,8 +117,8 @@ module _ {M : Type 1} (𝓤 : URA M) (H : Heap 𝓤) (A : Atoms 𝓤) (mem : Mem
   to-with h v r u = ((tt, tt, tt, (h, (r, tt)), (v ∷ [], (u ∷ [], tt))), tt)
 
 module _ {M : Type 1} (𝓤 : URA M) (H : Heap 𝓤) (A : Atoms 𝓤) (W : Given 𝓤 H A) (mem : Memory → SProp 𝓤) (run : Routine → Fun 𝓤) where
-  goes-none : ent 𝓤 (emp 𝓤) (None 𝓤 H A mem run .pre (to-none 𝓤 H A mem run))
-  goes-none = qed W [] ∵ nothing ! $ nothing ! $ join ! $ frame ! $ done !
+  goes-to-none : ent 𝓤 (emp 𝓤) (None 𝓤 H A mem run .pre (to-none 𝓤 H A mem run))
+  goes-to-none = qed W [] ∵ nothing ! $ nothing ! $ join ! $ frame ! $ done !
 
   goes-with : (h : Replies) (v : Val) (r : Reply) (u : Val) → Is D.the-row h (v ∷ []) → Is R.the-row r (u ∷ []) → ent 𝓤 (emp 𝓤) (With 𝓤 H A mem run .pre (to-with 𝓤 H A mem run h v r u))
   goes-with h v r u ih ir =
@@ -158,7 +158,7 @@ module _ {M : Type 1} (𝓤 : URA M) (H : Heap 𝓤) (A : Atoms 𝓤) (W : Given
     Nearer-wf : WellFounded Nearer
     Nearer-wf = InvImage·wf (λ (x : Upto). n - x .i) (Nat·lt-wfRel .wf)
 
-    abbrev next : (x : Upto) → x .i < n → (k : Replies) (u : Val) → Is D.the-row k (u ∷ []) → k ≡ withReply (x .h) (replyAt ys (x .i)) → Upto
+    abbrev next : (x : Upto) → x .i < n → (k : Replies) (u : Val) → Is D.the-row k (u ∷ []) → k ≡ withReply (x .h) (listedAt ys (x .i)) → Upto
     next x l k u is e = record { i = x .i + 1; h = k; v = u; le = add-one-le l; is = is; left = ap (λ (z : Replies). withReplies z (drop (x .i + 1) ys)) e ∙ sym (turned (x .h) ys (x .i) l) ∙ x .left }
 
     module _ (𝓣 : Tables 𝓤 H) (fm : FmC 𝓤 H (W .laws) (𝓣 .C)) (known-none : Triple 𝓤 (𝓣 .C #none) (None 𝓤 H A mem run)) (known-with : Triple 𝓤 (𝓣 .C #with) (With 𝓤 H A mem run)) where
@@ -196,13 +196,13 @@ module _ {M : Type 1} (𝓤 : URA M) (H : Heap 𝓤) (A : Atoms 𝓤) (W : Given
             looks-slice ! tt R.the-row (Is R.the-row) (shows 𝓤 H A R.the-row) vals (LL.tells R.the-type R′.the-laws) (LL.copy R.the-type R′.the-copy 𝓤 H A W) ys b o (λ q′.
             elem-out ! R.the-row (Is R.the-row) (shows 𝓤 H A R.the-row) vals (LL.tells R.the-type R′.the-laws) q′ ys (x .i) noReply b o l (λ g.
             -- [the reply at i; what it owns; the others; what shuts the list; the shared borrow; _7; …; _6; …]
-            assigns ! (of-opd ! (load ! (from ! (hop ! (look ! 7 refl) (stop !))) (look-raw ! 0 refl))) (from ! (stop !)) (init ! 5 refl (LL.lawful R.the-type R′.the-laws 𝓤 H A W .typed (replyAt ys (x .i)) _ g .0)) $
-            elem-back ! R.the-row q′ ys (x .i) noReply (vals (replyAt ys (x .i))) b o l $ shuts-slice ! tt R.the-row q′ ys b o $
+            assigns ! (of-opd ! (load ! (from ! (hop ! (look ! 7 refl) (stop !))) (look-raw ! 0 refl))) (from ! (stop !)) (init ! 5 refl (LL.lawful R.the-type R′.the-laws 𝓤 H A W .typed (listedAt ys (x .i)) _ g .0)) $
+            elem-back ! R.the-row q′ ys (x .i) noReply (vals (listedAt ys (x .i))) b o l $ shuts-slice ! tt R.the-row q′ ys b o $
             -- [the token; the shared borrow; _7; …; _2; …; _1; …; room for _0; …; what the list owns]
-            use0 W (raw (With 𝓤 H A mem run .pre (to-with 𝓤 H A mem run (x .h) (x .v) (replyAt ys (x .i)) (mach (replyAt ys (x .i)))))) (goes-with (x .h) (x .v) (replyAt ys (x .i)) _ (x .is) g) $
-            calls-at ! fm (With 𝓤 H A mem run) known-with (to-with 𝓤 H A mem run (x .h) (x .v) (replyAt ys (x .i)) (mach (replyAt ys (x .i))))
+            use0 W (raw (With 𝓤 H A mem run .pre (to-with 𝓤 H A mem run (x .h) (x .v) (listedAt ys (x .i)) (mach (listedAt ys (x .i)))))) (goes-with (x .h) (x .v) (listedAt ys (x .i)) _ (x .is) g) $
+            calls-at ! fm (With 𝓤 H A mem run) known-with (to-with 𝓤 H A mem run (x .h) (x .v) (listedAt ys (x .i)) (mach (listedAt ys (x .i))))
             (and-then ! (load ! (from ! (stop !)) (look ! 13 refl)) (and-then ! (load ! (from ! (stop !)) (look ! 3 refl)) (no-more !))) (λ u.
-            answers ! tt hold.ended (hold.clauses 𝓤 H A mem run) tt (x .h, (replyAt ys (x .i), tt)) tt (‵ ftrue) u (λ k. k ≡ withReply (x .h) (replyAt ys (x .i))) (λ k e. id⊢ 𝓤 _) (λ k e is. gives-up ! $
+            answers ! tt hold.ended (hold.clauses 𝓤 H A mem run) tt (x .h, (listedAt ys (x .i), tt)) tt (‵ ftrue) u (λ k. k ≡ withReply (x .h) (listedAt ys (x .i))) (λ k e. id⊢ 𝓤 _) (λ k e is. gives-up ! $
             land ! (from ! (stop !)) (store ! 12 refl (LL.lawful D.the-type D′.the-laws 𝓤 H A W .typed k _ is .0)) $
             assigns-last ! (bin ! (load ! (from ! (stop !)) (look ! 10 refl)) (lit ! tt) (record { fits = after (x .i) n l (room .0) })) (from ! (stop !)) (store ! 10 refl (tt, record { fits = after (x .i) n l (room .0) })) $
             forget ! 2 refl $ forget ! 4 refl $ forget ! 6 refl $ forget ! 8 refl $
@@ -222,7 +222,7 @@ module _ {M : Type 1} (𝓤 : URA M) (H : Heap 𝓤) (A : Atoms 𝓤) (W : Given
           qed W (lives κ q ∷ ‵ (ListedOwn κ s) ∷ []) ∵ enter ! C Λ code.function (listVal s ∷ []) _ $
           alloc1 ! (λ l₀. alloc1 ! (λ l₁. alloc1 ! (λ l₂. alloc1 ! (λ l₃. alloc1 ! (λ l₄. alloc1 ! (λ l₅. alloc1 ! (λ l₆. alloc1 ! (λ l₇. alloc0 ! $ params1 ! $
           pass1 ! (init ! 12 refl (tt, (tt, (record { fits = room .0 }, tt)))) $ pass0 ! $
-          use0 W (raw (None 𝓤 H A mem run .pre (to-none 𝓤 H A mem run))) goes-none $
+          use0 W (raw (None 𝓤 H A mem run .pre (to-none 𝓤 H A mem run))) goes-to-none $
           calls-at ! fm (None 𝓤 H A mem run) known-none (to-none 𝓤 H A mem run) (no-more !) (λ u.
           answers ! tt none.ended (none.clauses 𝓤 H A mem run) tt tt tt (‵ ftrue) u (λ k. k ≡ noneHeld) (λ k e. id⊢ 𝓤 _) (λ k e is. gives-up ! $
           land ! (from ! (stop !)) (init ! 10 refl (LL.lawful D.the-type D′.the-laws 𝓤 H A W .typed k _ is .0)) $

@@ -1,6 +1,6 @@
 -- A reader is made of the three that are passed, held in a local, and asked for its row: walked by hand. All that the walk knows of the two calls is their contracts.
 -- In a local of a body the lifetime of the reader's type is erased; what the reader owns does not say the lifetime's name.
-use mathlib.Core.Path.{_≡_, refl}
+use mathlib.Core.Path.{_≡_, refl, _∙_}
 use Prim.Native.Nat.{ℕ, _+_, _*_, _≤_, _<_, _^_}
 use mathlib.Core.List.{List, [], _∷_}
 use lib.ListN.{length}
@@ -34,7 +34,7 @@ use Rattle.wire.proofs.HandWalks.{lives, twice, answered}
 use Rattle.rows.specs.Fields.{fieldsAt}
 use Rattle.rows.specs.declared.reader.Reader.{Reader}
 use Rattle.rows.specs.declared.row.RowFields.{RowFields}
-use Rattle.rows.proofs.Readers.{ReaderType, imageVal, ThreeOwn, three, threeVals, to-three, of-three, Ends, ends, three-meets}
+use Rattle.rows.proofs.Readers.{ReaderType, imageVal, ThreeOwn, three, threeVals, to-three, of-three, Ends, ends, three-meets, Made, made-same, made-holds}
 use Rattle.rows.proofs.reader.Reader as T
 use Rattle.rows.proofs.reader.Reader.Laws as T′
 use Rattle.rows.proofs.row.RowFields as R
@@ -52,20 +52,15 @@ use Rattle.rows.proofs.row.row_at.Key.{name as #row-at}
 use Rattle.rows.proofs.row.row_at.Statement as stated
 use Rattle.rows.proofs.row.row_at.Code as code
 
--- a reader of this image and these numbers
-abbrev Made : RefT (List ℕ) → ℕ → ℕ → Reader → Type 0
-Made s b i r = (r .image ≡ s) × (r .begin ≡ b) × (r .index ≡ i)
+-- what is asked, and what is found
+abbrev Asked : RefT (List ℕ) → ℕ → ℕ → Type 0
+Asked s b i = b + 24 * i + 24 ≤ length (now s)
 
--- its row is inside
-within : (s : RefT (List ℕ)) (b i : ℕ) (r : Reader) → Made s b i r → b + 24 * i + 24 ≤ length (now s) → r .begin + 24 * r .index + 24 ≤ length (now (r .image))
-within s b i r e inside = rw (e .0, e .1, e .2) inside
-
--- and is that of the image
-same-row : (s : RefT (List ℕ)) (b i : ℕ) (r : Reader) (t : RowFields) → Made s b i r → t ≡ fieldsAt (now (r .image)) (r .begin + 24 * r .index) → t ≡ fieldsAt (now s) (b + 24 * i)
-same-row s b i r t e f = rw (f, e .0, e .1, e .2)
+abbrev found : RefT (List ℕ) → ℕ → ℕ → RowFields
+found s b i = fieldsAt (now s) (b + 24 * i)
 
 module _ {M : Type 1} (𝓤 : URA M) (H : Heap 𝓤) (A : Atoms 𝓤) (mem : Memory → SProp 𝓤) (run : Routine → Fun 𝓤) where
-  -- ---- the contracts that are called
+  -- ---- the contracts that are called, and what is passed
 
   abbrev At : Contract 𝓤
   At = tripleOf 𝓤 H A at.signature (at.spec 𝓤 H A mem run)
@@ -79,13 +74,12 @@ module _ {M : Type 1} (𝓤 : URA M) (H : Heap 𝓤) (A : Atoms 𝓤) (mem : Mem
   abbrev to-row : Lft → Share → Reader → Val → Row .Ghost
   to-row κ q r u = (((κ, tt), (q, tt), tt, (r, tt), (u ∷ [], tt)), tt)
 
-module _ {M : Type 1} (𝓤 : URA M) (H : Heap 𝓤) (A : Atoms 𝓤) (W : Given 𝓤 H A) (mem : Memory → SProp 𝓤) (run : Routine → Fun 𝓤) (κ : Lft) (q : Share) (s : RefT (List ℕ)) (b i : ℕ) (bf : b < 2 ^ 64) (jf : i < 2 ^ 64)
-    (inside : b + 24 * i + 24 ≤ length (now s)) where
+module _ {M : Type 1} (𝓤 : URA M) (H : Heap 𝓤) (A : Atoms 𝓤) (W : Given 𝓤 H A) (mem : Memory → SProp 𝓤) (run : Routine → Fun 𝓤) (κ : Lft) (q : Share) (s : RefT (List ℕ)) (b i : ℕ) (bf : b < 2 ^ 64) (jf : i < 2 ^ 64) (asked : Asked s b i) where
   goes-at : ent 𝓤 (⋆ 𝓤 H A (lives κ q ∷ ‵ (ThreeOwn κ s b i) ∷ [])) (At 𝓤 H A mem run .pre (to-at 𝓤 H A mem run κ q s b i))
   goes-at = qed W (lives κ q ∷ ‵ (ThreeOwn κ s b i) ∷ []) ∵ join ! $ frame ! $ done !
 
   goes-row : (r : Reader) (u : Val) → Made s b i r → ent 𝓤 (⋆ 𝓤 H A (‵ (ReaderType (κ, tt) .own r (u ∷ [])) ∷ lives κ q ∷ [])) (Row 𝓤 H A mem run .pre (to-row 𝓤 H A mem run κ q r u))
-  goes-row r u e = qed W (‵ (ReaderType (κ, tt) .own r (u ∷ [])) ∷ lives κ q ∷ []) ∵ says ! (within s b i r e inside) $ nothing ! $ move ! (1 ∷ 0 ∷ []) $ fjoin ! $ move ! (1 ∷ 0 ∷ []) $ frame ! $ done !
+  goes-row r u e = qed W (‵ (ReaderType (κ, tt) .own r (u ∷ [])) ∷ lives κ q ∷ []) ∵ says ! (made-holds Asked s b i r e asked) $ nothing ! $ move ! (1 ∷ 0 ∷ []) $ fjoin ! $ move ! (1 ∷ 0 ∷ []) $ frame ! $ done !
 
   -- the reader's type as a local of a body has it
   abbrev αᵉ : NamedLft
@@ -104,12 +98,12 @@ module _ {M : Type 1} (𝓤 : URA M) (H : Heap 𝓤) (A : Atoms 𝓤) (W : Given
       land ! (from ! (stop !)) (init ! 3 refl (LL.lawful (T.the-type αᵉ) (T′.the-laws αᵉ) 𝓤 H A W .typed r _ is .0)) $
       use2 W (raw (Row 𝓤 H A mem run .pre (to-row 𝓤 H A mem run κ q r u))) (goes-row r u e) $
       calls-at ! fm (Row 𝓤 H A mem run) known-row (to-row 𝓤 H A mem run κ q r u) (and-then ! (load ! (from ! (stop !)) (look ! 2 refl)) (no-more !)) (λ u′.
-      answered ! tt row.ended (row.clauses 𝓤 H A mem run) (κ, tt) (r, tt) tt (lives κ q) u′ (λ t. t ≡ fieldsAt (now (r .image)) (r .begin + 24 * r .index)) (λ t f. id⊢ 𝓤 _) (λ t f is′.
+      answered ! tt row.ended (row.clauses 𝓤 H A mem run) (κ, tt) (r, tt) tt (lives κ q) u′ (λ t. t ≡ found (r .image) (r .begin) (r .index)) (λ t f. id⊢ 𝓤 _) (λ t f is′.
       -- [the row; the token; what the image owns; _4; …; _3; …; _2; …; _1; …; room for _0; …]
       land ! (from ! (stop !)) (init ! 11 refl (LL.lawful R.the-type R′.the-laws 𝓤 H A W .typed t _ is′ .0)) $
       returns ! (look ! 11 refl) $ forget ! 3 refl $ forget ! 5 refl $ forget ! 7 refl $ forget ! 9 refl $ forget ! 11 refl $
       move ! (11 ∷ 12 ∷ []) $ free1 ! $ move ! (9 ∷ 10 ∷ []) $ free1 ! $ move ! (7 ∷ 8 ∷ []) $ free1 ! $ move ! (5 ∷ 6 ∷ []) $ free1 ! $ move ! (3 ∷ 4 ∷ []) $ free1 ! $ free0 ! $
-      by ! (ends 𝓤 H A (plain (λ _. R.the-row)) (row-at.clauses 𝓤 H A mem run) W κ q s b i tt bf jf t u′ (factI 𝓤 _ (emp 𝓤) (same-row s b i r t e f))))))))))))
+      by ! (ends 𝓤 H A (plain (λ _. R.the-row)) (row-at.clauses 𝓤 H A mem run) W κ q s b i tt bf jf t u′ (factI 𝓤 _ (emp 𝓤) (f ∙ made-same found s b i r e))))))))))))
 
 pub row-at-spec : {M : Type 1} → stated.statement M
 unfolding code.routine tablesOf
@@ -118,6 +112,6 @@ row-at-spec 𝓤 H 𝓜 𝓖 𝓡 =
     (tables 𝓤 H 𝓜 𝓡 code.env .C) (tables 𝓤 H 𝓜 𝓡 code.env .Λ) #row-at code.function (code.unfolded 𝓤 H 𝓜 𝓡)
     (three-meets 𝓤 H (𝓖 .A) (plain (λ _. R.the-row)) (row-at.clauses 𝓤 H (𝓖 .A) (𝓜 .mem) (𝓡 .run)) (givenOf 𝓤 H 𝓜 𝓖) code.function (tablesOf 𝓤 H 𝓜 (tables 𝓤 H 𝓜 𝓡 code.env))
     (λ κ q s b i g bf jf p. needs 𝓤 _ _
-    (λ inside. walk 𝓤 H (𝓖 .A) (givenOf 𝓤 H 𝓜 𝓖) (𝓜 .mem) (𝓡 .run) κ q s b i bf jf inside (tables 𝓤 H 𝓜 𝓡 code.env .C) (tables 𝓤 H 𝓜 𝓡 code.env .Λ) (fmOf 𝓤 H (givenOf 𝓤 H 𝓜 𝓖 .laws) (tablesOf 𝓤 H 𝓜 (tables 𝓤 H 𝓜 𝓡 code.env)))
+    (λ asked. walk 𝓤 H (𝓖 .A) (givenOf 𝓤 H 𝓜 𝓖) (𝓜 .mem) (𝓡 .run) κ q s b i bf jf asked (tables 𝓤 H 𝓜 𝓡 code.env .C) (tables 𝓤 H 𝓜 𝓡 code.env .Λ) (fmOf 𝓤 H (givenOf 𝓤 H 𝓜 𝓖 .laws) (tablesOf 𝓤 H 𝓜 (tables 𝓤 H 𝓜 𝓡 code.env)))
     (cited 𝓤 H (At 𝓤 H (𝓖 .A) (𝓜 .mem) (𝓡 .run)) 𝓜 𝓡 code.env #at at-def.routine code.calls-rows·reader·at (at-thm.met 𝓤 H 𝓜 𝓖 𝓡))
     (cited 𝓤 H (Row 𝓤 H (𝓖 .A) (𝓜 .mem) (𝓡 .run)) 𝓜 𝓡 code.env #row row-def.routine code.calls-rows·reader·Reader·row (row-thm.met 𝓤 H 𝓜 𝓖 𝓡)) p)))
