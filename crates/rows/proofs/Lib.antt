@@ -8,3 +8,4 @@ pub mod RowsRead
 pub mod Turns
 pub mod Sought
 pub mod Readers
+pub mod ReaderCalls
