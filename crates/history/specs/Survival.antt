@@ -82,8 +82,8 @@ module _ {A : Type 0} where
   at (x ∷ xs) (suc k) = at xs k
 
 -- one value of a function changed
-abbrev pub put : (ℕ → Table) → ℕ → Table → ℕ → Table
-put tables box T b = cond (eqb box b) T (tables b)
+abbrev pub put : {A : Type 0} → (ℕ → A) → ℕ → A → ℕ → A
+put values box x b = cond (eqb box b) x (values b)
 
 abbrev pub sending : Group → Sent → Group
 sending G x = record { n = G .n; table = G .table; had = G .had; sent = G .sent ++ (x ∷ []); answers = G .answers; declared = G .declared; merged = G .merged }
@@ -143,6 +143,10 @@ AsksPrepare s m = ((x : Body) × (m ≡ proposePrepare s x)) ⊎ ((u : ℕ) × (
 abbrev pub prepareHeard : Heard → Prepare
 prepareHeard h = cond (h .isFinal) (final (h .result)) (tentative (h .result))
 
+-- this many different boxes
+abbrev pub DifferentBoxes : ℕ → (ℕ → Type 0) → Type 0
+DifferentBoxes k P = (bs : List ℕ) × (twice (λ b. b) bs ≡ false) × (k ≤ length bs) × ((b : ℕ) → b ∈ bs → P b)
+
 module _ (G : Group) where
   abbrev pub WasSent : Message → Type 0
   WasSent m = (b : ℕ) × (record { box = b; message = m } ∈ G .sent)
@@ -153,10 +157,6 @@ module _ (G : Group) where
   -- box b has given this reply, numbered 0, to this message
   abbrev pub Gave : ℕ → Message → Reply → Type 0
   Gave b m p = (record { box = b; message = m; reply = p } ∈ G .answers) × (p .number ≡ 0)
-
-  -- this many different boxes
-  abbrev pub DifferentBoxes : ℕ → (ℕ → Type 0) → Type 0
-  DifferentBoxes k P = (bs : List ℕ) × (twice (λ b. b) bs ≡ false) × (k ≤ length bs) × ((b : ℕ) → b ∈ bs → P b)
 
   -- "f+1 different boxes"
   abbrev pub QuorumOf : (ℕ → Type 0) → Type 0

@@ -1,0 +1,2 @@
+pub mod LentTables
+pub mod NamedTables

@@ -1,0 +1,20 @@
+// A message arrives at one box.
+use crate::buffers;
+ghost use mathlib.Core.Path.{_≡_};
+ghost use Rattle.rules.specs.Tables.{valley};
+ghost use Rattle.answer.specs.Calls.{callNumber, callTable, callReply};
+ghost use Rattle.boxes.specs.Lent.{bufferOf, withBuffer};
+
+// The box answers it by its own table buffer. That of no other box is lent to the call.
+pub fn arrive(tables: &mut [u8], boxnumber: u8, message: &[u8], reply: &mut [u8]) -> u8
+    ensures { λ r. ⌜ r ≡ callNumber valley (bufferOf valley (now (tables .entry)) boxnumber) (now (message .entry)) (now (reply .entry)) ⌝ }
+    ensures { λ _. ⌜ now (tables .exit) ≡ withBuffer valley (now (tables .entry)) boxnumber (callTable valley (bufferOf valley (now (tables .entry)) boxnumber) (now (message .entry)) (now (reply .entry))) ⌝ }
+    ensures { λ _. ⌜ now (reply .exit) ≡ callReply valley (bufferOf valley (now (tables .entry)) boxnumber) (now (message .entry)) (now (reply .entry)) ⌝ }
+{
+    let from = buffers::place(boxnumber);
+    let to = from + buffers::LENGTH;
+    if tables.len() < to {
+        return 1;
+    }
+    answer::call::answer(&mut tables[from..to], message, reply)
+}

@@ -1,0 +1,16 @@
+pub mod Listed
+pub mod ImagesIn
+pub mod AnswerSaid
+pub mod MergeLaid
+pub mod RepliesRead
+pub mod Reading
+pub mod Good
+pub mod Says
+pub mod Counting
+pub mod RulesRead
+pub mod RulesBack
+pub mod Answering
+pub mod Merging
+pub mod Following
+pub mod Survival
+pub mod OneStep

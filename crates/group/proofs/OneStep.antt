@@ -1,0 +1,124 @@
+-- One call on bytes is one step of a group that is held in buffers. No rule is asked of what came to pass in it, or of the call.
+use mathlib.Core.Path.{_≡_, refl, sym, ap, subst, _∙_}
+use mathlib.Core.Bool.{true, false, cond}
+use mathlib.Core.Logic.{_⊎_, inl, inr}
+use mathlib.Core.List.{List, [], _∷_, _++_, map, Memᴰ·append-left, Memᴰ·append-right, Memᴰ·of-map, List·Memᴰ·head, Memᴰ·cast}
+use mathlib.Core.Option.{Option, none, some}
+use Prim.Native.Nat.{ℕ, _+_, _*_, _≤_, _<_}
+use native.Mathlib.Omega.{arith}
+use lib.Dec.{eqb, ltb}
+use lib.ListN.{length}
+use borrow.Author.Tests.{lt-ltb}
+use Rattle.wire.specs.Parts.{replaced}
+use Rattle.rules.specs.Tests.{allOf}
+use Rattle.rules.specs.Tables.{Table, Model, tableByRule}
+use Rattle.rules.specs.Circumstances.{belowLimit}
+use Rattle.rules.specs.Answers.{Answer, answer}
+use Rattle.rules.specs.Check.{check}
+use Rattle.rules.specs.Merge as rules
+use Rattle.rules.proofs.Logic.{eqb-self, same?}
+use Rattle.rules.proofs.Check.{check-by-rule}
+use Rattle.rules.proofs.Answers.{answer-same-box}
+use Rattle.table.specs.Images.{formatOne}
+use Rattle.table.specs.Parse.{parse}
+use Rattle.table.proofs.Images.{Sound, parse-by-rule}
+use Rattle.run.specs.Runs.{laidOut, images}
+use Rattle.run.proofs.RunTurns.{images-laid}
+use Rattle.transact.specs.Replies.{replyAs, replyBytes}
+use Rattle.answer.specs.Calls.{callNumber, callTable, callReply}
+use Rattle.answer.proofs.AnswerCall.{answer-length}
+use Rattle.history.specs.Survival as history
+use Rattle.history.specs.Survival.{_∈_, Group, Sent, Event.sends, Event.arrives, Event.merges, at, put, step}
+use Rattle.group.specs.Said.{said}
+use Rattle.group.specs.Held.{Holds}
+use Rattle.group.proofs.Listed.{at-last, places-of}
+use Rattle.group.proofs.AnswerSaid.{AnsweredAs, taken-reply, answered-as-said}
+use Rattle.group.proofs.MergeLaid.{Made, merge-laid}
+
+module _ (M : Model) (sound : Sound formatOne M) (room : 24 + 96 * M .rowLimit ≤ M .leastBuffer) (G : Group) (buffers : ℕ → List ℕ) (holds : Holds M G buffers) where
+  -- ---- a box answers
+
+  module _ (x : Sent) (inside : x .box < G .n) (message reply : List ℕ) (says : said M (G .n) message ≡ x .message) (long : 24 ≤ length reply) where
+    -- the answer that the step adds
+    abbrev pub theAnswer : Answer
+    theAnswer = answer M belowLimit check (G .table (x .box)) (x .message)
+
+    abbrev pub tableThen : List ℕ
+    tableThen = callTable M (buffers (x .box)) message reply
+
+    -- number, table and reply of the call are those of the step
+    pub call-is-answer : AnsweredAs M (buffers (x .box)) message reply theAnswer
+    call-is-answer =
+        rw says at (answered-as-said M (buffers (x .box)) message reply sound (G .n) (G .table (x .box)) (holds .large (x .box) inside, long) (holds .begins (x .box) inside) (holds .group (x .box) inside) .1)
+
+    held-then : (b : ℕ) → b < G .n → (x .box ≡ b) ⊎ (eqb (x .box) b ≡ false) →
+        let T = put (G .table) (x .box) (theAnswer .table) b in
+        let s = put buffers (x .box) tableThen b in
+        (M .leastBuffer ≤ length s) × (parse formatOne M s ≡ some T) × (T .n ≡ G .n) × (T ∈ (G .had ++ (theAnswer .table ∷ [])))
+    held-then b l (inl e) =
+        let r = parse-by-rule formatOne M (buffers (x .box)) (G .table (x .box)) (holds .begins (x .box) inside) in
+        let n = answer-same-box M belowLimit check check-by-rule (G .table (x .box)) (x .message) r .1 in
+        let k = answer-length M (buffers (x .box)) message reply sound room in
+        let j = holds .large (x .box) inside in
+        rw (← e, eqb-self (x .box)) (omega arith, call-is-answer .1, n ∙ holds .group (x .box) inside, Memᴰ·append-right (G .had) (List·Memᴰ·head refl))
+    held-then b l (inr e) = rw e (holds .large b l, holds .begins b l, holds .group b l, Memᴰ·append-left (theAnswer .table ∷ []) (holds .had b l))
+
+    pub answer-held : Holds M (history.answering G x theAnswer) (put buffers (x .box) tableThen)
+    answer-held =
+        record {
+          large = λ b l. held-then b l (same? (x .box) b) .0;
+          begins = λ b l. held-then b l (same? (x .box) b) .1;
+          group = λ b l. held-then b l (same? (x .box) b) .2;
+          had = λ b l. held-then b l (same? (x .box) b) .3;
+        }
+
+    -- the message at a place among those sent arrives
+    pub arrives-steps : (k : ℕ) → at (G .sent) k ≡ some x → step M belowLimit check G (arrives k) ≡ history.answering G x theAnswer
+    arrives-steps k e = rw (e, lt-ltb (x .box) (G .n) inside)
+
+  -- ---- a merge
+
+  -- of tables that boxes have now: the places where the group has had them
+  pub merges-steps : (v : ℕ) (boxes : List ℕ) → ((b : ℕ) → b ∈ boxes → b < G .n) → (ks : List ℕ) × (step M belowLimit check G (merges v ks) ≡ history.mergingAs M belowLimit check G v (rules.merge M check v (map (G .table) boxes)))
+  merges-steps v boxes inside = (found .0, ap (λ Ts. history.mergingAs M belowLimit check G v (rules.merge M check v Ts)) (found .1))
+    where
+      found : (ks : List ℕ) × (allOf (at (G .had)) ks ≡ map (G .table) boxes)
+      found = places-of (G .had) (map (G .table) boxes) (λ T m. let (b, i, e) = Memᴰ·of-map (G .table) boxes m in Memᴰ·cast (sym e) (holds .had b (inside b i)))
+
+  -- and the call on their images, laid end to end
+  pub merge-is-merge : (v : ℕ) (boxes : List ℕ) (out : List ℕ) → ((b : ℕ) → b ∈ boxes → b < G .n) → M .leastBuffer ≤ length out → Made M (laidOut (map (G .table) boxes)) v out (rules.merge M check v (map (G .table) boxes))
+  merge-is-merge v boxes out inside large =
+      merge-laid M (laidOut (map (G .table) boxes)) v out sound room (map (G .table) boxes) (images-laid M sound (map (G .table) boxes) by-rules) large
+    where
+      by-rules : (T : Table) → T ∈ map (G .table) boxes → tableByRule M T ≡ true
+      by-rules T m = let (b, i, e) = Memᴰ·of-map (G .table) boxes m in rw (← e) (parse-by-rule formatOne M (buffers b) (G .table b) (holds .begins b (inside b i)))
+
+-- bytes that are sent change no table
+sending-held : (M : Model) (G : Group) (x : Sent) (buffers : ℕ → List ℕ) → Holds M G buffers → Holds M (history.sending G x) buffers
+sending-held M G x buffers holds = record { large = holds .large; begins = holds .begins; group = holds .group; had = holds .had }
+
+-- bytes are sent to a box, and arrive at once
+module _ (M : Model) (sound : Sound formatOne M) (room : 24 + 96 * M .rowLimit ≤ M .leastBuffer) (G : Group) (buffers : ℕ → List ℕ) (holds : Holds M G buffers) (box : ℕ) (inside : box < G .n) (message reply : List ℕ) (long : 24 ≤ length reply) where
+  abbrev pub sentThen : Sent
+  sentThen = record { box = box; message = said M (G .n) message }
+
+  abbrev pub groupThen : Group
+  groupThen = step M belowLimit check (step M belowLimit check G (sends box (said M (G .n) message))) (arrives (length (G .sent)))
+
+  abbrev pub answerThen : Answer
+  answerThen = answer M belowLimit check (G .table box) (said M (G .n) message)
+
+  then-is : groupThen ≡ history.answering (history.sending G sentThen) sentThen answerThen
+  then-is = arrives-steps M sound room (history.sending G sentThen) buffers (sending-held M G sentThen buffers holds) sentThen inside message reply refl long (length (G .sent)) (at-last (G .sent) sentThen)
+
+  -- the call has the number and the reply of the answer that the two steps add, and leaves the buffers of the group after them
+  pub sent-and-answered : (groupThen .answers ≡ G .answers ++ (record { box = box; message = said M (G .n) message; reply = answerThen .reply } ∷ [])) × (callNumber M (buffers box) message reply ≡ answerThen .reply .number) × (callReply M (buffers box) message reply ≡ replaced reply 0 (replyBytes (replyAs (answerThen .reply)))) × Holds M groupThen (put buffers box (callTable M (buffers box) message reply))
+  sent-and-answered =
+      let H : Group = history.sending G sentThen in
+      let held : Holds M H buffers = sending-held M G sentThen buffers holds in
+      let (number, table, replied) = call-is-answer M sound room H buffers held sentThen inside message reply refl long in (
+        ap (λ K. K .answers) then-is,
+        number ∙ sym (taken-reply M (G .table box) (said M (G .n) message) .0),
+        replied,
+        subst (λ K. Holds M K (put buffers box (callTable M (buffers box) message reply))) (sym then-is) (answer-held M sound room H buffers held sentThen inside message reply refl long),
+      )

@@ -1,0 +1,5 @@
+pub mod Said
+pub mod Acts
+pub mod Rules
+pub mod Survival
+pub mod Held
