@@ -29,7 +29,7 @@ use Rattle.count.specs.declared.answer.Counted.{Counted}
 use Rattle.replies.specs.Heard.{resultRead, heard, allHeard}
 use Rattle.count.specs.Calls.{countOf, replyOf, allBytes, countBytes}
 use Rattle.count.specs.Answers.{answerAs, meant}
-use Rattle.count.proofs.HeardBytes.{Lawful, count-of-records, count-of-bytes}
+use Rattle.count.proofs.HeardBytes.{Lawful, ResultsByRule, count-of-records, count-of-bytes}
 use Rattle.count.proofs.Decisions.{by-rule, chosen-by-rule, results-good, any-retried}
 use Rattle.count.proofs.CountWays.{Lent, Lent.records, Lent.laid, Whole, lentReplies, lentHeard, countLent, BadLent, GoodLent, good-none, bad-or-good, good-lent, whole-lent}
 
@@ -193,5 +193,5 @@ says n lent k e = (e ∙ ap answerAs k, ap meant e ∙ answer-meant n lent ∙ k
 pub counted-heard : (n : ℕ) (hs : List Heard) → Lawful hs → {a : Counted} → a ≡ answerAs (countBytes n (allBytes hs)) → (a ≡ answerAs (counted n hs)) × (meant a ≡ counted n hs)
 counted-heard n hs k = says n (laid (allBytes hs)) (count-of-bytes n hs k)
 
-pub counted-records : (n : ℕ) (hs : List Heard) → Lawful hs → {a : Counted} → a ≡ answerAs (countOf n (map replyOf hs)) → (a ≡ answerAs (counted n hs)) × (meant a ≡ counted n hs)
+pub counted-records : (n : ℕ) (hs : List Heard) → ResultsByRule hs → {a : Counted} → a ≡ answerAs (countOf n (map replyOf hs)) → (a ≡ answerAs (counted n hs)) × (meant a ≡ counted n hs)
 counted-records n hs k = says n (records (map replyOf hs)) (count-of-records n hs k)

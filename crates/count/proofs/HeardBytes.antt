@@ -164,34 +164,38 @@ all-fit (h ∷ hs) k r m = go (List·Memᴰ·cases-cons m) (all-fit hs (λ g j. 
     go (inl e) below = subst FieldsFit (sym e) (heard-fits h (k h (List·Memᴰ·head refl)))
     go (inr i) below = below i
 
+-- every result is by the rules
+abbrev pub ResultsByRule : List rules.Heard → Type 0
+ResultsByRule hs = (h : rules.Heard) → h ∈ hs → resultByRule (h .result) ≡ true
+
 -- and they say it
-said-again : (h : rules.Heard) → Fits h → (heard (replyOf h) ≡ h) × (resultRead (replyOf h) ≡ true)
+said-again : (h : rules.Heard) → resultByRule (h .result) ≡ true → (heard (replyOf h) ≡ h) × (resultRead (replyOf h) ≡ true)
 unfolding resultRead
 said-again h k =
-    let r = result-read (h .result) (k .result) in
+    let r = result-read (h .result) k in
     let f = final-read (h .isFinal) in
     (rw (r .0, f .0), both-true (r .1) (f .1))
 
 -- a list in plain numbers is heard as that list
-all-said : (hs : List rules.Heard) → Lawful hs → allHeard (map replyOf hs) ≡ hs
+all-said : (hs : List rules.Heard) → ResultsByRule hs → allHeard (map replyOf hs) ≡ hs
 all-said [] k = refl
 all-said (h ∷ hs) k = rw (said-again h (k h (List·Memᴰ·head refl)) .0, all-said hs (λ g m. k g (List·Memᴰ·tail m)))
 
 -- and no result in it is bad
-none-bad : (hs : List rules.Heard) → Lawful hs → every resultRead (map replyOf hs) ≡ true
+none-bad : (hs : List rules.Heard) → ResultsByRule hs → every resultRead (map replyOf hs) ≡ true
 unfolding every
 none-bad [] k = refl
 none-bad (h ∷ hs) k = both-true (said-again h (k h (List·Memᴰ·head refl)) .1) (none-bad hs (λ g m. k g (List·Memᴰ·tail m)))
 
 -- so records of what is heard are counted as `rules` counts it
-pub count-of-records : (n : ℕ) (hs : List rules.Heard) → Lawful hs → countOf n (map replyOf hs) ≡ rules.counted n hs
+pub count-of-records : (n : ℕ) (hs : List rules.Heard) → ResultsByRule hs → countOf n (map replyOf hs) ≡ rules.counted n hs
 unfolding countOf
 count-of-records n hs k = rw (none-bad hs k, all-said hs k)
 
 -- replies that were written as bytes are read back
 pub bytes-read : (hs : List rules.Heard) → Lawful hs → allHeard (repliesOf (length hs) (allBytes hs)) ≡ hs
-bytes-read hs k = rw (← length-map hs replyOf, replies-read (map replyOf hs) (all-fit hs k)) (all-said hs k)
+bytes-read hs k = rw (← length-map hs replyOf, replies-read (map replyOf hs) (all-fit hs k)) (all-said hs (λ h m. k h m .result))
 
 -- and counted as `rules` counts the list
 pub count-of-bytes : (n : ℕ) (hs : List rules.Heard) → Lawful hs → countBytes n (allBytes hs) ≡ rules.counted n hs
-count-of-bytes n hs k = same-count n (map replyOf hs) (all-fit hs k) ∙ count-of-records n hs k
+count-of-bytes n hs k = same-count n (map replyOf hs) (all-fit hs k) ∙ count-of-records n hs (λ h m. k h m .result)

@@ -14,3 +14,5 @@ pub mod Merging
 pub mod Following
 pub mod Survival
 pub mod OneStep
+pub mod Played
+pub mod FiveBoxes

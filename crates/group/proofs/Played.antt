@@ -1,0 +1,124 @@
+-- Every lawful history whose messages break no rule can be played in buffers: so there is something that is done by the rules.
+use mathlib.Core.Path.{_≡_, refl, sym, ap, subst, _∙_}
+use mathlib.Core.Bool.{Bool, true, false, cond}
+use mathlib.Core.Logic.{_⊎_, inl, inr}
+use mathlib.Core.List.{List, [], _∷_, map}
+use mathlib.Core.Option.{Option, none, some}
+use Prim.Native.Nat.{ℕ, _+_, _*_, _≤_, _<_}
+use native.Mathlib.Omega.{arith}
+use lib.Dec.{ltb}
+use lib.ListN.{length, replicate, length-replicate}
+use Rattle.rules.specs.Tests.{every, andAlso, allOf}
+use Rattle.rules.specs.Tables.{Table, Model}
+use Rattle.rules.specs.Messages.{Message}
+use Rattle.rules.specs.Circumstances.{belowLimit, messageByRule}
+use Rattle.rules.specs.Answers.{answer}
+use Rattle.rules.specs.Check.{check}
+use Rattle.rules.specs.Merge.{merge}
+use Rattle.rules.proofs.Logic.{both-left, both-right}
+use Rattle.table.specs.Images.{formatOne}
+use Rattle.table.specs.Parse.{tableAt}
+use Rattle.table.proofs.Images.{Sound}
+use Rattle.message.specs.Messages.{messageBytes}
+use Rattle.message.proofs.Forms.{message-read}
+use Rattle.history.specs.Survival as history
+use Rattle.history.specs.Survival.{_∈_, Group, Event, at, step, after, May, Lawful}
+use Rattle.history.proofs.Follow.Arrivals.{chosen-in}
+use Rattle.group.specs.Said.{heard, orNoMessage, laidImages}
+use Rattle.group.specs.Acts.{Boxes, Act, Act.sends, Act.arrives, Act.declares, Act.merges, act, afterActs}
+use Rattle.group.specs.Rules.{OfBoxes, MaySend, MayAct, ByTheRules}
+use Rattle.group.proofs.Reading.{reading}
+use Rattle.group.proofs.Listed.{mapped, map-at}
+use Rattle.group.proofs.AnswerSaid.{said-heard}
+use Rattle.group.proofs.Good.{Good}
+use Rattle.group.proofs.RulesBack.{may-send-back, may-declare-back}
+use Rattle.group.proofs.Merging.{merges-good, merges-read}
+use Rattle.group.proofs.Following.{sends-read, arrives-read}
+
+-- what is sent breaks no rule of a message's own
+abbrev pub eventByRule : Model → ℕ → Event → Bool
+eventByRule M n (Event.sends b m) = messageByRule M n m
+eventByRule M n (Event.arrives k) = true
+eventByRule M n (Event.declares s v r) = true
+eventByRule M n (Event.merges v ks) = true
+
+module _ (M : Model) (sound : Sound formatOne M) (room : 24 + 96 * M .rowLimit ≤ M .leastBuffer) where
+  written-heard : (n : ℕ) (m : Message) → messageByRule M n m ≡ true → heard M n (messageBytes formatOne m) ≡ some m
+  written-heard n m r = said-heard M n (messageBytes formatOne m) m (message-read formatOne M n m sound r) r
+
+  -- a step leaves the group's size
+  step-n : (G : Group) (e : Event) → step M belowLimit check G e .n ≡ G .n
+  step-n G (Event.sends b m) = refl
+  step-n G (Event.arrives k) = go (at (G .sent) k)
+    where
+      go : (o : Option history.Sent) → history.arriving M belowLimit check G o .n ≡ G .n
+      go none = refl
+      go (some x) = by (ltb (x .box) (G .n))
+        where
+          by : (b : Bool) → cond b (history.answering G x (answer M belowLimit check (G .table (x .box)) (x .message))) G .n ≡ G .n
+          by true = refl
+          by false = refl
+  step-n G (Event.declares s v r) = refl
+  step-n G (Event.merges v ks) = go (merge M check v (allOf (at (G .had)) ks))
+    where
+      go : (o : Option Table) → history.mergingAs M belowLimit check G v o .n ≡ G .n
+      go none = refl
+      go (some T) = refl
+
+  -- the tables at places of buffers that are read
+  chosen-read : (ss : List (List ℕ)) (ks : List ℕ) → allOf (at (map (tableAt formatOne) ss)) ks ≡ map (tableAt formatOne) (allOf (at ss) ks)
+  unfolding allOf
+  chosen-read ss [] = refl
+  chosen-read ss (k ∷ ks) = rw (map-at (tableAt formatOne) ss k, chosen-read ss ks) (go (at ss k))
+    where
+      go : (o : Option (List ℕ)) → andAlso (mapped (tableAt formatOne) o) (map (tableAt formatOne) (allOf (at ss) ks)) ≡ map (tableAt formatOne) (andAlso o (allOf (at ss) ks))
+      go none = refl
+      go (some s) = refl
+
+  -- an act that is the event
+  pub record PlayedAs (B : Boxes) (e : Event) : Type 0 where
+    pub played : Act
+    pub may : MayAct M B played
+    pub same : reading M (act M B played) ≡ step M belowLimit check (reading M B) e
+    pub good : Good M (act M B played)
+
+  play : (B : Boxes) → Good M B → (e : Event) → eventByRule M (B .n) e ≡ true → May (reading M B) e → PlayedAs B e
+  play B good (Event.sends b m) r may =
+      let is = written-heard (B .n) m r in
+      record {
+        played = sends b (messageBytes formatOne m);
+        may = subst (MaySend M B b) (sym is) (may-send-back M B good b m may);
+        same = sends-read M sound room B b (messageBytes formatOne m) ∙ ap (λ o. step M belowLimit check (reading M B) (Event.sends b (orNoMessage o))) is;
+        good = record { group = good .group; buffers = good .buffers; stood = good .stood; replies = good .replies; outputs = good .outputs };
+      }
+  play B good (Event.arrives k) r may =
+      let l = length-replicate {A = ℕ} 24 0 in
+      let (is, then) = arrives-read M sound room B good k (replicate 24 0) (omega arith) in
+      record { played = arrives k (replicate 24 0); may = tt; same = is; good = then }
+  play B good (Event.declares s v r) e may =
+      record {
+        played = declares s v r;
+        may = may-declare-back M B good s v r may;
+        same = refl;
+        good = record { group = good .group; buffers = good .buffers; stood = good .stood; replies = good .replies; outputs = good .outputs };
+      }
+  play B good (Event.merges v ks) r may =
+      let ss = allOf (at (B .stood)) ks in
+      let of : OfBoxes M B (laidImages ss) = (ss, refl, λ s m. chosen-in (B .stood) ks s m) in
+      let l = length-replicate {A = ℕ} (M .leastBuffer) 0 in
+      record {
+        played = merges v (laidImages ss) (replicate (M .leastBuffer) 0);
+        may = λ e. of;
+        same = merges-read M sound room B good v (laidImages ss) (replicate (M .leastBuffer) 0) of (omega arith) ks (chosen-read (B .stood) ks);
+        good = merges-good M sound room B good v (laidImages ss) (replicate (M .leastBuffer) 0);
+      }
+
+  pub history-played : (B : Boxes) → Good M B → (es : List Event) → every (eventByRule M (B .n)) es ≡ true → Lawful M belowLimit check (reading M B) es → (acts : List Act) × ByTheRules M B acts × (reading M (afterActs M B acts) ≡ after M belowLimit check (reading M B) es)
+  unfolding every
+  history-played B good [] r law = ([], tt, refl)
+  history-played B good (e ∷ es) r (may, law) =
+      let p = play B good e (both-left _ _ r) may in
+      let C : Boxes = act M B (p .played) in
+      let n : C .n ≡ B .n = ap (λ G. G .n) (p .same) ∙ step-n (reading M B) e in
+      let (acts, rest, is) = history-played C (p .good) es (rw n (both-right _ _ r)) (subst (λ G. Lawful M belowLimit check G es) (sym (p .same)) law) in
+      (p .played ∷ acts, (p .may, rest), is ∙ ap (λ G. after M belowLimit check G es) (p .same))
