@@ -14,5 +14,6 @@ pub mod Merging
 pub mod Following
 pub mod Survival
 pub mod OneStep
+pub mod Stepped
 pub mod Played
 pub mod FiveBoxes

@@ -108,7 +108,7 @@ module _ (M : Model) (sound : Sound formatOne M) (room : 24 + 96 * M .rowLimit �
   abbrev pub answerThen : Answer
   answerThen = answer M belowLimit check (G .table box) (said M (G .n) message)
 
-  then-is : groupThen ≡ history.answering (history.sending G sentThen) sentThen answerThen
+  pub then-is : groupThen ≡ history.answering (history.sending G sentThen) sentThen answerThen
   then-is = arrives-steps M sound room (history.sending G sentThen) buffers (sending-held M G sentThen buffers holds) sentThen inside message reply refl long (length (G .sent)) (at-last (G .sent) sentThen)
 
   -- the call has the number and the reply of the answer that the two steps add, and leaves the buffers of the group after them
