@@ -1,7 +1,7 @@
 -- The table buffers of boxes side by side in one lent buffer: a box's own is changed and no other, all are made fresh one after the other, a message changes one.
 use mathlib.Core.Path.{_≡_, refl, sym, ap, _∙_}
-use mathlib.Core.Bool.{Bool, true, false, cond, not}
-use mathlib.Core.List.{List, [], _∷_, _++_}
+use mathlib.Core.Bool.{true, false, cond, not}
+use mathlib.Core.List.{List, [], _++_}
 use mathlib.Core.Logic.{_⊎_, inl, inr}
 use Prim.Native.Nat.{ℕ, zero, suc, _+_, _-_, _*_, _≤_, _<_, min}
 use native.Mathlib.Nat.{mul-suc, mul-le-mul-left, eq-or-lt-of-le}
@@ -13,13 +13,11 @@ use lib.Seq.{take-all, take-nil, drop-append-seam, drop-drop}
 use borrow.Author.Tests.{lt-ltb, le-ltb, ltb-true, ltb-false}
 use Rattle.wire.specs.Parts.{part, replaced}
 use Rattle.wire.proofs.Parts.{length-part, length-replaced, part-replaced, below-stays, above-stays}
-use Rattle.rules.specs.Tests.{both, either}
 use Rattle.rules.specs.Groups.{isGroup}
 use Rattle.rules.specs.Tables.{Model}
-use Rattle.rules.specs.Numbers.{Number.smallBuffer, Number.badMessage, number, first, applies}
 use Rattle.rules.proofs.Logic.{cases}
 use Rattle.table.specs.Fresh.{freshBuffer}
-use Rattle.table.proofs.FreshCall.{fresh-past}
+use Rattle.table.proofs.FreshCall.{small-or-bad, fresh-past}
 use Rattle.answer.specs.Calls.{callNumber, callTable, callReply}
 use Rattle.answer.proofs.Responding.{left-small}
 use Rattle.boxes.specs.Lent.{bufferOf, withBuffer, startNumber, freshFirst, startTables}
@@ -174,13 +172,6 @@ fresh-each M least n k tables room = (λ b l. first-each M least n tables k b ro
 pub first-turn : (M : Model) (n k : ℕ) (tables : List ℕ) → freshFirst M n (k + 1) tables ≡ withBuffer M (freshFirst M n k tables) k (freshBuffer M (bufferOf M (freshFirst M n k tables) k) n k)
 unfolding freshFirst
 first-turn M n k tables = rw (add-one k)
-
-small-or-bad : (small bad : Bool) → number ((smallBuffer, small) ∷ (badMessage, bad) ∷ []) ≡ cond small 1 (cond bad 3 0)
-unfolding number first applies both either
-small-or-bad true true = refl
-small-or-bad true false = refl
-small-or-bad false true = refl
-small-or-bad false false = refl
 
 module _ (M : Model) (tables : List ℕ) (n : ℕ) where
   start-number : startNumber M tables n ≡ cond (ltb (length tables) (M .leastBuffer * n)) 1 (cond (not (isGroup n)) 3 0)

@@ -21,6 +21,7 @@ use Rattle.table.specs.Images.{formatOne}
 use Rattle.table.specs.Parse.{parse}
 use Rattle.table.proofs.Images.{Sound}
 use Rattle.message.specs.Messages.{messageAt}
+use Rattle.message.specs.Read.{messageTo}
 use Rattle.transact.specs.Replies.{replyAs, replyBytes}
 use Rattle.answer.specs.Calls.{callNumber, callTable, callReply}
 use Rattle.answer.proofs.AnswerCall.{refusal-bytes, answer-refused, refused-reply, answer-as-rules}
@@ -32,15 +33,15 @@ use Rattle.group.specs.Said.{heard, said}
 
 -- bytes that are a message by the rules of the group
 pub said-heard : (M : Model) (n : ℕ) (message : List ℕ) (m : Message) → messageAt formatOne message ≡ some m → messageByRule M n m ≡ true → heard M n message ≡ some m
-unfolding heard
+unfolding messageTo
 said-heard M n message m b r = rw (b, r) refl
 
 said-none : (M : Model) (n : ℕ) (message : List ℕ) → messageAt formatOne message ≡ none → heard M n message ≡ none
-unfolding heard
+unfolding messageTo
 said-none M n message b = rw b refl
 
 said-broken : (M : Model) (n : ℕ) (message : List ℕ) (m : Message) → messageAt formatOne message ≡ some m → messageByRule M n m ≡ false → heard M n message ≡ none
-unfolding heard
+unfolding messageTo
 said-broken M n message m b r = rw (b, r) refl
 
 -- what no box takes is answered with 3, and the table stays

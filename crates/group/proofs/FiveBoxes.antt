@@ -7,11 +7,11 @@ use native.Mathlib.Omega.{arith}
 use Rattle.rules.specs.Tests.{either, every}
 use Rattle.rules.specs.Groups.{isGroup}
 use Rattle.rules.specs.Tables.{valley}
-use Rattle.rules.specs.Circumstances.{belowLimit, messageByRule}
+use Rattle.rules.specs.Circumstances.{belowLimit}
 use Rattle.rules.specs.Check.{check}
 use Rattle.table.specs.Fresh.{freshNumber}
 use Rattle.table.proofs.Images.{valley-sound}
-use Rattle.history.specs.Survival.{freshGroup, after, Lawful}
+use Rattle.history.specs.Survival.{after, Lawful}
 use Rattle.histories.specs.FiveBoxes.{fiveBoxes, afterFiveBoxes}
 use Rattle.histories.proofs.Computing.{computing}
 use Rattle.histories.proofs.FiveBoxes.{five-boxes-lawful}

@@ -1,14 +1,14 @@
 -- One act in buffers is one step of the group that the bytes say, so whatever is done by the rules in buffers is a lawful history.
 use mathlib.Core.Path.{_≡_, refl, sym, ap, subst, _∙_}
-use mathlib.Core.Bool.{true, false, cond, not}
+use mathlib.Core.Bool.{true, false, not}
 use mathlib.Core.Logic.{_⊎_, inl, inr}
-use mathlib.Core.List.{List, [], _∷_, _++_, map, map-map, Memᴰ·of-map, List·Memᴰ·not-nil}
+use mathlib.Core.List.{List, [], _∷_, _++_, map-map, Memᴰ·of-map, List·Memᴰ·not-nil}
 use mathlib.Core.Option.{Option, none, some}
 use Prim.Native.Nat.{ℕ, _+_, _*_, _≤_, _<_}
 use native.Mathlib.Omega.{arith}
-use lib.Dec.{eqb, ltb, leb}
+use lib.Dec.{eqb, ltb}
 use lib.ListN.{length}
-use borrow.Author.Tests.{ne-eqb, eqb-false, ltb-true, ltb-false}
+use borrow.Author.Tests.{ltb-true, ltb-false}
 use Rattle.rules.specs.Tests.{both}
 use Rattle.rules.specs.Groups.{isGroup}
 use Rattle.rules.specs.Tables.{Model, freshTable}
@@ -25,15 +25,15 @@ use Rattle.answer.proofs.AnswerWays.{AnswerWay.small, way-exactly}
 use Rattle.merge.specs.Calls as merge
 use Rattle.merge.proofs.MergeCall as merges
 use Rattle.history.specs.Survival as history
-use Rattle.history.specs.Survival.{_∈_, boxesBelow, freshGroup, Group, Event, at, step, after, Lawful}
+use Rattle.history.specs.Survival.{boxesBelow, freshGroup, Group, Event, at, step, after, Lawful}
 use Rattle.history.proofs.Follow.Following.{below-from}
 use Rattle.group.specs.Said.{said}
-use Rattle.group.specs.Acts.{Sent, Boxes, freshBoxes, Act, Act.sends, Act.arrives, Act.declares, Act.merges, arriving, mergingBy, act, afterActs}
+use Rattle.group.specs.Acts.{Sent, Boxes, freshBoxes, Act, Act.sends, Act.arrives, Act.declares, Act.merges, arriving, act, afterActs}
 use Rattle.group.specs.Rules.{MayAct, ByTheRules}
 use Rattle.group.proofs.Reading.{sentAs, tablesIn, reading}
 use Rattle.group.proofs.Listed.{map-last, mapped, map-at, map-same}
 use Rattle.group.proofs.ImagesIn.{begins-with}
-use Rattle.group.proofs.Good.{Kept, Good}
+use Rattle.group.proofs.Good.{Kept, Good, sending-good, declaring-good}
 use Rattle.group.proofs.RulesRead.{may-send, may-declare}
 use Rattle.group.proofs.Answering.{not-small, answering-read, answering-good}
 use Rattle.group.proofs.Merging.{merges-good, places, merges-read}
@@ -102,7 +102,7 @@ module _ (M : Model) (sound : Sound formatOne M) (room : 24 + 96 * M .rowLimit �
         events = Event.sends b (said M (B .n) bytes) ∷ [];
         lawful = (may-send M B good b bytes may, tt);
         same = sends-read B b bytes;
-        good = record { group = good .group; buffers = good .buffers; stood = good .stood; replies = good .replies; outputs = good .outputs };
+        good = sending-good M B _ good;
       }
   act-followed B good (arrives k reply) may = go (cases (ltb (length reply) 24))
     where
@@ -116,7 +116,7 @@ module _ (M : Model) (sound : Sound formatOne M) (room : 24 + 96 * M .rowLimit �
         events = Event.declares s v r ∷ [];
         lawful = (may-declare M B good s v r may, tt);
         same = refl;
-        good = record { group = good .group; buffers = good .buffers; stood = good .stood; replies = good .replies; outputs = good .outputs };
+        good = declaring-good M B _ good;
       }
   act-followed B good (merges v run out) may = go (same? (merge.callNumber M run v out) 0)
     where

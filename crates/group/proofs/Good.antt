@@ -8,9 +8,9 @@ use Rattle.rules.specs.Groups.{isGroup}
 use Rattle.rules.specs.Tables.{Model}
 use Rattle.table.specs.Images.{formatOne}
 use Rattle.table.specs.Parse.{tableAt}
-use Rattle.history.specs.Survival.{_∈_}
+use Rattle.history.specs.Survival.{_∈_, Declared}
 use Rattle.group.specs.Said.{replyIn}
-use Rattle.group.specs.Acts.{Answered, Merged, Boxes}
+use Rattle.group.specs.Acts.{Sent, Answered, Merged, Boxes, sending, declaring}
 use Rattle.group.specs.Survival.{BeginsWithImage}
 
 -- the table buffer of a box of a group of n
@@ -27,3 +27,11 @@ pub record Good (M : Model) (B : Boxes) : Type 0 where
   -- a reply numbered 0 names the box that gave it
   pub replies : (a : Answered) → a ∈ B .answers → replyIn (a .reply) .number ≡ 0 → replyIn (a .reply) .box ≡ a .box
   pub outputs : (m : Merged) → m ∈ B .merged → BeginsWithImage M (m .output)
+
+-- ---- what changes no buffer
+
+pub sending-good : (M : Model) (B : Boxes) (x : Sent) → Good M B → Good M (sending B x)
+sending-good M B x good = record { group = good .group; buffers = good .buffers; stood = good .stood; replies = good .replies; outputs = good .outputs }
+
+pub declaring-good : (M : Model) (B : Boxes) (d : Declared) → Good M B → Good M (declaring B d)
+declaring-good M B d good = record { group = good .group; buffers = good .buffers; stood = good .stood; replies = good .replies; outputs = good .outputs }

@@ -1,13 +1,12 @@
 -- Every lawful history whose messages break no rule can be played in buffers: so there is something that is done by the rules.
 use mathlib.Core.Path.{_≡_, refl, sym, ap, subst, _∙_}
 use mathlib.Core.Bool.{Bool, true, false, cond}
-use mathlib.Core.Logic.{_⊎_, inl, inr}
 use mathlib.Core.List.{List, [], _∷_, map}
 use mathlib.Core.Option.{Option, none, some}
-use Prim.Native.Nat.{ℕ, _+_, _*_, _≤_, _<_}
+use Prim.Native.Nat.{ℕ, _+_, _*_, _≤_}
 use native.Mathlib.Omega.{arith}
 use lib.Dec.{ltb}
-use lib.ListN.{length, replicate, length-replicate}
+use lib.ListN.{replicate, length-replicate}
 use Rattle.rules.specs.Tests.{every, andAlso, allOf}
 use Rattle.rules.specs.Tables.{Table, Model}
 use Rattle.rules.specs.Messages.{Message}
@@ -22,7 +21,7 @@ use Rattle.table.proofs.Images.{Sound}
 use Rattle.message.specs.Messages.{messageBytes}
 use Rattle.message.proofs.Forms.{message-read}
 use Rattle.history.specs.Survival as history
-use Rattle.history.specs.Survival.{_∈_, Group, Event, at, step, after, May, Lawful}
+use Rattle.history.specs.Survival.{Group, Event, at, step, after, May, Lawful}
 use Rattle.history.proofs.Follow.Arrivals.{chosen-in}
 use Rattle.group.specs.Said.{heard, orNoMessage, laidImages}
 use Rattle.group.specs.Acts.{Boxes, Act, Act.sends, Act.arrives, Act.declares, Act.merges, act, afterActs}
@@ -30,7 +29,7 @@ use Rattle.group.specs.Rules.{OfBoxes, MaySend, MayAct, ByTheRules}
 use Rattle.group.proofs.Reading.{reading}
 use Rattle.group.proofs.Listed.{mapped, map-at}
 use Rattle.group.proofs.AnswerSaid.{said-heard}
-use Rattle.group.proofs.Good.{Good}
+use Rattle.group.proofs.Good.{Good, sending-good, declaring-good}
 use Rattle.group.proofs.RulesBack.{may-send-back, may-declare-back}
 use Rattle.group.proofs.Merging.{merges-good, merges-read}
 use Rattle.group.proofs.Following.{sends-read, arrives-read}
@@ -89,7 +88,7 @@ module _ (M : Model) (sound : Sound formatOne M) (room : 24 + 96 * M .rowLimit �
         played = sends b (messageBytes formatOne m);
         may = subst (MaySend M B b) (sym is) (may-send-back M B good b m may);
         same = sends-read M sound room B b (messageBytes formatOne m) ∙ ap (λ o. step M belowLimit check (reading M B) (Event.sends b (orNoMessage o))) is;
-        good = record { group = good .group; buffers = good .buffers; stood = good .stood; replies = good .replies; outputs = good .outputs };
+        good = sending-good M B _ good;
       }
   play B good (Event.arrives k) r may =
       let l = length-replicate {A = ℕ} 24 0 in
@@ -100,7 +99,7 @@ module _ (M : Model) (sound : Sound formatOne M) (room : 24 + 96 * M .rowLimit �
         played = declares s v r;
         may = may-declare-back M B good s v r may;
         same = refl;
-        good = record { group = good .group; buffers = good .buffers; stood = good .stood; replies = good .replies; outputs = good .outputs };
+        good = declaring-good M B _ good;
       }
   play B good (Event.merges v ks) r may =
       let ss = allOf (at (B .stood)) ks in

@@ -1,6 +1,6 @@
 -- What keeps the rules in buffers and calls keeps them in the group that the bytes say.
-use mathlib.Core.Path.{_≡_, refl, sym, ap, subst, _∙_}
-use mathlib.Core.Logic.{_⊎_, inl, inr}
+use mathlib.Core.Path.{refl, subst}
+use mathlib.Core.Logic.{inl, inr}
 use mathlib.Core.List.{List, map, Memᴰ·map}
 use mathlib.Core.Option.{Option, none, some}
 use Prim.Native.Nat.{ℕ}
@@ -11,13 +11,13 @@ use Rattle.rules.specs.Messages.{Message, Message.proposePrepare, Message.final
 use Rattle.rules.specs.Count.{Counted.fast, Counted.slow}
 use Rattle.replies.specs.Heard.{allHeard}
 use Rattle.history.specs.Survival as history
-use Rattle.history.specs.Survival.{_∈_, Event}
+use Rattle.history.specs.Survival.{Event}
 use Rattle.group.specs.Said.{replyIn, recordOf, orNoMessage, heard, said}
 use Rattle.group.specs.Acts.{Boxes, Act.sends, Act.declares}
 use Rattle.group.specs.Rules as bytes
 use Rattle.group.proofs.Reading.{answeredAs, mergedAs, reading}
 use Rattle.group.proofs.Good.{Good}
-use Rattle.group.proofs.Says.{sent-said, said-sent, gave-said}
+use Rattle.group.proofs.Says.{said-sent, gave-said}
 use Rattle.group.proofs.Counting.{counted-said}
 
 module _ (M : Model) (B : Boxes) where

@@ -1,6 +1,6 @@
 -- Table buffers side by side in one lent buffer, stepped by the calls of `boxes`, follow a group's history step for step. No rule is asked of whoever steps them.
 use mathlib.Core.Path.{_≡_, refl, sym, ap, subst, _∙_}
-use mathlib.Core.Bool.{true, false, cond}
+use mathlib.Core.Bool.{true, false}
 use mathlib.Core.Logic.{_⊎_, inl, inr}
 use mathlib.Core.List.{List, [], _∷_, _++_, map, Memᴰ·map, Memᴰ·append-left, Memᴰ·append-right, List·Memᴰ·head, List·Memᴰ·tail}
 use mathlib.Core.Option.{Option, none, some}
@@ -27,7 +27,6 @@ use Rattle.transact.specs.Replies.{replyAs, replyBytes}
 use Rattle.answer.specs.Calls.{callNumber, callTable, callReply}
 use Rattle.answer.proofs.AnswerCall.{answer-length}
 use Rattle.run.specs.Runs.{laidOut}
-use Rattle.merge.specs.Calls as merge
 use Rattle.boxes.specs.Lent.{freshFirst, bufferOf, withBuffer, tablesNamed, runNamed, noRunRoom, togetherNumber, togetherOutput, startNumber, startTables}
 use Rattle.boxes.proofs.LentTables.{ends-before, fresh-each, start-small, start-bad, start-done, buffer-same, buffer-other, length-with}
 use Rattle.history.specs.Survival as history

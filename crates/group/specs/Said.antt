@@ -6,24 +6,19 @@ use Prim.Native.Nat.{ℕ, _-_}
 use lib.Dec.{ltb}
 use lib.ListN.{take}
 use Rattle.wire.specs.Numbers.{numberAt}
-use Rattle.rules.specs.Tests.{bit, provided}
+use Rattle.rules.specs.Tests.{bit}
 use Rattle.rules.specs.Tables.{Model}
 use Rattle.rules.specs.Messages.{Message, Message.readRegister}
-use Rattle.rules.specs.Circumstances.{messageByRule}
 use Rattle.rules.specs.Answers.{Reply}
 use Rattle.table.specs.Images.{formatOne}
-use Rattle.message.specs.Messages.{messageAt}
+use Rattle.message.specs.Read.{messageTo}
 use Rattle.replies.specs.declared.held.Reply as replies
 
 -- ---- messages
 
-abbrev pub byRule : Model → ℕ → Option Message → Option Message
-byRule M n none = none
-byRule M n (some m) = provided (messageByRule M n m) m
-
 -- the message that boxes of a group of n take these bytes for; none if every one of them refuses the bytes with 3, "bad message"
-unfoldable pub heard : Model → ℕ → List ℕ → Option Message
-heard M n bytes = byRule M n (messageAt formatOne bytes)
+abbrev pub heard : Model → ℕ → List ℕ → Option Message
+heard M n bytes = messageTo formatOne M n bytes
 
 -- a message that every box refuses with 3, as it refuses such bytes: a stamp is at least 1
 abbrev pub noMessage : Message

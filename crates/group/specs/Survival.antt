@@ -28,14 +28,14 @@ pub record CallsSurvive (M : Model) (B : Boxes) : Type 0 where
   -- every table buffer of the group begins with an image, of its own box and group, and so does the output buffer of every merge that was done
   pub tables : (b : ℕ) → b < B .n → BeginsWithImage M (B .buffer b) × (headerAt (B .buffer b) .boxnumber ≡ b) × (headerAt (B .buffer b) .n ≡ B .n)
   pub outputs : (m : Merged) → m ∈ B .merged → BeginsWithImage M (m .output)
-  -- "what was declared final .. stands in every later merge": in the image that the output buffer begins with, its row is final with that result
+  -- what was declared final stands in every merge for a later view, whichever came first: in the image that the output buffer begins with, its row is final with that result
   pub declared : (m : Merged) (s u : ℕ) (r : Result) → m ∈ B .merged → WasDeclared M B s u r → u < m .view → prepareOf (held (rowsIn (m .output)) s) ≡ final r
-  -- "or accepted by f+1 boxes in one view": its row is done with that outcome
+  -- what was accepted by f+1 boxes in one view stands in every merge for a later view: its row is done with that outcome
   pub accepted : (m : Merged) (s u : ℕ) (o : Verdict) → m ∈ B .merged → QuorumOf M B (Accepted M B s u o) → u < m .view → outcomeOf (held (rowsIn (m .output)) s) ≡ done o
-  -- "no merge holds what nobody sent": no transaction, which is proposed by message 1 or 3
+  -- no merge holds what nobody sent: no transaction, which message 1 or message 3 carries
   pub rowsSent : (m : Merged) (r : Row) → m ∈ B .merged → r ∈ rowsIn (m .output) → (x : Sent) × (x ∈ m .sentByThen) × (Says M B (x .message) (proposePrepare (r .stamp) (r .body)) ⊎ ((o : Verdict) × Says M B (x .message) (proposeOutcome (r .stamp) o (r .body))))
   -- and no outcome
   pub outcomesSent : (m : Merged) (r : Row) (o : Verdict) → m ∈ B .merged → r ∈ rowsIn (m .output) → holdsVerdict o (r .outcome) ≡ true → (x : Sent) × (x ∈ m .sentByThen) × Says M B (x .message) (proposeOutcome (r .stamp) o (r .body))
-  -- "no two committed transactions clash": of two whose commit was sent, no write of the one, at its stamp t, lies between a version that the other read of that register and the other's stamp s
+  -- no two committed transactions clash ("In demand 3 a transaction is committed once its commit was proposed."): no write of the one, at its stamp t, lies between a version that the other read of that register and the other's stamp s
   pub noClash : (s t : ℕ) (x y : Body) → WasSent M B (proposeOutcome s commit x) → WasSent M B (proposeOutcome t commit y) →
       (read write : Access) → read ∈ x .reads → write ∈ y .writes → read .register ≡ write .register → read .number < t → t < s → ⊥

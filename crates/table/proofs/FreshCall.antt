@@ -24,7 +24,8 @@ use Rattle.table.specs.Fresh.{freshNumber, freshBuffer}
 use Rattle.table.proofs.Headers.{length-header}
 use Rattle.table.proofs.Images.{Sound, image-parses}
 
-small-or-bad : (small bad : Bool) → number ((smallBuffer, small) ∷ (badMessage, bad) ∷ []) ≡ cond small 1 (cond bad 3 0)
+-- a small buffer, then a bad message, of a call that is refused for nothing else
+pub small-or-bad : (small bad : Bool) → number ((smallBuffer, small) ∷ (badMessage, bad) ∷ []) ≡ cond small 1 (cond bad 3 0)
 unfolding number first applies both either
 small-or-bad true true = refl
 small-or-bad true false = refl

@@ -3,8 +3,9 @@
 use house::{cited, crates, files, stands, text, top};
 use std::process::Command;
 
-const PAPERS: [&str; 5] = [
+const PAPERS: [&str; 6] = [
     "README.md",
+    "docs/ARCHITECTURE.md",
     "docs/CLAIMS.md",
     "docs/DECISIONS.md",
     "docs/PROOF.md",
