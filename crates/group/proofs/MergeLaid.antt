@@ -3,7 +3,7 @@ use mathlib.Core.Path.{_≡_, sym, _∙_}
 use mathlib.Core.Bool.{false}
 use mathlib.Core.Logic.{_⊎_, inl, inr}
 use mathlib.Core.List.{List, [], _∷_}
-use mathlib.Core.Option.{Option, none, some}
+use mathlib.Core.Option.{none, some}
 use Prim.Native.Nat.{ℕ, _+_, _*_, _≤_}
 use lib.Dec.{eqb}
 use lib.ListN.{length}
@@ -16,19 +16,14 @@ use Rattle.rules.specs.Check.{check}
 use Rattle.rules.specs.Merge as rules
 use Rattle.rules.proofs.Logic.{same?}
 use Rattle.table.specs.Images.{formatOne, image}
-use Rattle.table.specs.Parse.{parse}
 use Rattle.table.proofs.Images.{Sound}
 use Rattle.run.specs.Runs.{oneOrMore, images, runTables}
 use Rattle.run.proofs.RunTurns.{run-read}
 use Rattle.merge.specs.Calls.{callNumber, callOutput}
 use Rattle.merge.proofs.MergeCall.{MergeDone, merge-done, merge-refused, merge-number, merge-output, numberOf, tables-number}
+use Rattle.group.specs.Held.{Leaves}
 
 module _ (M : Model) (run : List ℕ) (v : ℕ) (out : List ℕ) where
-  -- what the call leaves where `rules` makes this of the tables: a table, or none
-  abbrev pub Made : Option Table → Type 0
-  Made none = (eqb (callNumber M run v out) 0 ≡ false) × (callOutput M run v out ≡ out)
-  Made (some U) = (callNumber M run v out ≡ 0) × (callOutput M run v out ≡ replaced out 0 (image formatOne U)) × (parse formatOne M (callOutput M run v out) ≡ some U)
-
   module _ (sound : Sound formatOne M) (room : 24 + 96 * M .rowLimit ≤ M .leastBuffer) (Ts : List Table) (are : images M run ≡ some Ts) (large : M .leastBuffer ≤ length out) where
     is-number : callNumber M run v out ≡ numberOf M v (oneOrMore (some Ts))
     unfolding runTables tooSmall
@@ -53,9 +48,9 @@ module _ (M : Model) (run : List ℕ) (v : ℕ) (out : List ℕ) where
     unfolding tooSmall
     is-output w = rw (merge-output M run v out, le-ltb (length out) (M .leastBuffer) large, w .read, w .made)
 
-    pub merge-laid : Made (rules.merge M check v Ts)
+    pub merge-laid : Leaves M out (callNumber M run v out) (callOutput M run v out) (rules.merge M check v Ts)
     merge-laid = go (same? (callNumber M run v out) 0)
       where
-        go : (callNumber M run v out ≡ 0) ⊎ (eqb (callNumber M run v out) 0 ≡ false) → Made (rules.merge M check v Ts)
+        go : (callNumber M run v out ≡ 0) ⊎ (eqb (callNumber M run v out) 0 ≡ false) → Leaves M out (callNumber M run v out) (callOutput M run v out) (rules.merge M check v Ts)
         go (inl e) = let w = merge-done M run v out sound room e in rw (some-merged w) (e, is-output w, w .after)
         go (inr e) = rw (none-merged e) (e, merge-refused M run v out (eqb-false (callNumber M run v out) 0 e))

@@ -26,10 +26,11 @@ use Rattle.history.proofs.Follow.Follows.{and-last}
 use Rattle.group.specs.Acts.{Merged, Boxes, Act.merges, merging, mergingBy, act}
 use Rattle.group.specs.Rules.{OfBoxes}
 use Rattle.group.specs.Survival.{BeginsWithImage}
+use Rattle.group.specs.Held.{Leaves}
 use Rattle.group.proofs.Reading.{mergedAs, reading}
 use Rattle.group.proofs.Listed.{map-last, places-of}
 use Rattle.group.proofs.ImagesIn.{begins-with, images-in}
-use Rattle.group.proofs.MergeLaid.{Made, merge-laid}
+use Rattle.group.proofs.MergeLaid.{merge-laid}
 use Rattle.group.proofs.Good.{Good}
 
 module _ (M : Model) (sound : Sound formatOne M) (room : 24 + 96 * M .rowLimit ≤ M .leastBuffer) (B : Boxes) (good : Good M B) where
@@ -83,7 +84,7 @@ module _ (M : Model) (sound : Sound formatOne M) (room : 24 + 96 * M .rowLimit �
           merged = (map-last (mergedAs M (B .n)) (B .merged) mergedNow ∙ ap (λ T. map (mergedAs M (B .n)) (B .merged) ++ (record { view = v; table = T; sentByThen = reading M B .sent } ∷ [])) (parse-reads formatOne M (mergedNow .output) U p .0)) i;
         }
 
-        go : (o : Option Table) → rules.merge M check v tables ≡ o → Made M run v out o → reading M (mergingBy M B v run out) ≡ step M belowLimit check (reading M B) (Event.merges v ks)
+        go : (o : Option Table) → rules.merge M check v tables ≡ o → Leaves M out (merge.callNumber M run v out) (merge.callOutput M run v out) o → reading M (mergingBy M B v run out) ≡ step M belowLimit check (reading M B) (Event.merges v ks)
         go none e (n, stays) = ap (λ b. reading M (cond b (merging B mergedNow) B)) n ∙ sym (merged-as ks is none e)
         go (some U) e (n, wrote, p) = ap (λ k. reading M (cond (eqb k 0) (merging B mergedNow) B)) n ∙ done U p ∙ sym (merged-as ks is (some U) e)
 

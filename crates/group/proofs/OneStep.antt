@@ -27,13 +27,14 @@ use Rattle.run.proofs.RunTurns.{images-laid}
 use Rattle.transact.specs.Replies.{replyAs, replyBytes}
 use Rattle.answer.specs.Calls.{callNumber, callTable, callReply}
 use Rattle.answer.proofs.AnswerCall.{answer-length}
+use Rattle.merge.specs.Calls as merge
 use Rattle.history.specs.Survival as history
-use Rattle.history.specs.Survival.{_∈_, Group, Sent, Event.sends, Event.arrives, Event.merges, at, put, step}
+use Rattle.history.specs.Survival.{_∈_, Group, Sent, Event.arrives, Event.merges, at, put, step}
 use Rattle.group.specs.Said.{said}
-use Rattle.group.specs.Held.{Holds}
+use Rattle.group.specs.Held.{Holds, afterMessage, answerTo, Leaves}
 use Rattle.group.proofs.Listed.{at-last, places-of}
 use Rattle.group.proofs.AnswerSaid.{AnsweredAs, taken-reply, answered-as-said}
-use Rattle.group.proofs.MergeLaid.{Made, merge-laid}
+use Rattle.group.proofs.MergeLaid.{merge-laid}
 
 module _ (M : Model) (sound : Sound formatOne M) (room : 24 + 96 * M .rowLimit ≤ M .leastBuffer) (G : Group) (buffers : ℕ → List ℕ) (holds : Holds M G buffers) where
   -- ---- a box answers
@@ -86,7 +87,7 @@ module _ (M : Model) (sound : Sound formatOne M) (room : 24 + 96 * M .rowLimit �
       found = places-of (G .had) (map (G .table) boxes) (λ T m. let (b, i, e) = Memᴰ·of-map (G .table) boxes m in Memᴰ·cast (sym e) (holds .had b (inside b i)))
 
   -- and the call on their images, laid end to end
-  pub merge-is-merge : (v : ℕ) (boxes : List ℕ) (out : List ℕ) → ((b : ℕ) → b ∈ boxes → b < G .n) → M .leastBuffer ≤ length out → Made M (laidOut (map (G .table) boxes)) v out (rules.merge M check v (map (G .table) boxes))
+  pub merge-is-merge : (v : ℕ) (boxes : List ℕ) (out : List ℕ) → ((b : ℕ) → b ∈ boxes → b < G .n) → M .leastBuffer ≤ length out → Leaves M out (merge.callNumber M (laidOut (map (G .table) boxes)) v out) (merge.callOutput M (laidOut (map (G .table) boxes)) v out) (rules.merge M check v (map (G .table) boxes))
   merge-is-merge v boxes out inside large =
       merge-laid M (laidOut (map (G .table) boxes)) v out sound room (map (G .table) boxes) (images-laid M sound (map (G .table) boxes) by-rules) large
     where
@@ -102,17 +103,11 @@ module _ (M : Model) (sound : Sound formatOne M) (room : 24 + 96 * M .rowLimit �
   abbrev pub sentThen : Sent
   sentThen = record { box = box; message = said M (G .n) message }
 
-  abbrev pub groupThen : Group
-  groupThen = step M belowLimit check (step M belowLimit check G (sends box (said M (G .n) message))) (arrives (length (G .sent)))
-
-  abbrev pub answerThen : Answer
-  answerThen = answer M belowLimit check (G .table box) (said M (G .n) message)
-
-  pub then-is : groupThen ≡ history.answering (history.sending G sentThen) sentThen answerThen
+  pub then-is : afterMessage M G box message ≡ history.answering (history.sending G sentThen) sentThen (answerTo M G box message)
   then-is = arrives-steps M sound room (history.sending G sentThen) buffers (sending-held M G sentThen buffers holds) sentThen inside message reply refl long (length (G .sent)) (at-last (G .sent) sentThen)
 
   -- the call has the number and the reply of the answer that the two steps add, and leaves the buffers of the group after them
-  pub sent-and-answered : (groupThen .answers ≡ G .answers ++ (record { box = box; message = said M (G .n) message; reply = answerThen .reply } ∷ [])) × (callNumber M (buffers box) message reply ≡ answerThen .reply .number) × (callReply M (buffers box) message reply ≡ replaced reply 0 (replyBytes (replyAs (answerThen .reply)))) × Holds M groupThen (put buffers box (callTable M (buffers box) message reply))
+  pub sent-and-answered : (afterMessage M G box message .answers ≡ G .answers ++ (record { box = box; message = said M (G .n) message; reply = answerTo M G box message .reply } ∷ [])) × (callNumber M (buffers box) message reply ≡ answerTo M G box message .reply .number) × (callReply M (buffers box) message reply ≡ replaced reply 0 (replyBytes (replyAs (answerTo M G box message .reply)))) × Holds M (afterMessage M G box message) (put buffers box (callTable M (buffers box) message reply))
   sent-and-answered =
       let H : Group = history.sending G sentThen in
       let held : Holds M H buffers = sending-held M G sentThen buffers holds in

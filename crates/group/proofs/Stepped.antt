@@ -18,8 +18,7 @@ use Rattle.rules.specs.Circumstances.{tooSmall, badGroup, belowLimit}
 use Rattle.rules.specs.Check.{check}
 use Rattle.rules.specs.Merge as rules
 use Rattle.rules.proofs.Logic.{cases, eqb-self, same?}
-use Rattle.table.specs.Images.{formatOne, image}
-use Rattle.table.specs.Parse.{parse}
+use Rattle.table.specs.Images.{formatOne}
 use Rattle.table.specs.Fresh.{freshNumber, freshBuffer}
 use Rattle.table.proofs.Images.{Sound}
 use Rattle.table.proofs.FreshCall.{fresh-done, fresh-past, fresh-parses}
@@ -27,14 +26,14 @@ use Rattle.transact.specs.Replies.{replyAs, replyBytes}
 use Rattle.answer.specs.Calls.{callNumber, callTable, callReply}
 use Rattle.answer.proofs.AnswerCall.{answer-length}
 use Rattle.run.specs.Runs.{laidOut}
+use Rattle.merge.specs.Calls as merge
 use Rattle.boxes.specs.Lent.{freshFirst, bufferOf, withBuffer, tablesNamed, runNamed, noRunRoom, togetherNumber, togetherOutput, startNumber, startTables}
 use Rattle.boxes.proofs.LentTables.{ends-before, fresh-each, start-small, start-bad, start-done, buffer-same, buffer-other, length-with}
 use Rattle.history.specs.Survival as history
 use Rattle.history.specs.Survival.{_∈_, boxesBelow, Group, freshGroup, Event.merges, put, step}
 use Rattle.group.specs.Said.{said}
-use Rattle.group.specs.Held.{Holds, HoldsLent}
-use Rattle.group.proofs.MergeLaid.{Made}
-use Rattle.group.proofs.OneStep.{groupThen, then-is, answerThen, sent-and-answered, merges-steps, merge-is-merge}
+use Rattle.group.specs.Held.{Holds, HoldsLent, afterMessage, answerTo, Leaves}
+use Rattle.group.proofs.OneStep.{then-is, sent-and-answered, merges-steps, merge-is-merge}
 
 -- buffers that hold the same
 holds-same : (M : Model) (G : Group) (s t : ℕ → List ℕ) → ((b : ℕ) → b < G .n → t b ≡ s b) → Holds M G s → Holds M G t
@@ -56,9 +55,6 @@ module _ (M : Model) (sound : Sound formatOne M) (room : 24 + 96 * M .rowLimit �
     abbrev pub bufferThen : List ℕ
     bufferThen = callTable M (bufferOf M tables box) message reply
 
-    abbrev pub groupAnswered : Group
-    groupAnswered = groupThen M sound room G (bufferOf M tables) (held .holds) box inside message reply long
-
     length-then : length bufferThen ≡ M .leastBuffer
     length-then = answer-length M (bufferOf M tables box) message reply sound room ∙ length-part tables (M .leastBuffer * box) (M .leastBuffer) (place-inside box inside)
 
@@ -69,23 +65,23 @@ module _ (M : Model) (sound : Sound formatOne M) (room : 24 + 96 * M .rowLimit �
         go (inl e) = rw (← e, eqb-self box) (buffer-same M tables box bufferThen (place-inside box inside) length-then)
         go (inr e) = rw e (buffer-other M tables box b bufferThen (eqb-false box b e) (place-inside box inside) length-then)
 
-    same-n : groupAnswered .n ≡ G .n
+    same-n : afterMessage M G box message .n ≡ G .n
     same-n = ap (λ K. K .n) (then-is M sound room G (bufferOf M tables) (held .holds) box inside message reply long)
 
-    held-then : HoldsLent M groupAnswered (withBuffer M tables box bufferThen)
+    held-then : HoldsLent M (afterMessage M G box message) (withBuffer M tables box bufferThen)
     held-then =
         let answered = sent-and-answered M sound room G (bufferOf M tables) (held .holds) box inside message reply long in
         let l = length-with M tables box bufferThen (place-inside box inside) length-then in
         let f = held .fits in
         record {
           fits = rw (same-n, l) f;
-          holds = holds-same M groupAnswered (put (bufferOf M tables) box bufferThen) (bufferOf M (withBuffer M tables box bufferThen)) (λ b k. buffers-then b (rw same-n at k)) (answered .3);
+          holds = holds-same M (afterMessage M G box message) (put (bufferOf M tables) box bufferThen) (bufferOf M (withBuffer M tables box bufferThen)) (λ b k. buffers-then b (rw same-n at k)) (answered .3);
         }
 
     -- two steps of the history, the message is sent and it arrives, are what `boxes::arrive::arrive` does: its number and its reply are those of the answer that they add, and the lent buffer then holds the group after them
     pub arrive-follows :
-        let a = answerThen M sound room G (bufferOf M tables) (held .holds) box inside message reply long in
-        (groupAnswered .answers ≡ G .answers ++ (record { box = box; message = said M (G .n) message; reply = a .reply } ∷ [])) × (callNumber M (bufferOf M tables box) message reply ≡ a .reply .number) × (callReply M (bufferOf M tables box) message reply ≡ replaced reply 0 (replyBytes (replyAs (a .reply)))) × HoldsLent M groupAnswered (withBuffer M tables box bufferThen)
+        let a = answerTo M G box message in
+        (afterMessage M G box message .answers ≡ G .answers ++ (record { box = box; message = said M (G .n) message; reply = a .reply } ∷ [])) × (callNumber M (bufferOf M tables box) message reply ≡ a .reply .number) × (callReply M (bufferOf M tables box) message reply ≡ replaced reply 0 (replyBytes (replyAs (a .reply)))) × HoldsLent M (afterMessage M G box message) (withBuffer M tables box bufferThen)
     arrive-follows =
         let (answers, number, replied, holds) = sent-and-answered M sound room G (bufferOf M tables) (held .holds) box inside message reply long in
         (answers, number, replied, held-then)
@@ -108,12 +104,7 @@ module _ (M : Model) (sound : Sound formatOne M) (room : 24 + 96 * M .rowLimit �
     merged-held (some T) = record { fits = held .fits; holds = record { large = held .holds .large; begins = held .holds .begins; group = held .holds .group; had = held .holds .had } }
 
     module _ (run out : List ℕ) (enough : M .leastBuffer * length boxes ≤ length run) (large : M .leastBuffer ≤ length out) where
-      -- what the call leaves where the history makes this of the tables: a table, or none
-      abbrev pub Left : Option Table → Type 0
-      Left none = (eqb (togetherNumber M tables boxes v run out) 0 ≡ false) × (togetherOutput M tables boxes v run out ≡ out)
-      Left (some U) = (togetherNumber M tables boxes v run out ≡ 0) × (togetherOutput M tables boxes v run out ≡ replaced out 0 (image formatOne U)) × (parse formatOne M (togetherOutput M tables boxes v run out) ≡ some U)
-
-      left-of : (o : Option Table) → Made M (laidOut (map (G .table) boxes)) v out o → Left o
+      left-of : (o : Option Table) → Leaves M out (merge.callNumber M (laidOut (map (G .table) boxes)) v out) (merge.callOutput M (laidOut (map (G .table) boxes)) v out) o → Leaves M out (togetherNumber M tables boxes v run out) (togetherOutput M tables boxes v run out) o
       unfolding togetherNumber togetherOutput noRunRoom
       left-of none made = rw (le-ltb (length run) (M .leastBuffer * length boxes) enough, run-is) made
       left-of (some U) made = rw (le-ltb (length run) (M .leastBuffer * length boxes) enough, run-is) made
@@ -121,7 +112,7 @@ module _ (M : Model) (sound : Sound formatOne M) (room : 24 + 96 * M .rowLimit �
       -- one step of the history, a merge of the tables that the boxes have now, is what `boxes::together::merge_boxes` does
       pub together-follows :
           let o = rules.merge M check v (map (G .table) boxes) in
-          (ks : List ℕ) × (step M belowLimit check G (merges v ks) ≡ history.mergingAs M belowLimit check G v o) × Left o × HoldsLent M (step M belowLimit check G (merges v ks)) tables
+          (ks : List ℕ) × (step M belowLimit check G (merges v ks) ≡ history.mergingAs M belowLimit check G v o) × Leaves M out (togetherNumber M tables boxes v run out) (togetherOutput M tables boxes v run out) o × HoldsLent M (step M belowLimit check G (merges v ks)) tables
       together-follows =
           let (ks, is) = merges-steps M sound room G (bufferOf M tables) (held .holds) v boxes inside in
           let made = merge-is-merge M sound room G (bufferOf M tables) (held .holds) v boxes out inside large in
