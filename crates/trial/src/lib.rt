@@ -1,11 +1,11 @@
-// The changes of `edit`, one by one, and the body that a lookup hands out, for the tests and the measurements of host/. No part of the library: what box firmware links never changes a table but by an answer.
+// The changes of `edit`, one by one, the body that a lookup hands out, and the stepping of a group in one lent buffer, for the tests and the measurements of host/. No part of the library: what box firmware links never changes a table but by an answer.
 //
-// Each asks what the function under it asks, and its caller must see to that: nothing is tested here.
+// Each asks what the function under it asks. The changes and the lookup ask something, which their caller must see to: nothing is tested here. The stepping of a group asks nothing, and whatever is lent to it is answered.
 ghost use mathlib.Core.Path.{_≡_};
 ghost use mathlib.Core.Bool.{true};
 ghost use Prim.Native.Nat.{_+_, _≤_, _<_};
 ghost use lib.ListN.{length};
-ghost use Rattle.rules.specs.Tables.{rising};
+ghost use Rattle.rules.specs.Tables.{rising, valley};
 ghost use Rattle.wire.specs.Parts.{replaced};
 ghost use Rattle.rules.specs.Messages.{held, withPrepare, withOutcome, promising};
 ghost use Rattle.rows.specs.Fields.{fieldsAt, prepareNumbered, outcomeNumbered, retryByCode};
@@ -18,6 +18,8 @@ ghost use Rattle.table.specs.Images.{formatOne};
 ghost use Rattle.table.specs.Parse.{tableAt};
 ghost use Rattle.edit.specs.Changes.{withViews, onRow, Storable, adding, taking};
 ghost use Rattle.edit.specs.Edited.{Holds, edited};
+ghost use Rattle.answer.specs.Calls.{callNumber, callTable, callReply};
+ghost use Rattle.boxes.specs.Lent.{bufferOf, withBuffer, startNumber, startTables, togetherNumber, togetherRun, togetherOutput};
 
 #[no_mangle]
 pub extern "C" fn trial_set_views(table: &mut [u8], mode: u8, view: u32, promised: u32)
@@ -86,4 +88,44 @@ pub extern "C" fn trial_held_body(
     let body = rows::lookup::held_body(image, begin, rows, stamp);
     wire::copy_part(body, out, 0);
     body.len()
+}
+
+// Every box of a group fresh, their table buffers side by side.
+#[no_mangle]
+pub extern "C" fn trial_start_fresh(tables: &mut [u8], n: u8) -> u8
+    ensures { λ r. ⌜ r ≡ startNumber valley (now (tables .entry)) n ⌝ }
+    ensures { λ _. ⌜ now (tables .exit) ≡ startTables valley (now (tables .entry)) n ⌝ }
+{
+    boxes::start::start_fresh(tables, n)
+}
+
+// A message arrives at one box of them.
+#[no_mangle]
+pub extern "C" fn trial_arrive(
+    tables: &mut [u8],
+    boxnumber: u8,
+    message: &[u8],
+    reply: &mut [u8],
+) -> u8
+    ensures { λ r. ⌜ r ≡ callNumber valley (bufferOf valley (now (tables .entry)) boxnumber) (now (message .entry)) (now (reply .entry)) ⌝ }
+    ensures { λ _. ⌜ now (tables .exit) ≡ withBuffer valley (now (tables .entry)) boxnumber (callTable valley (bufferOf valley (now (tables .entry)) boxnumber) (now (message .entry)) (now (reply .entry))) ⌝ }
+    ensures { λ _. ⌜ now (reply .exit) ≡ callReply valley (bufferOf valley (now (tables .entry)) boxnumber) (now (message .entry)) (now (reply .entry)) ⌝ }
+{
+    boxes::arrive::arrive(tables, boxnumber, message, reply)
+}
+
+// The merge for a view of the tables that the named boxes hold now.
+#[no_mangle]
+pub extern "C" fn trial_merge_boxes(
+    tables: &[u8],
+    boxes: &[u8],
+    view: u32,
+    run: &mut [u8],
+    out: &mut [u8],
+) -> u8
+    ensures { λ r. ⌜ r ≡ togetherNumber valley (now (tables .entry)) (now (boxes .entry)) view (now (run .entry)) (now (out .entry)) ⌝ }
+    ensures { λ _. ⌜ now (run .exit) ≡ togetherRun valley (now (tables .entry)) (now (boxes .entry)) (now (run .entry)) (now (out .entry)) ⌝ }
+    ensures { λ _. ⌜ now (out .exit) ≡ togetherOutput valley (now (tables .entry)) (now (boxes .entry)) view (now (run .entry)) (now (out .entry)) ⌝ }
+{
+    boxes::together::merge_boxes(tables, boxes, view, run, out)
 }

@@ -1,11 +1,15 @@
-//! The proved changes of a table in its lent buffer, one by one, and the body that a lookup hands out, as Rust links them
-//! from the library that `rt staticlib trial` writes. Box firmware links another, so this is for tests and measurements alone. Nothing checks these
-//! declarations against the library's source, so there is one for each function of `crates/trial` and nothing else.
+//! The proved changes of a table in its lent buffer, one by one, the body that a lookup hands out, and the stepping of a
+//! group in one lent buffer, as Rust links them from the library that `rt staticlib trial` writes. Box firmware links
+//! another, so this is for tests and measurements alone. Nothing checks these declarations against the library's source, so
+//! there is one for each function of `crates/trial` and nothing else.
 //!
 //! Each change leaves the image of the changed table at the buffer's start, zeros where the image before was longer, and every
 //! other byte as it was. None tests what it asks of its caller, and with less than that it may write anywhere: that is
 //! why each is unsafe. All of them ask for a buffer that begins with an image. It need not be that of a table by the
 //! rules, but its offsets and lengths have to be as the paper lays them.
+//!
+//! The stepping of a group asks nothing of its caller, whatever the lent bytes are, and so it is safe. The table buffers of
+//! the boxes stand side by side in one lent buffer, 49,176 bytes each, that of box 0 first.
 
 mod library {
     extern "C" {
@@ -47,6 +51,27 @@ mod library {
             out: *mut u8,
             out_len: usize,
         ) -> usize;
+        pub fn trial_start_fresh(tables: *mut u8, tables_len: usize, n: u8) -> u8;
+        pub fn trial_arrive(
+            tables: *mut u8,
+            tables_len: usize,
+            box_number: u8,
+            message: *const u8,
+            message_len: usize,
+            reply: *mut u8,
+            reply_len: usize,
+        ) -> u8;
+        pub fn trial_merge_boxes(
+            tables: *const u8,
+            tables_len: usize,
+            boxes: *const u8,
+            boxes_len: usize,
+            view: u32,
+            run: *mut u8,
+            run_len: usize,
+            out: *mut u8,
+            out_len: usize,
+        ) -> u8;
     }
 }
 
@@ -138,4 +163,45 @@ pub unsafe fn held_body(
         out.as_mut_ptr(),
         out.len(),
     )
+}
+
+/// Every box of a group of n fresh, in its table buffer; returns the number.
+pub fn start_fresh(tables: &mut [u8], n: u8) -> u8 {
+    // A slice is valid for its length, and nobody else has this one.
+    unsafe { library::trial_start_fresh(tables.as_mut_ptr(), tables.len(), n) }
+}
+
+/// A message arrives at one box: its table changed, the reply written; returns the number.
+pub fn arrive(tables: &mut [u8], box_number: u8, message: &[u8], reply: &mut [u8]) -> u8 {
+    // Slices are valid for their lengths; nobody else has those that are written, so none overlap.
+    unsafe {
+        library::trial_arrive(
+            tables.as_mut_ptr(),
+            tables.len(),
+            box_number,
+            message.as_ptr(),
+            message.len(),
+            reply.as_mut_ptr(),
+            reply.len(),
+        )
+    }
+}
+
+/// The merge for a view of what the named boxes hold now: their images are laid end to end in a run, and the merged image
+/// is written at the output's start; returns the number.
+pub fn merge_boxes(tables: &[u8], boxes: &[u8], view: u32, run: &mut [u8], out: &mut [u8]) -> u8 {
+    // Slices are valid for their lengths; nobody else has those that are written, so none overlap.
+    unsafe {
+        library::trial_merge_boxes(
+            tables.as_ptr(),
+            tables.len(),
+            boxes.as_ptr(),
+            boxes.len(),
+            view,
+            run.as_mut_ptr(),
+            run.len(),
+            out.as_mut_ptr(),
+            out.len(),
+        )
+    }
 }
