@@ -27,7 +27,7 @@ use Rattle.run.specs.Runs.{laidOut, before, images, orNone, oneOrMore, runTable
 use Rattle.run.proofs.RunTurns.{images-none}
 use Rattle.merge.specs.Calls as merge
 use Rattle.merge.proofs.MergeCall.{merge-number, merge-refused}
-use Rattle.boxes.specs.Lent.{bufferOf, joined, tablesNamed, runNamed, noRunRoom, togetherNumber, togetherOutput, togetherRun}
+use Rattle.boxes.specs.Lent.{bufferOf, joined, tablesNamed, runNamed, noRunRoom, mergeBoxesNumber, mergeBoxesOutput, mergeBoxesRun}
 use Rattle.boxes.proofs.LentTables.{ends-before}
 
 module _ (M : Model) (tables boxes : List ℕ) (i : ℕ) where
@@ -194,19 +194,19 @@ nothing-runs M = ap oneOrMore (images-none M)
 module _ (M : Model) (tables boxes : List ℕ) (v : ℕ) (run out : List ℕ) where
   -- what the three promises say
   abbrev pub Together : ℕ → List ℕ → List ℕ → Type 0
-  Together k after merged = (k ≡ togetherNumber M tables boxes v run out) × ((after ≡ togetherRun M tables boxes run out) × (merged ≡ togetherOutput M tables boxes v run out))
+  Together k after merged = (k ≡ mergeBoxesNumber M tables boxes v run out) × ((after ≡ mergeBoxesRun M tables boxes run out) × (merged ≡ mergeBoxesOutput M tables boxes v run out))
 
   -- a merge that is refused writes nothing
   refused : (k : ℕ) → 0 < k → merge.callNumber M (runNamed M tables boxes) v out ≡ k → merge.callOutput M (runNamed M tables boxes) v out ≡ out
   refused k p e = merge-refused M (runNamed M tables boxes) v out (λ z. omega (arith, sym e ∙ z))
 
   pub together-crowded : noRunRoom M boxes run ≡ true → Together 1 run out
-  unfolding togetherNumber togetherRun togetherOutput either
+  unfolding mergeBoxesNumber mergeBoxesRun mergeBoxesOutput either
   together-crowded e = rw e (refl, (refl, refl))
 
   module _ (fits : noRunRoom M boxes run ≡ false) where
     pub together-small : length out < M .leastBuffer → Together 1 run out
-    unfolding togetherNumber togetherRun togetherOutput tooSmall either
+    unfolding mergeBoxesNumber mergeBoxesRun mergeBoxesOutput tooSmall either
     together-small l =
         let small : tooSmall M (length out) ≡ true = lt-ltb (length out) (M .leastBuffer) l in
         let e : merge.callNumber M (runNamed M tables boxes) v out ≡ 1 = merge-number M (runNamed M tables boxes) v out ∙ rw small in
@@ -219,7 +219,7 @@ module _ (M : Model) (tables boxes : List ℕ) (v : ℕ) (run out : List ℕ) wh
 
       -- a box has no table
       pub together-bad : isSome (tablesNamed M tables boxes) ≡ false → Together 2 run out
-      unfolding togetherNumber togetherRun togetherOutput either runNamed laidOut
+      unfolding mergeBoxesNumber mergeBoxesRun mergeBoxesOutput either runNamed laidOut
       together-bad h =
           let n : runNamed M tables boxes ≡ [] = ap (λ o. laidOut (orNone o)) (is-none (tablesNamed M tables boxes) h) in
           let e : merge.callNumber M (runNamed M tables boxes) v out ≡ 2 = merge-number M (runNamed M tables boxes) v out ∙ rw (large, n, nothing-runs M) in
@@ -230,5 +230,5 @@ module _ (M : Model) (tables boxes : List ℕ) (v : ℕ) (run out : List ℕ) wh
           is-none (some Ts) e = impossible refl e
 
       pub together-merged : (k : ℕ) (after merged : List ℕ) → after ≡ replaced run 0 (runNamed M tables boxes) → k ≡ merge.callNumber M (runNamed M tables boxes) v out → merged ≡ merge.callOutput M (runNamed M tables boxes) v out → Together k after merged
-      unfolding togetherNumber togetherRun togetherOutput either
+      unfolding mergeBoxesNumber mergeBoxesRun mergeBoxesOutput either
       together-merged k after merged a b c = rw (fits, large) (b, (a, c))

@@ -60,13 +60,13 @@ module _ (M : Model) where
   noRunRoom boxes run = ltb (length run) (M .leastBuffer * length boxes)
 
   -- 1 for want of that room, else the number of the merge
-  unfoldable pub togetherNumber : List ℕ → List ℕ → ℕ → List ℕ → List ℕ → ℕ
-  togetherNumber tables boxes v run out = cond (noRunRoom boxes run) (numberCode smallBuffer) (merge.callNumber M (runNamed tables boxes) v out)
+  unfoldable pub mergeBoxesNumber : List ℕ → List ℕ → ℕ → List ℕ → List ℕ → ℕ
+  mergeBoxesNumber tables boxes v run out = cond (noRunRoom boxes run) (numberCode smallBuffer) (merge.callNumber M (runNamed tables boxes) v out)
 
   -- the merge's output
-  unfoldable pub togetherOutput : List ℕ → List ℕ → ℕ → List ℕ → List ℕ → List ℕ
-  togetherOutput tables boxes v run out = cond (noRunRoom boxes run) out (merge.callOutput M (runNamed tables boxes) v out)
+  unfoldable pub mergeBoxesOutput : List ℕ → List ℕ → ℕ → List ℕ → List ℕ → List ℕ
+  mergeBoxesOutput tables boxes v run out = cond (noRunRoom boxes run) out (merge.callOutput M (runNamed tables boxes) v out)
 
   -- the images are left where they were laid; number 1 "writes nothing"
-  unfoldable pub togetherRun : List ℕ → List ℕ → List ℕ → List ℕ → List ℕ
-  togetherRun tables boxes run out = cond (either (noRunRoom boxes run) (tooSmall M (length out))) run (replaced run 0 (runNamed tables boxes))
+  unfoldable pub mergeBoxesRun : List ℕ → List ℕ → List ℕ → List ℕ → List ℕ
+  mergeBoxesRun tables boxes run out = cond (either (noRunRoom boxes run) (tooSmall M (length out))) run (replaced run 0 (runNamed tables boxes))

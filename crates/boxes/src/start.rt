@@ -22,7 +22,7 @@ fn fresh_boxes(tables: &mut [u8], n: u8)
     }
 }
 
-// The fresh tables of a group's boxes, side by side in a lent buffer, or a refusal that leaves it as it is.
+// The fresh tables of a group's boxes, side by side in a lent buffer: 1 if it has no room for n table buffers, 3 for a bad n, and then it is left as it is.
 pub fn start_fresh(tables: &mut [u8], n: u8) -> u8
     ensures { λ r. ⌜ r ≡ startNumber valley (now (tables .entry)) n ⌝ }
     ensures { λ _. ⌜ now (tables .exit) ≡ startTables valley (now (tables .entry)) n ⌝ }

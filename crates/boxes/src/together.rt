@@ -11,7 +11,7 @@ ghost use lib.ListN.{length};
 ghost use Rattle.wire.specs.Parts.{replaced};
 ghost use Rattle.rules.specs.Tests.{isSome};
 ghost use Rattle.rules.specs.Tables.{valley};
-ghost use Rattle.boxes.specs.Lent.{tablesNamed, runNamed, togetherNumber, togetherRun, togetherOutput};
+ghost use Rattle.boxes.specs.Lent.{tablesNamed, runNamed, mergeBoxesNumber, mergeBoxesRun, mergeBoxesOutput};
 
 // Whether each box that is named has a table: its buffer begins with an image.
 fn all_whole(tables: &[u8], boxes: &[u8]) -> bool
@@ -48,11 +48,11 @@ fn lay_images(tables: &[u8], boxes: &[u8], run: &mut [u8]) -> usize
     end
 }
 
-// The merge for a view of the tables that the named boxes hold now: their images are laid end to end in a lent run, and merged from there.
+// The merge for a view of the tables that the named boxes hold now: their images are laid end to end in a lent run, and merged from there, with the merge's number. Before that: 1 for want of room in the run or in the output, 2 if a named box has no table.
 pub fn merge_boxes(tables: &[u8], boxes: &[u8], view: u32, run: &mut [u8], out: &mut [u8]) -> u8
-    ensures { λ r. ⌜ r ≡ togetherNumber valley (now (tables .entry)) (now (boxes .entry)) view (now (run .entry)) (now (out .entry)) ⌝ }
-    ensures { λ _. ⌜ now (run .exit) ≡ togetherRun valley (now (tables .entry)) (now (boxes .entry)) (now (run .entry)) (now (out .entry)) ⌝ }
-    ensures { λ _. ⌜ now (out .exit) ≡ togetherOutput valley (now (tables .entry)) (now (boxes .entry)) view (now (run .entry)) (now (out .entry)) ⌝ }
+    ensures { λ r. ⌜ r ≡ mergeBoxesNumber valley (now (tables .entry)) (now (boxes .entry)) view (now (run .entry)) (now (out .entry)) ⌝ }
+    ensures { λ _. ⌜ now (run .exit) ≡ mergeBoxesRun valley (now (tables .entry)) (now (boxes .entry)) (now (run .entry)) (now (out .entry)) ⌝ }
+    ensures { λ _. ⌜ now (out .exit) ≡ mergeBoxesOutput valley (now (tables .entry)) (now (boxes .entry)) view (now (run .entry)) (now (out .entry)) ⌝ }
 {
     // not by a product with the number of boxes, which could be too large
     if run.len() / buffers::LENGTH < boxes.len() {

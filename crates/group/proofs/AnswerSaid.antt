@@ -27,22 +27,22 @@ use Rattle.answer.specs.Calls.{callNumber, callTable, callReply}
 use Rattle.answer.proofs.AnswerCall.{refusal-bytes, answer-refused, refused-reply, answer-as-rules}
 use Rattle.answer.proofs.AnswerWays.{Large, AnswerWay.noMessage, AnswerWay.breaksRule, AnswerWay.served, own-rule, served-other, way-exactly}
 use Rattle.group.specs.Said as bytes
-use Rattle.group.specs.Said.{heard, said}
+use Rattle.group.specs.Said.{messageIn, said}
 
 -- ---- what bytes are said to be
 
 -- bytes that are a message by the rules of the group
-pub said-heard : (M : Model) (n : ℕ) (message : List ℕ) (m : Message) → messageAt formatOne message ≡ some m → messageByRule M n m ≡ true → heard M n message ≡ some m
+pub message-is : (M : Model) (n : ℕ) (message : List ℕ) (m : Message) → messageAt formatOne message ≡ some m → messageByRule M n m ≡ true → messageIn M n message ≡ some m
 unfolding messageTo
-said-heard M n message m b r = rw (b, r) refl
+message-is M n message m b r = rw (b, r) refl
 
-said-none : (M : Model) (n : ℕ) (message : List ℕ) → messageAt formatOne message ≡ none → heard M n message ≡ none
+message-none : (M : Model) (n : ℕ) (message : List ℕ) → messageAt formatOne message ≡ none → messageIn M n message ≡ none
 unfolding messageTo
-said-none M n message b = rw b refl
+message-none M n message b = rw b refl
 
-said-broken : (M : Model) (n : ℕ) (message : List ℕ) (m : Message) → messageAt formatOne message ≡ some m → messageByRule M n m ≡ false → heard M n message ≡ none
+message-broken : (M : Model) (n : ℕ) (message : List ℕ) (m : Message) → messageAt formatOne message ≡ some m → messageByRule M n m ≡ false → messageIn M n message ≡ none
 unfolding messageTo
-said-broken M n message m b r = rw (b, r) refl
+message-broken M n message m b r = rw (b, r) refl
 
 -- what no box takes is answered with 3, and the table stays
 no-message : (M : Model) (T : Table) → answer M belowLimit check T bytes.noMessage ≡ refused 3 T
@@ -77,7 +77,7 @@ module _ (M : Model) (table message reply : List ℕ) where
           refused-reply M table message reply 3 e (λ z. absurd (omega arith)) (λ z. absurd (omega arith)) ∙ ap (replaced reply 0) (sym (refusal-bytes 3)),
         )
 
-    as-none : heard M n message ≡ none → callNumber M table message reply ≡ 3 → (callNumber M table message reply ≡ 1 → ⊥) × AnsweredAs (answer M belowLimit check T (said M n message))
+    as-none : messageIn M n message ≡ none → callNumber M table message reply ≡ 3 → (callNumber M table message reply ≡ 1 → ⊥) × AnsweredAs (answer M belowLimit check T (said M n message))
     as-none h e = (λ z. let d : _≡_ {A = ℕ} 3 1 = sym e ∙ z in absurd (omega arith), rw (h, no-message M T) (bad e))
 
     -- and it is not numbered 1
@@ -88,9 +88,9 @@ module _ (M : Model) (table message reply : List ℕ) where
         by m b (inl r) =
             let is = way-exactly M table message reply (served large T m a b (rw group r)) in
             let other : callNumber M table message reply ≡ 1 → ⊥ = λ z. served-other M T m .0 (sym is ∙ z) in
-            (other, rw (said-heard M n message m b r) (answer-as-rules M table message reply sound other T m a b))
-        by m b (inr r) = as-none (said-broken M n message m b r) (way-exactly M table message reply (breaksRule large T m a b (rw group r)))
+            (other, rw (message-is M n message m b r) (answer-as-rules M table message reply sound other T m a b))
+        by m b (inr r) = as-none (message-broken M n message m b r) (way-exactly M table message reply (breaksRule large T m a b (rw group r)))
 
         go : (q : Option Message) → messageAt formatOne message ≡ q → (callNumber M table message reply ≡ 1 → ⊥) × AnsweredAs (answer M belowLimit check T (said M n message))
-        go none b = as-none (said-none M n message b) (way-exactly M table message reply (noMessage large T a b))
+        go none b = as-none (message-none M n message b) (way-exactly M table message reply (noMessage large T a b))
         go (some m) b = by m b (cases (messageByRule M n m))

@@ -24,7 +24,7 @@ use Rattle.history.specs.Survival as history
 use Rattle.history.specs.Survival.{put}
 use Rattle.history.proofs.Follow.Follows.{and-last}
 use Rattle.group.specs.Said.{said, replyIn}
-use Rattle.group.specs.Acts.{Sent, Boxes, answering}
+use Rattle.group.specs.Acts.{Sent, GroupInBuffers, answering}
 use Rattle.group.specs.Survival.{BeginsWithImage}
 use Rattle.group.proofs.Reading.{sentAs, answeredAs, tablesIn, reading}
 use Rattle.group.proofs.Listed.{map-last}
@@ -33,7 +33,7 @@ use Rattle.group.proofs.AnswerSaid.{AnsweredAs, taken-reply, answered-a
 use Rattle.group.proofs.RepliesRead.{answer-read}
 use Rattle.group.proofs.Good.{Kept, Good}
 
-module _ (M : Model) (sound : Sound formatOne M) (room : 24 + 96 * M .rowLimit ≤ M .leastBuffer) (B : Boxes) (good : Good M B) (x : Sent) (inside : x .box < B .n) (reply : List ℕ) (long : 24 ≤ length reply) where
+module _ (M : Model) (sound : Sound formatOne M) (room : 24 + 96 * M .rowLimit ≤ M .leastBuffer) (B : GroupInBuffers) (good : Good M B) (x : Sent) (inside : x .box < B .n) (reply : List ℕ) (long : 24 ≤ length reply) where
   abbrev buffer : List ℕ
   buffer = B .buffer (x .box)
 
@@ -49,7 +49,7 @@ module _ (M : Model) (sound : Sound formatOne M) (room : 24 + 96 * M .rowLimit �
   abbrev pub replyNow : List ℕ
   replyNow = callReply M buffer (x .message) reply
 
-  abbrev pub answeredNow : Boxes
+  abbrev pub answeredNow : GroupInBuffers
   answeredNow = answering B x tableNow replyNow
 
   kept : Kept M (B .n) (x .box) buffer
@@ -82,7 +82,7 @@ module _ (M : Model) (sound : Sound formatOne M) (room : 24 + 96 * M .rowLimit �
   answering-read = λ i. record {
     n = B .n;
     table = λ b. tables-then b i;
-    had = (map-last (tableAt formatOne) (B .stood) tableNow ∙ ap (λ T. map (tableAt formatOne) (B .stood) ++ (T ∷ [])) table-read) i;
+    had = (map-last (tableAt formatOne) (B .had) tableNow ∙ ap (λ T. map (tableAt formatOne) (B .had) ++ (T ∷ [])) table-read) i;
     sent = map (sentAs M (B .n)) (B .sent);
     answers = (map-last (answeredAs M (B .n)) (B .answers) _ ∙ ap (λ p. map (answeredAs M (B .n)) (B .answers) ++ (record { box = x .box; message = said M (B .n) (x .message); reply = p } ∷ [])) reply-is) i;
     declared = B .declared;
@@ -117,7 +117,7 @@ module _ (M : Model) (sound : Sound formatOne M) (room : 24 + 96 * M .rowLimit �
   answering-good = record {
     group = good .group;
     buffers = buffers-then;
-    stood = and-last (BeginsWithImage M) (B .stood) tableNow (good .stood) (kept-now .image);
+    had = and-last (BeginsWithImage M) (B .had) tableNow (good .had) (kept-now .image);
     replies = and-last (λ a. replyIn (a .reply) .number ≡ 0 → replyIn (a .reply) .box ≡ a .box) (B .answers) _ (good .replies) named;
     outputs = good .outputs;
   }

@@ -26,7 +26,7 @@ use Rattle.count.proofs.CountCall.{answered-by-rules}
 use Rattle.history.specs.Survival as history
 use Rattle.history.specs.Survival.{_∈_}
 use Rattle.group.specs.Said.{replyIn, recordOf}
-use Rattle.group.specs.Acts.{Boxes}
+use Rattle.group.specs.Acts.{GroupInBuffers}
 use Rattle.group.specs.Rules.{ReplyFor, Counting}
 use Rattle.group.proofs.Reading.{reading}
 use Rattle.group.proofs.Good.{Good}
@@ -40,7 +40,7 @@ state-heard : (c q : ℕ) (b : Bool) → ltb 4 c ≡ b → ResultCoded (cond b (
 state-heard c q true e k = let l = ltb-true 4 c e in (omega (arith, k .sameCode), sym (k .sameRetry))
 state-heard c q false e k = (sym (k .sameCode), sym (k .sameRetry))
 
-module _ (M : Model) (B : Boxes) (good : Good M B) (s v : ℕ) where
+module _ (M : Model) (B : GroupInBuffers) (good : Good M B) (s v : ℕ) where
   -- what the record of a reply buffer says is a reply that its box has given, if its result is read
   replied : (p : List ℕ) → ReplyFor M B s v p → resultRead (recordOf p) ≡ true → history.Replied (reading M B) s v (heard (recordOf p))
   unfolding recordOf

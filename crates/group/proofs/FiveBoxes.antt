@@ -18,7 +18,7 @@ use Rattle.histories.proofs.FiveBoxes.{five-boxes-lawful}
 use Rattle.group.specs.Acts.{freshBoxes, Act, afterActs}
 use Rattle.group.specs.Rules.{ByTheRules}
 use Rattle.group.proofs.Reading.{reading}
-use Rattle.group.proofs.Following.{fresh-read, fresh-good}
+use Rattle.group.proofs.FreshStart.{fresh-read, fresh-good}
 use Rattle.group.proofs.Played.{eventByRule, history-played}
 
 messages-by-rule : every (eventByRule valley 5) fiveBoxes ≡ true

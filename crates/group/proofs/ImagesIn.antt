@@ -7,6 +7,7 @@ use Prim.Native.Nat.{ℕ}
 use lib.ListN.{length, drop}
 use lib.Seq.{take-at}
 use Rattle.rules.specs.Tables.{Table, Model, tableByRule}
+use Rattle.table.specs.Headers.{headerAt}
 use Rattle.table.specs.Images.{formatOne, image}
 use Rattle.table.specs.Parse.{tableAt, parse}
 use Rattle.table.proofs.Images.{Sound, parse-reads, parse-begins, parse-by-rule, header-says}
@@ -20,7 +21,7 @@ pub begins-with : (M : Model) (s : List ℕ) (T : Table) → parse formatOne M s
 begins-with M s T p = p ∙ ap some (sym (parse-reads formatOne M s T p .0))
 
 image-first : (M : Model) (T : Table) (rest : List ℕ) → Sound formatOne M → tableByRule M T ≡ true → imageIn (image formatOne T ++ rest) ≡ image formatOne T
-unfolding imageIn
+unfolding imageIn headerAt
 image-first M T rest sound r = rw (header-says formatOne M T sound r rest) (take-at (image formatOne T) rest _ refl)
 
 -- what a buffer's total length cuts off is the image that it begins with

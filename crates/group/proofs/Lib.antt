@@ -12,6 +12,7 @@ pub mod RulesBack
 pub mod Answering
 pub mod Merging
 pub mod Following
+pub mod FreshStart
 pub mod Survival
 pub mod OneStep
 pub mod Stepped

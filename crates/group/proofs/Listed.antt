@@ -1,7 +1,7 @@
 -- Lists that are read element by element: one element more, and what stands at a place.
-use mathlib.Core.Path.{_≡_, refl, sym, ap, ap₂}
+use mathlib.Core.Path.{_≡_, refl, sym, ap, ap₂, subst}
 use mathlib.Core.Logic.{_⊎_, inl, inr}
-use mathlib.Core.List.{List, [], _∷_, _++_, map, List·Memᴰ·head, List·Memᴰ·tail, List·Memᴰ·not-nil, List·Memᴰ·cases-cons}
+use mathlib.Core.List.{List, [], _∷_, _++_, map, List·Memᴰ·head, List·Memᴰ·tail, List·Memᴰ·not-nil, List·Memᴰ·cases-cons, Memᴰ·of-map}
 use mathlib.Core.Option.{Option, none, some}
 use Prim.Native.Nat.{ℕ, zero, suc}
 use lib.ListN.{length}
@@ -45,6 +45,10 @@ places-of xs (y ∷ ys) among =
 pub map-same : {A B : Type 0} (f g : A → B) (xs : List A) → ((x : A) → x ∈ xs → f x ≡ g x) → map f xs ≡ map g xs
 map-same f g [] each = refl
 map-same f g (x ∷ xs) each = ap₂ _∷_ (each x (List·Memᴰ·head refl)) (map-same f g xs (λ y m. each y (List·Memᴰ·tail m)))
+
+-- what holds of what is read of each element holds of each of those
+pub each-mapped : {A B : Type 0} (P : B → Type 0) (f : A → B) (xs : List A) → ((x : A) → x ∈ xs → P (f x)) → (y : B) → y ∈ map f xs → P y
+each-mapped P f xs each y m = let (x, i, e) = Memᴰ·of-map f xs m in subst P e (each x i)
 
 -- the place behind all others
 pub at-last : {A : Type 0} (xs : List A) (x : A) → at (xs ++ (x ∷ [])) (length xs) ≡ some x

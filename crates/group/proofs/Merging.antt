@@ -2,7 +2,7 @@
 use mathlib.Core.Path.{_≡_, refl, sym, ap, _∙_}
 use mathlib.Core.Bool.{true, false, cond}
 use mathlib.Core.Logic.{_⊎_, inl, inr}
-use mathlib.Core.List.{List, [], _∷_, _++_, map, Memᴰ·cast, Memᴰ·map, Memᴰ·of-map}
+use mathlib.Core.List.{List, [], _∷_, _++_, map, Memᴰ·map}
 use mathlib.Core.Option.{Option, none, some}
 use Prim.Native.Nat.{ℕ, _+_, _*_, _≤_}
 use lib.Dec.{eqb}
@@ -23,17 +23,17 @@ use Rattle.merge.proofs.MergeCall.{merge-done}
 use Rattle.history.specs.Survival as history
 use Rattle.history.specs.Survival.{_∈_, Event, at, step}
 use Rattle.history.proofs.Follow.Follows.{and-last}
-use Rattle.group.specs.Acts.{Merged, Boxes, Act.merges, merging, mergingBy, act}
+use Rattle.group.specs.Acts.{Merged, GroupInBuffers, Act.merges, merging, mergingBy, act}
 use Rattle.group.specs.Rules.{OfBoxes}
 use Rattle.group.specs.Survival.{BeginsWithImage}
 use Rattle.group.specs.Held.{Leaves}
 use Rattle.group.proofs.Reading.{mergedAs, reading}
-use Rattle.group.proofs.Listed.{map-last, places-of}
+use Rattle.group.proofs.Listed.{map-last, places-of, each-mapped}
 use Rattle.group.proofs.ImagesIn.{begins-with, images-in}
 use Rattle.group.proofs.MergeLaid.{merge-laid}
 use Rattle.group.proofs.Good.{Good}
 
-module _ (M : Model) (sound : Sound formatOne M) (room : 24 + 96 * M .rowLimit ≤ M .leastBuffer) (B : Boxes) (good : Good M B) where
+module _ (M : Model) (sound : Sound formatOne M) (room : 24 + 96 * M .rowLimit ≤ M .leastBuffer) (B : GroupInBuffers) (good : Good M B) where
   -- its output buffer begins with an image
   pub merges-good : (v : ℕ) (run out : List ℕ) → Good M (act M B (merges v run out))
   merges-good v run out = go (same? (merge.callNumber M run v out) 0)
@@ -44,7 +44,7 @@ module _ (M : Model) (sound : Sound formatOne M) (room : 24 + 96 * M .rowLimit �
           rw e record {
             group = good .group;
             buffers = good .buffers;
-            stood = good .stood;
+            had = good .had;
             replies = good .replies;
             outputs = and-last (λ m. BeginsWithImage M (m .output)) (B .merged) _ (good .outputs) (begins-with M _ (w .merged) (w .after));
           }
@@ -55,12 +55,10 @@ module _ (M : Model) (sound : Sound formatOne M) (room : 24 + 96 * M .rowLimit �
     tables = map (tableAt formatOne) (of .0)
 
     by-rules : (T : Table) → T ∈ tables → tableByRule M T ≡ true
-    by-rules T m =
-        let (s, i, e) = Memᴰ·of-map (tableAt formatOne) (of .0) m in
-        rw (← e) (parse-by-rule formatOne M s (tableAt formatOne s) (good .stood s (of .2 s i)))
+    by-rules = each-mapped (λ T. tableByRule M T ≡ true) (tableAt formatOne) (of .0) (λ s i. parse-by-rule formatOne M s (tableAt formatOne s) (good .had s (of .2 s i)))
 
     run-is : images M run ≡ some tables
-    run-is = ap (images M) (of .1 ∙ images-in M (of .0) sound (λ s i. good .stood s (of .2 s i))) ∙ images-laid M sound tables by-rules
+    run-is = ap (images M) (of .1 ∙ images-in M (of .0) sound (λ s i. good .had s (of .2 s i))) ∙ images-laid M sound tables by-rules
 
     -- what is made of a merge of `rules`, or of none
     merged-as : (ks : List ℕ) → allOf (at (reading M B .had)) ks ≡ tables → (o : Option Table) → rules.merge M check v tables ≡ o → step M belowLimit check (reading M B) (Event.merges v ks) ≡ history.mergingAs M belowLimit check (reading M B) v o
@@ -90,7 +88,4 @@ module _ (M : Model) (sound : Sound formatOne M) (room : 24 + 96 * M .rowLimit �
 
     -- they stand at some
     pub places : (ks : List ℕ) × (allOf (at (reading M B .had)) ks ≡ tables)
-    places = places-of (map (tableAt formatOne) (B .stood)) tables among
-      where
-        among : (T : Table) → T ∈ tables → T ∈ map (tableAt formatOne) (B .stood)
-        among T m = let (s, i, e) = Memᴰ·of-map (tableAt formatOne) (of .0) m in Memᴰ·cast (sym e) (Memᴰ·map (tableAt formatOne) (of .2 s i))
+    places = places-of (map (tableAt formatOne) (B .had)) tables (each-mapped (λ T. T ∈ map (tableAt formatOne) (B .had)) (tableAt formatOne) (of .0) (λ s i. Memᴰ·map (tableAt formatOne) (of .2 s i)))

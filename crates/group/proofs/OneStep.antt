@@ -2,7 +2,7 @@
 use mathlib.Core.Path.{_≡_, refl, sym, ap, subst, _∙_}
 use mathlib.Core.Bool.{true, false}
 use mathlib.Core.Logic.{_⊎_, inl, inr}
-use mathlib.Core.List.{List, [], _∷_, _++_, map, Memᴰ·append-left, Memᴰ·append-right, Memᴰ·of-map, List·Memᴰ·head, Memᴰ·cast}
+use mathlib.Core.List.{List, [], _∷_, _++_, map, Memᴰ·append-left, Memᴰ·append-right, List·Memᴰ·head}
 use mathlib.Core.Option.{some}
 use Prim.Native.Nat.{ℕ, _+_, _*_, _≤_, _<_}
 use native.Mathlib.Omega.{arith}
@@ -32,7 +32,7 @@ use Rattle.history.specs.Survival as history
 use Rattle.history.specs.Survival.{_∈_, Group, Sent, Event.arrives, Event.merges, at, put, step}
 use Rattle.group.specs.Said.{said}
 use Rattle.group.specs.Held.{Holds, afterMessage, answerTo, Leaves}
-use Rattle.group.proofs.Listed.{at-last, places-of}
+use Rattle.group.proofs.Listed.{at-last, places-of, each-mapped}
 use Rattle.group.proofs.AnswerSaid.{AnsweredAs, taken-reply, answered-as-said}
 use Rattle.group.proofs.MergeLaid.{merge-laid}
 
@@ -84,7 +84,7 @@ module _ (M : Model) (sound : Sound formatOne M) (room : 24 + 96 * M .rowLimit �
   merges-steps v boxes inside = (found .0, ap (λ Ts. history.mergingAs M belowLimit check G v (rules.merge M check v Ts)) (found .1))
     where
       found : (ks : List ℕ) × (allOf (at (G .had)) ks ≡ map (G .table) boxes)
-      found = places-of (G .had) (map (G .table) boxes) (λ T m. let (b, i, e) = Memᴰ·of-map (G .table) boxes m in Memᴰ·cast (sym e) (holds .had b (inside b i)))
+      found = places-of (G .had) (map (G .table) boxes) (each-mapped (λ T. T ∈ G .had) (G .table) boxes (λ b i. holds .had b (inside b i)))
 
   -- and the call on their images, laid end to end
   pub merge-is-merge : (v : ℕ) (boxes : List ℕ) (out : List ℕ) → ((b : ℕ) → b ∈ boxes → b < G .n) → M .leastBuffer ≤ length out → Leaves M out (merge.callNumber M (laidOut (map (G .table) boxes)) v out) (merge.callOutput M (laidOut (map (G .table) boxes)) v out) (rules.merge M check v (map (G .table) boxes))
@@ -92,7 +92,7 @@ module _ (M : Model) (sound : Sound formatOne M) (room : 24 + 96 * M .rowLimit �
       merge-laid M (laidOut (map (G .table) boxes)) v out sound room (map (G .table) boxes) (images-laid M sound (map (G .table) boxes) by-rules) large
     where
       by-rules : (T : Table) → T ∈ map (G .table) boxes → tableByRule M T ≡ true
-      by-rules T m = let (b, i, e) = Memᴰ·of-map (G .table) boxes m in rw (← e) (parse-by-rule formatOne M (buffers b) (G .table b) (holds .begins b (inside b i)))
+      by-rules = each-mapped (λ T. tableByRule M T ≡ true) (G .table) boxes (λ b i. parse-by-rule formatOne M (buffers b) (G .table b) (holds .begins b (inside b i)))
 
 -- bytes that are sent change no table
 sending-held : (M : Model) (G : Group) (x : Sent) (buffers : ℕ → List ℕ) → Holds M G buffers → Holds M (history.sending G x) buffers

@@ -23,12 +23,12 @@ use Rattle.message.proofs.Forms.{message-read}
 use Rattle.history.specs.Survival as history
 use Rattle.history.specs.Survival.{Group, Event, at, step, after, May, Lawful}
 use Rattle.history.proofs.Follow.Arrivals.{chosen-in}
-use Rattle.group.specs.Said.{heard, orNoMessage, laidImages}
-use Rattle.group.specs.Acts.{Boxes, Act, Act.sends, Act.arrives, Act.declares, Act.merges, act, afterActs}
+use Rattle.group.specs.Said.{messageIn, orNoMessage, laidImages}
+use Rattle.group.specs.Acts.{GroupInBuffers, Act, Act.sends, Act.arrives, Act.declares, Act.merges, act, afterActs}
 use Rattle.group.specs.Rules.{OfBoxes, MaySend, MayAct, ByTheRules}
 use Rattle.group.proofs.Reading.{reading}
 use Rattle.group.proofs.Listed.{mapped, map-at}
-use Rattle.group.proofs.AnswerSaid.{said-heard}
+use Rattle.group.proofs.AnswerSaid.{message-is}
 use Rattle.group.proofs.Good.{Good, sending-good, declaring-good}
 use Rattle.group.proofs.RulesBack.{may-send-back, may-declare-back}
 use Rattle.group.proofs.Merging.{merges-good, merges-read}
@@ -42,8 +42,8 @@ eventByRule M n (Event.declares s v r) = true
 eventByRule M n (Event.merges v ks) = true
 
 module _ (M : Model) (sound : Sound formatOne M) (room : 24 + 96 * M .rowLimit ≤ M .leastBuffer) where
-  written-heard : (n : ℕ) (m : Message) → messageByRule M n m ≡ true → heard M n (messageBytes formatOne m) ≡ some m
-  written-heard n m r = said-heard M n (messageBytes formatOne m) m (message-read formatOne M n m sound r) r
+  written-is : (n : ℕ) (m : Message) → messageByRule M n m ≡ true → messageIn M n (messageBytes formatOne m) ≡ some m
+  written-is n m r = message-is M n (messageBytes formatOne m) m (message-read formatOne M n m sound r) r
 
   -- a step leaves the group's size
   step-n : (G : Group) (e : Event) → step M belowLimit check G e .n ≡ G .n
@@ -75,15 +75,15 @@ module _ (M : Model) (sound : Sound formatOne M) (room : 24 + 96 * M .rowLimit �
       go (some s) = refl
 
   -- an act that is the event
-  pub record PlayedAs (B : Boxes) (e : Event) : Type 0 where
+  pub record PlayedAs (B : GroupInBuffers) (e : Event) : Type 0 where
     pub played : Act
     pub may : MayAct M B played
     pub same : reading M (act M B played) ≡ step M belowLimit check (reading M B) e
     pub good : Good M (act M B played)
 
-  play : (B : Boxes) → Good M B → (e : Event) → eventByRule M (B .n) e ≡ true → May (reading M B) e → PlayedAs B e
+  play : (B : GroupInBuffers) → Good M B → (e : Event) → eventByRule M (B .n) e ≡ true → May (reading M B) e → PlayedAs B e
   play B good (Event.sends b m) r may =
-      let is = written-heard (B .n) m r in
+      let is = written-is (B .n) m r in
       record {
         played = sends b (messageBytes formatOne m);
         may = subst (MaySend M B b) (sym is) (may-send-back M B good b m may);
@@ -102,22 +102,22 @@ module _ (M : Model) (sound : Sound formatOne M) (room : 24 + 96 * M .rowLimit �
         good = declaring-good M B _ good;
       }
   play B good (Event.merges v ks) r may =
-      let ss = allOf (at (B .stood)) ks in
-      let of : OfBoxes M B (laidImages ss) = (ss, refl, λ s m. chosen-in (B .stood) ks s m) in
+      let ss = allOf (at (B .had)) ks in
+      let of : OfBoxes M B (laidImages ss) = (ss, refl, λ s m. chosen-in (B .had) ks s m) in
       let l = length-replicate {A = ℕ} (M .leastBuffer) 0 in
       record {
         played = merges v (laidImages ss) (replicate (M .leastBuffer) 0);
         may = λ e. of;
-        same = merges-read M sound room B good v (laidImages ss) (replicate (M .leastBuffer) 0) of (omega arith) ks (chosen-read (B .stood) ks);
+        same = merges-read M sound room B good v (laidImages ss) (replicate (M .leastBuffer) 0) of (omega arith) ks (chosen-read (B .had) ks);
         good = merges-good M sound room B good v (laidImages ss) (replicate (M .leastBuffer) 0);
       }
 
-  pub history-played : (B : Boxes) → Good M B → (es : List Event) → every (eventByRule M (B .n)) es ≡ true → Lawful M belowLimit check (reading M B) es → (acts : List Act) × ByTheRules M B acts × (reading M (afterActs M B acts) ≡ after M belowLimit check (reading M B) es)
+  pub history-played : (B : GroupInBuffers) → Good M B → (es : List Event) → every (eventByRule M (B .n)) es ≡ true → Lawful M belowLimit check (reading M B) es → (acts : List Act) × ByTheRules M B acts × (reading M (afterActs M B acts) ≡ after M belowLimit check (reading M B) es)
   unfolding every
   history-played B good [] r law = ([], tt, refl)
   history-played B good (e ∷ es) r (may, law) =
       let p = play B good e (both-left _ _ r) may in
-      let C : Boxes = act M B (p .played) in
+      let C : GroupInBuffers = act M B (p .played) in
       let n : C .n ≡ B .n = ap (λ G. G .n) (p .same) ∙ step-n (reading M B) e in
       let (acts, rest, is) = history-played C (p .good) es (rw n (both-right _ _ r)) (subst (λ G. Lawful M belowLimit check G es) (sym (p .same)) law) in
       (p .played ∷ acts, (p .may, rest), is ∙ ap (λ G. after M belowLimit check G es) (p .same))

@@ -8,7 +8,7 @@ use Rattle.table.specs.Images.{formatOne}
 use Rattle.table.specs.Parse.{tableAt}
 use Rattle.history.specs.Survival as history
 use Rattle.group.specs.Said.{said, replyIn}
-use Rattle.group.specs.Acts.{Sent, Answered, Merged, Boxes}
+use Rattle.group.specs.Acts.{Sent, Answered, Merged, GroupInBuffers}
 
 module _ (M : Model) where
   module _ (n : ℕ) where
@@ -25,12 +25,12 @@ module _ (M : Model) where
     abbrev pub tablesIn : (ℕ → List ℕ) → ℕ → Table
     tablesIn buffers b = cond (ltb b n) (tableAt formatOne (buffers b)) (freshTable n b)
 
-  abbrev pub reading : Boxes → history.Group
+  abbrev pub reading : GroupInBuffers → history.Group
   reading B =
       record {
         n = B .n;
         table = tablesIn (B .n) (B .buffer);
-        had = map (tableAt formatOne) (B .stood);
+        had = map (tableAt formatOne) (B .had);
         sent = map (sentAs (B .n)) (B .sent);
         answers = map (answeredAs (B .n)) (B .answers);
         declared = B .declared;

@@ -22,7 +22,7 @@ use Rattle.count.proofs.HeardBytes.{count-of-records}
 use Rattle.history.specs.Survival as history
 use Rattle.history.specs.Survival.{_∈_, Event}
 use Rattle.group.specs.Said.{replyIn, recordOf, said}
-use Rattle.group.specs.Acts.{Boxes, Act.declares}
+use Rattle.group.specs.Acts.{GroupInBuffers, Act.declares}
 use Rattle.group.specs.Rules as bytes
 use Rattle.group.proofs.Reading.{answeredAs, mergedAs, reading}
 use Rattle.group.proofs.Good.{Good}
@@ -56,7 +56,7 @@ not-bad n hs c e z = go (same? (countNumber n hs) 0)
         let d : counted n hs ≡ refused (countNumber n hs) = rw k refl in
         absurd (eqb-false (countNumber n hs) 0 k (ap countedNumber (sym d ∙ e) ∙ z))
 
-module _ (M : Model) (B : Boxes) where
+module _ (M : Model) (B : GroupInBuffers) where
   -- an answer in the group was given in bytes
   gave-back : (b : ℕ) (m : Message) (p : Reply) → history.Gave (reading M B) b m p → (message : List ℕ) × (reply : List ℕ) × bytes.Gave M B b message reply × (said M (B .n) message ≡ m) × (replyIn reply ≡ p)
   gave-back b m p (i, z) =

@@ -12,15 +12,15 @@ use Rattle.rules.specs.Count.{Counted.fast, Counted.slow}
 use Rattle.replies.specs.Heard.{allHeard}
 use Rattle.history.specs.Survival as history
 use Rattle.history.specs.Survival.{Event}
-use Rattle.group.specs.Said.{replyIn, recordOf, orNoMessage, heard, said}
-use Rattle.group.specs.Acts.{Boxes, Act.sends, Act.declares}
+use Rattle.group.specs.Said.{replyIn, recordOf, orNoMessage, messageIn, said}
+use Rattle.group.specs.Acts.{GroupInBuffers, Act.sends, Act.declares}
 use Rattle.group.specs.Rules as bytes
 use Rattle.group.proofs.Reading.{answeredAs, mergedAs, reading}
 use Rattle.group.proofs.Good.{Good}
 use Rattle.group.proofs.Says.{said-sent, gave-said}
 use Rattle.group.proofs.Counting.{counted-said}
 
-module _ (M : Model) (B : Boxes) where
+module _ (M : Model) (B : GroupInBuffers) where
   -- ---- rule by rule
 
   one-body : (s : ℕ) (x : Body) → bytes.OneBody M B s x → history.OneBody (reading M B) s x
@@ -78,7 +78,7 @@ module _ (M : Model) (B : Boxes) where
     may-say b (some (readRegister s k)) may = tt
 
     pub may-send : (b : ℕ) (message : List ℕ) → bytes.MayAct M B (sends b message) → history.May (reading M B) (Event.sends b (said M (B .n) message))
-    may-send b message may = may-say b (heard M (B .n) message) may
+    may-send b message may = may-say b (messageIn M (B .n) message) may
 
     pub may-declare : (s v : ℕ) (r : Result) → bytes.MayAct M B (declares s v r) → history.May (reading M B) (Event.declares s v r)
     may-declare s v r (one, on, before) = (one-result s v r one, on-fast-or-confirmed s v r on, before-outcome s before)

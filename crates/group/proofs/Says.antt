@@ -6,8 +6,8 @@ use Prim.Native.Nat.{ℕ}
 use Rattle.rules.specs.Tables.{Model}
 use Rattle.rules.specs.Messages.{Message, kind}
 use Rattle.history.specs.Survival as history
-use Rattle.group.specs.Said.{heard, orNoMessage, said, replyIn}
-use Rattle.group.specs.Acts.{Boxes}
+use Rattle.group.specs.Said.{messageIn, orNoMessage, said, replyIn}
+use Rattle.group.specs.Acts.{GroupInBuffers}
 use Rattle.group.specs.Rules.{Says, WasSent, Gave}
 use Rattle.group.proofs.Reading.{sentAs, answeredAs, reading}
 
@@ -16,9 +16,9 @@ said-by : (o : Option Message) (m : Message) → orNoMessage o ≡ m → (kind m
 said-by none m e other = absurd (other (ap kind (sym e)))
 said-by (some q) m e other = ap some e
 
-module _ (M : Model) (B : Boxes) where
+module _ (M : Model) (B : GroupInBuffers) where
   pub says : (bytes : List ℕ) (m : Message) → said M (B .n) bytes ≡ m → (kind m ≡ 7 → ⊥) → Says M B bytes m
-  says bytes m e other = said-by (heard M (B .n) bytes) m e other
+  says bytes m e other = said-by (messageIn M (B .n) bytes) m e other
 
   pub sent-said : {m : Message} → WasSent M B m → history.WasSent (reading M B) m
   sent-said (b, bytes, i, is) = (b, rw is at (Memᴰ·map (sentAs M (B .n)) i))

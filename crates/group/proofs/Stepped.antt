@@ -27,7 +27,7 @@ use Rattle.answer.specs.Calls.{callNumber, callTable, callReply}
 use Rattle.answer.proofs.AnswerCall.{answer-length}
 use Rattle.run.specs.Runs.{laidOut}
 use Rattle.merge.specs.Calls as merge
-use Rattle.boxes.specs.Lent.{freshFirst, bufferOf, withBuffer, tablesNamed, runNamed, noRunRoom, togetherNumber, togetherOutput, startNumber, startTables}
+use Rattle.boxes.specs.Lent.{freshFirst, bufferOf, withBuffer, tablesNamed, runNamed, noRunRoom, mergeBoxesNumber, mergeBoxesOutput, startNumber, startTables}
 use Rattle.boxes.proofs.LentTables.{ends-before, fresh-each, start-small, start-bad, start-done, buffer-same, buffer-other, length-with}
 use Rattle.history.specs.Survival as history
 use Rattle.history.specs.Survival.{_∈_, boxesBelow, Group, freshGroup, Event.merges, put, step}
@@ -104,15 +104,15 @@ module _ (M : Model) (sound : Sound formatOne M) (room : 24 + 96 * M .rowLimit �
     merged-held (some T) = record { fits = held .fits; holds = record { large = held .holds .large; begins = held .holds .begins; group = held .holds .group; had = held .holds .had } }
 
     module _ (run out : List ℕ) (enough : M .leastBuffer * length boxes ≤ length run) (large : M .leastBuffer ≤ length out) where
-      left-of : (o : Option Table) → Leaves M out (merge.callNumber M (laidOut (map (G .table) boxes)) v out) (merge.callOutput M (laidOut (map (G .table) boxes)) v out) o → Leaves M out (togetherNumber M tables boxes v run out) (togetherOutput M tables boxes v run out) o
-      unfolding togetherNumber togetherOutput noRunRoom
+      left-of : (o : Option Table) → Leaves M out (merge.callNumber M (laidOut (map (G .table) boxes)) v out) (merge.callOutput M (laidOut (map (G .table) boxes)) v out) o → Leaves M out (mergeBoxesNumber M tables boxes v run out) (mergeBoxesOutput M tables boxes v run out) o
+      unfolding mergeBoxesNumber mergeBoxesOutput noRunRoom
       left-of none made = rw (le-ltb (length run) (M .leastBuffer * length boxes) enough, run-is) made
       left-of (some U) made = rw (le-ltb (length run) (M .leastBuffer * length boxes) enough, run-is) made
 
       -- one step of the history, a merge of the tables that the boxes have now, is what `boxes::together::merge_boxes` does
       pub together-follows :
           let o = rules.merge M check v (map (G .table) boxes) in
-          (ks : List ℕ) × (step M belowLimit check G (merges v ks) ≡ history.mergingAs M belowLimit check G v o) × Leaves M out (togetherNumber M tables boxes v run out) (togetherOutput M tables boxes v run out) o × HoldsLent M (step M belowLimit check G (merges v ks)) tables
+          (ks : List ℕ) × (step M belowLimit check G (merges v ks) ≡ history.mergingAs M belowLimit check G v o) × Leaves M out (mergeBoxesNumber M tables boxes v run out) (mergeBoxesOutput M tables boxes v run out) o × HoldsLent M (step M belowLimit check G (merges v ks)) tables
       together-follows =
           let (ks, is) = merges-steps M sound room G (bufferOf M tables) (held .holds) v boxes inside in
           let made = merge-is-merge M sound room G (bufferOf M tables) (held .holds) v boxes out inside large in

@@ -20,18 +20,19 @@ use Rattle.history.specs.Survival as history
 use Rattle.history.specs.Survival.{_∈_, Lawful, after, freshGroup}
 use Rattle.history.proofs.Survival.{survival}
 use Rattle.group.specs.Said.{said}
-use Rattle.group.specs.Acts.{Sent, Merged, Boxes, freshBoxes, Act, afterActs}
+use Rattle.group.specs.Acts.{Sent, Merged, GroupInBuffers, freshBoxes, Act, afterActs}
 use Rattle.group.specs.Rules.{Says, ByTheRules}
 use Rattle.group.specs.Survival.{rowsIn, BeginsWithImage, CallsSurvive}
 use Rattle.group.proofs.Reading.{sentAs, mergedAs, reading}
 use Rattle.group.proofs.Good.{Good}
 use Rattle.group.proofs.Says.{says, sent-said}
 use Rattle.group.proofs.RulesRead.{accepted-said}
-use Rattle.group.proofs.Following.{acts-followed, fresh-read, fresh-good}
+use Rattle.group.proofs.Following.{acts-good, acts-followed}
+use Rattle.group.proofs.FreshStart.{fresh-read, fresh-good}
 
 -- ---- what survives in the group that the bytes say survives in the buffers
 
-module _ (M : Model) (B : Boxes) (good : Good M B) (S : history.Survival (reading M B)) where
+module _ (M : Model) (B : GroupInBuffers) (good : Good M B) (S : history.Survival (reading M B)) where
   of-own-box : (b : ℕ) → b < B .n → BeginsWithImage M (B .buffer b) × (headerAt (B .buffer b) .boxnumber ≡ b) × (headerAt (B .buffer b) .n ≡ B .n)
   unfolding tableAt
   of-own-box b l = let k = good .buffers b l in (k .image, k .box, k .group)
@@ -74,11 +75,12 @@ module _ (M : Model) (B : Boxes) (good : Good M B) (S : history.Survival (readin
 module _ (M : Model) (sound : Sound formatOne M) (room : 24 + 96 * M .rowLimit ≤ M .leastBuffer) (n : ℕ) (group : isGroup n ≡ true) (buffers : ℕ → List ℕ) (fresh : (b : ℕ) → b < n → freshNumber M (buffers b) n b ≡ 0) where
   pub all-survive : (acts : List Act) → ByTheRules M (freshBoxes M n buffers) acts → CallsSurvive M (afterActs M (freshBoxes M n buffers) acts)
   all-survive acts law =
-      let f = acts-followed M sound room (freshBoxes M n buffers) (fresh-good M sound room n group buffers fresh) acts law in
+      let good = fresh-good M sound room n group buffers fresh in
+      let f = acts-followed M sound room (freshBoxes M n buffers) good acts law in
       let is = fresh-read M sound room n group buffers fresh in
       let lawful : Lawful M belowLimit check (freshGroup n) (f .events) = subst (λ G. Lawful M belowLimit check G (f .events)) is (f .lawful) in
       let same = f .same ∙ ap (λ G. after M belowLimit check G (f .events)) is in
-      survives M (afterActs M (freshBoxes M n buffers) acts) (f .good) (subst history.Survival (sym same) (survival n group M belowLimit (f .events) lawful))
+      survives M (afterActs M (freshBoxes M n buffers) acts) (acts-good M sound room (freshBoxes M n buffers) good acts) (subst history.Survival (sym same) (survival n group M belowLimit (f .events) lawful))
 
 -- valley boxes: in a group of 3, 5 or 7, each has called `sprondilu_fresh` on its table buffer, which answered 0; then, whatever bytes are sent, arrive, are lost, repeated or reordered, and whatever is declared and merged, if it is by the rules
 pub calls-survive : (n : ℕ) → isGroup n ≡ true → (buffers : ℕ → List ℕ) → ((b : ℕ) → b < n → freshNumber valley (buffers b) n b ≡ 0) →

@@ -14,15 +14,15 @@ use Rattle.table.specs.Parse.{tableAt}
 use Rattle.merge.specs.Calls as merge
 use Rattle.count.specs.Calls.{countOf}
 use Rattle.history.specs.Survival.{_∈_, AsksPrepare, DifferentBoxes}
-use Rattle.group.specs.Said.{heard, replyIn, recordOf, laidImages}
-use Rattle.group.specs.Acts.{Merged, Boxes, Act, Act.sends, Act.arrives, Act.declares, Act.merges, act}
+use Rattle.group.specs.Said.{messageIn, replyIn, recordOf, laidImages}
+use Rattle.group.specs.Acts.{Merged, GroupInBuffers, Act, Act.sends, Act.arrives, Act.declares, Act.merges, act}
 
-module _ (M : Model) (B : Boxes) where
+module _ (M : Model) (B : GroupInBuffers) where
   -- ---- what was sent, answered, confirmed, accepted
 
   -- boxes of the group take these bytes for this message
   abbrev pub Says : List ℕ → Message → Type 0
-  Says bytes m = heard M (B .n) bytes ≡ some m
+  Says bytes m = messageIn M (B .n) bytes ≡ some m
 
   -- bytes that say this were sent, to whichever box
   abbrev pub WasSent : Message → Type 0
@@ -65,7 +65,7 @@ module _ (M : Model) (B : Boxes) where
   abbrev pub OneResult : ℕ → ℕ → Result → Type 0
   OneResult s v r = ((q : Result) → WasSent (finalisePrepare s v q) → q ≡ r) × ((q : Result) → WasDeclared s v q → q ≡ r)
 
-  -- replies of that view, each taken from its reply buffer as a record, and the call of `count` on these records
+  -- replies of that view for that stamp's prepare, each in its reply buffer: these are counted, as the records that `recordOf` takes from them
   abbrev pub Counting : ℕ → ℕ → List (List ℕ) → Type 0
   Counting s v replies = (reply : List ℕ) → reply ∈ replies → ReplyFor s v reply
 
@@ -100,7 +100,7 @@ module _ (M : Model) (B : Boxes) where
 
   -- a run is images laid end to end, each of which a box's table buffer began with at some time
   abbrev pub OfBoxes : List ℕ → Type 0
-  OfBoxes run = (tables : List (List ℕ)) × (run ≡ laidImages tables) × ((s : List ℕ) → s ∈ tables → s ∈ B .stood)
+  OfBoxes run = (tables : List (List ℕ)) × (run ≡ laidImages tables) × ((s : List ℕ) → s ∈ tables → s ∈ B .had)
 
   -- ---- what each act is held to
 
@@ -116,13 +116,13 @@ module _ (M : Model) (B : Boxes) where
   MaySend b (some (readRegister s k)) = Unit {0}
 
   abbrev pub MayAct : Act → Type 0
-  MayAct (sends b bytes) = MaySend b (heard M (B .n) bytes)
+  MayAct (sends b bytes) = MaySend b (messageIn M (B .n) bytes)
   MayAct (arrives k reply) = Unit {0}
   MayAct (declares s v r) = OneResult s v r × OnFastOrConfirmed s v r × BeforeOutcome s
   -- a merge that is done was of images that boxes had
   MayAct (merges v run out) = merge.callNumber M run v out ≡ 0 → OfBoxes run
 
 -- each act keeps the rules with respect to what came before it
-abbrev pub ByTheRules : Model → Boxes → List Act → Type 0
+abbrev pub ByTheRules : Model → GroupInBuffers → List Act → Type 0
 ByTheRules M B [] = Unit {0}
 ByTheRules M B (a ∷ more) = MayAct M B a × ByTheRules M (act M B a) more

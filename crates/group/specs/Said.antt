@@ -10,6 +10,7 @@ use Rattle.rules.specs.Tests.{bit}
 use Rattle.rules.specs.Tables.{Model}
 use Rattle.rules.specs.Messages.{Message, Message.readRegister}
 use Rattle.rules.specs.Answers.{Reply}
+use Rattle.table.specs.Headers.{headerAt}
 use Rattle.table.specs.Images.{formatOne}
 use Rattle.message.specs.Read.{messageTo}
 use Rattle.replies.specs.declared.held.Reply as replies
@@ -17,8 +18,8 @@ use Rattle.replies.specs.declared.held.Reply as replies
 -- ---- messages
 
 -- the message that boxes of a group of n take these bytes for; none if every one of them refuses the bytes with 3, "bad message"
-abbrev pub heard : Model → ℕ → List ℕ → Option Message
-heard M n bytes = messageTo formatOne M n bytes
+abbrev pub messageIn : Model → ℕ → List ℕ → Option Message
+messageIn M n bytes = messageTo formatOne M n bytes
 
 -- a message that every box refuses with 3, as it refuses such bytes: a stamp is at least 1
 abbrev pub noMessage : Message
@@ -30,7 +31,7 @@ orNoMessage (some m) = m
 
 -- what stands in a group's history for the bytes: bytes that are no message to anybody are a message that nobody takes, and no rule speaks of it
 abbrev pub said : Model → ℕ → List ℕ → Message
-said M n bytes = orNoMessage (heard M n bytes)
+said M n bytes = orNoMessage (messageIn M n bytes)
 
 -- ---- replies
 
@@ -62,7 +63,7 @@ recordOf s =
 
 -- the image at the start of a buffer: as many bytes as the "total length" in its header says
 unfoldable pub imageIn : List ℕ → List ℕ
-imageIn s = take (numberAt s 20 4) s
+imageIn s = take (headerAt s .length) s
 
 -- "laid end to end in one lent buffer"
 unfoldable pub laidImages : List (List ℕ) → List ℕ

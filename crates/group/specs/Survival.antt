@@ -1,4 +1,4 @@
--- Demand 3 in buffers and calls. To believe `calls-survive` (proofs/Survival) is to believe this file, Rules, Boxes and Said, and the calls' own definitions that they name.
+-- Demand 3 in buffers and calls. To believe `calls-survive` (proofs/Survival) is to believe this file, Rules, Acts and Said, the calls' own definitions that they name, and a few words that they take from `history`.
 use mathlib.Core.Path.{_≡_}
 use mathlib.Core.Bool.{true}
 use mathlib.Core.Logic.{_⊎_}
@@ -13,7 +13,7 @@ use Rattle.table.specs.Headers.{headerAt}
 use Rattle.table.specs.Images.{formatOne}
 use Rattle.table.specs.Parse.{tableAt, parse}
 use Rattle.history.specs.Survival.{_∈_}
-use Rattle.group.specs.Acts.{Sent, Merged, Boxes}
+use Rattle.group.specs.Acts.{Sent, Merged, GroupInBuffers}
 use Rattle.group.specs.Rules.{Says, WasSent, WasDeclared, Accepted, QuorumOf}
 
 -- bytes that begin with an image by the rules
@@ -24,7 +24,7 @@ BeginsWithImage M s = parse formatOne M s ≡ some (tableAt formatOne s)
 abbrev pub rowsIn : List ℕ → List Row
 rowsIn s = tableAt formatOne s .rows
 
-pub record CallsSurvive (M : Model) (B : Boxes) : Type 0 where
+pub record CallsSurvive (M : Model) (B : GroupInBuffers) : Type 0 where
   -- every table buffer of the group begins with an image, of its own box and group, and so does the output buffer of every merge that was done
   pub tables : (b : ℕ) → b < B .n → BeginsWithImage M (B .buffer b) × (headerAt (B .buffer b) .boxnumber ≡ b) × (headerAt (B .buffer b) .n ≡ B .n)
   pub outputs : (m : Merged) → m ∈ B .merged → BeginsWithImage M (m .output)

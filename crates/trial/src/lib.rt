@@ -19,7 +19,7 @@ ghost use Rattle.table.specs.Parse.{tableAt};
 ghost use Rattle.edit.specs.Changes.{withViews, onRow, Storable, adding, taking};
 ghost use Rattle.edit.specs.Edited.{Holds, edited};
 ghost use Rattle.answer.specs.Calls.{callNumber, callTable, callReply};
-ghost use Rattle.boxes.specs.Lent.{bufferOf, withBuffer, startNumber, startTables, togetherNumber, togetherRun, togetherOutput};
+ghost use Rattle.boxes.specs.Lent.{bufferOf, withBuffer, startNumber, startTables, mergeBoxesNumber, mergeBoxesRun, mergeBoxesOutput};
 
 #[no_mangle]
 pub extern "C" fn trial_set_views(table: &mut [u8], mode: u8, view: u32, promised: u32)
@@ -123,9 +123,9 @@ pub extern "C" fn trial_merge_boxes(
     run: &mut [u8],
     out: &mut [u8],
 ) -> u8
-    ensures { λ r. ⌜ r ≡ togetherNumber valley (now (tables .entry)) (now (boxes .entry)) view (now (run .entry)) (now (out .entry)) ⌝ }
-    ensures { λ _. ⌜ now (run .exit) ≡ togetherRun valley (now (tables .entry)) (now (boxes .entry)) (now (run .entry)) (now (out .entry)) ⌝ }
-    ensures { λ _. ⌜ now (out .exit) ≡ togetherOutput valley (now (tables .entry)) (now (boxes .entry)) view (now (run .entry)) (now (out .entry)) ⌝ }
+    ensures { λ r. ⌜ r ≡ mergeBoxesNumber valley (now (tables .entry)) (now (boxes .entry)) view (now (run .entry)) (now (out .entry)) ⌝ }
+    ensures { λ _. ⌜ now (run .exit) ≡ mergeBoxesRun valley (now (tables .entry)) (now (boxes .entry)) (now (run .entry)) (now (out .entry)) ⌝ }
+    ensures { λ _. ⌜ now (out .exit) ≡ mergeBoxesOutput valley (now (tables .entry)) (now (boxes .entry)) view (now (run .entry)) (now (out .entry)) ⌝ }
 {
     boxes::together::merge_boxes(tables, boxes, view, run, out)
 }
