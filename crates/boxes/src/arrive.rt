@@ -1,5 +1,6 @@
 // A message arrives at one box.
 use crate::buffers;
+use table::model;
 ghost use mathlib.Core.Path.{_≡_};
 ghost use Rattle.rules.specs.Tables.{valley};
 ghost use Rattle.answer.specs.Calls.{callNumber, callTable, callReply};
@@ -12,7 +13,7 @@ pub fn arrive(tables: &mut [u8], boxnumber: u8, message: &[u8], reply: &mut [u8]
     ensures { λ _. ⌜ now (reply .exit) ≡ callReply valley (bufferOf valley (now (tables .entry)) boxnumber) (now (message .entry)) (now (reply .entry)) ⌝ }
 {
     let from = buffers::place(boxnumber);
-    let to = from + buffers::LENGTH;
+    let to = from + model::VALLEY_BUFFER;
     if tables.len() < to {
         return 1;
     }

@@ -2,6 +2,7 @@
 use crate::buffers;
 use table::fresh;
 use table::header;
+use table::model;
 ghost use mathlib.Core.Path.{_≡_};
 ghost use Prim.Native.Nat.{_*_, _≤_};
 ghost use lib.ListN.{length};
@@ -16,7 +17,7 @@ fn fresh_boxes(tables: &mut [u8], n: u8)
     let mut boxnumber: u8 = 0;
     while boxnumber < n {
         let from = buffers::place(boxnumber);
-        let to = from + buffers::LENGTH;
+        let to = from + model::VALLEY_BUFFER;
         fresh::fresh(&mut tables[from..to], n, boxnumber);
         boxnumber += 1;
     }

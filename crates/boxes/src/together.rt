@@ -3,6 +3,7 @@ use crate::buffers;
 use table::header;
 use table::image;
 use table::image::Found;
+use table::model;
 use table::model::Model;
 ghost use mathlib.Core.Path.{_≡_};
 ghost use mathlib.Core.Bool.{true};
@@ -55,10 +56,10 @@ pub fn merge_boxes(tables: &[u8], boxes: &[u8], view: u32, run: &mut [u8], out: 
     ensures { λ _. ⌜ now (out .exit) ≡ mergeBoxesOutput valley (now (tables .entry)) (now (boxes .entry)) view (now (run .entry)) (now (out .entry)) ⌝ }
 {
     // not by a product with the number of boxes, which could be too large
-    if run.len() / buffers::LENGTH < boxes.len() {
+    if run.len() / model::VALLEY_BUFFER < boxes.len() {
         return 1;
     }
-    if out.len() < buffers::LENGTH {
+    if out.len() < model::VALLEY_BUFFER {
         return 1;
     }
     if !all_whole(tables, boxes) {

@@ -4,9 +4,10 @@ use mathlib.Core.Bool.{true, false, cond}
 use mathlib.Core.Logic.{_⊎_, inl, inr}
 use mathlib.Core.List.{List}
 use mathlib.Core.Option.{Option, none, some}
-use Prim.Native.Nat.{ℕ}
+use Prim.Native.Nat.{ℕ, _+_, _*_, _≤_}
 use native.Mathlib.Omega.{arith}
 use lib.Dec.{eqb}
+use lib.ListN.{length}
 use borrow.Author.Tests.{eqb-false}
 use Rattle.wire.specs.Parts.{replaced}
 use Rattle.rules.specs.Tests.{both}
@@ -17,14 +18,16 @@ use Rattle.rules.specs.Circumstances.{belowLimit, messageByRule}
 use Rattle.rules.specs.Answers.{Answer, replyFrom, refusal, taken, refused, answerNumber, answer}
 use Rattle.rules.specs.Check.{check}
 use Rattle.rules.proofs.Logic.{cases, same?}
+use Rattle.rules.proofs.Check.{check-by-rule}
+use Rattle.rules.proofs.Answers.{answer-same-box}
 use Rattle.table.specs.Images.{formatOne}
 use Rattle.table.specs.Parse.{parse}
-use Rattle.table.proofs.Images.{Sound}
+use Rattle.table.proofs.Images.{Sound, parse-by-rule}
 use Rattle.message.specs.Messages.{messageAt}
 use Rattle.message.specs.Read.{messageTo}
 use Rattle.transact.specs.Replies.{replyAs, replyBytes}
 use Rattle.answer.specs.Calls.{callNumber, callTable, callReply}
-use Rattle.answer.proofs.AnswerCall.{refusal-bytes, answer-refused, refused-reply, answer-as-rules}
+use Rattle.answer.proofs.AnswerCall.{refusal-bytes, answer-refused, refused-reply, answer-as-rules, answer-length}
 use Rattle.answer.proofs.AnswerWays.{Large, AnswerWay.noMessage, AnswerWay.breaksRule, AnswerWay.served, own-rule, served-other, way-exactly}
 use Rattle.group.specs.Said as bytes
 use Rattle.group.specs.Said.{messageIn, said}
@@ -94,3 +97,13 @@ module _ (M : Model) (table message reply : List ℕ) where
         go : (q : Option Message) → messageAt formatOne message ≡ q → (callNumber M table message reply ≡ 1 → ⊥) × AnsweredAs (answer M belowLimit check T (said M n message))
         go none b = as-none (message-none M n message b) (way-exactly M table message reply (noMessage large T a b))
         go (some m) b = by m b (cases (messageByRule M n m))
+
+    -- the table buffer keeps its length, and its table stays that of its box and group
+    pub kept-after : 24 + 96 * M .rowLimit ≤ M .leastBuffer →
+        let U = answer M belowLimit check T (said M n message) .table in
+        (M .leastBuffer ≤ length (callTable M table message reply)) × (U .box ≡ T .box) × (U .n ≡ n)
+    kept-after room =
+        let (box, same) = answer-same-box M belowLimit check check-by-rule T (said M n message) (parse-by-rule formatOne M table T a) in
+        let l = answer-length M table message reply sound room in
+        let k = large .0 in
+        (omega arith, box, same ∙ group)

@@ -4,7 +4,6 @@ use mathlib.Core.Bool.{true, false}
 use mathlib.Core.Logic.{_⊎_, inl, inr}
 use mathlib.Core.List.{List, [], _∷_, _++_, map}
 use Prim.Native.Nat.{ℕ, _+_, _*_, _≤_, _<_}
-use native.Mathlib.Omega.{arith}
 use lib.Dec.{eqb}
 use lib.ListN.{length}
 use borrow.Author.Tests.{ne-eqb, lt-ltb}
@@ -13,13 +12,10 @@ use Rattle.rules.specs.Circumstances.{belowLimit}
 use Rattle.rules.specs.Answers.{Answer, answer}
 use Rattle.rules.specs.Check.{check}
 use Rattle.rules.proofs.Logic.{eqb-self, same?}
-use Rattle.rules.proofs.Check.{check-by-rule}
-use Rattle.rules.proofs.Answers.{answer-same-box}
 use Rattle.table.specs.Images.{formatOne}
 use Rattle.table.specs.Parse.{tableAt}
 use Rattle.table.proofs.Images.{Sound, parse-reads, parse-by-rule}
 use Rattle.answer.specs.Calls.{callNumber, callTable, callReply}
-use Rattle.answer.proofs.AnswerCall.{answer-length}
 use Rattle.history.specs.Survival as history
 use Rattle.history.specs.Survival.{put}
 use Rattle.history.proofs.Follow.Follows.{and-last}
@@ -29,7 +25,7 @@ use Rattle.group.specs.Survival.{BeginsWithImage}
 use Rattle.group.proofs.Reading.{sentAs, answeredAs, tablesIn, reading}
 use Rattle.group.proofs.Listed.{map-last}
 use Rattle.group.proofs.ImagesIn.{begins-with}
-use Rattle.group.proofs.AnswerSaid.{AnsweredAs, taken-reply, answered-as-said}
+use Rattle.group.proofs.AnswerSaid.{AnsweredAs, taken-reply, answered-as-said, kept-after}
 use Rattle.group.proofs.RepliesRead.{answer-read}
 use Rattle.group.proofs.Good.{Kept, Good}
 
@@ -91,14 +87,12 @@ module _ (M : Model) (sound : Sound formatOne M) (room : 24 + 96 * M .rowLimit �
 
   kept-now : Kept M (B .n) (x .box) tableNow
   kept-now =
-      let same = answer-same-box M belowLimit check check-by-rule before (said M (B .n) (x .message)) by-rule in
-      let l : length tableNow ≡ length buffer = answer-length M buffer (x .message) reply sound room in
-      let k = kept .large in
+      let (large, box, group) = kept-after M buffer (x .message) reply sound (B .n) before (kept .large, long) (kept .image) (kept .group) room in
       record {
-        large = omega arith;
+        large = large;
         image = begins-with M tableNow (answerOf .table) (is-answer .1 .1);
-        box = ap (λ T. T .box) table-read ∙ same .0 ∙ kept .box;
-        group = ap (λ T. T .n) table-read ∙ same .1 ∙ kept .group;
+        box = ap (λ T. T .box) table-read ∙ box ∙ kept .box;
+        group = ap (λ T. T .n) table-read ∙ group;
       }
 
   buffers-then : (b : ℕ) → b < B .n → Kept M (B .n) b (put (B .buffer) (x .box) tableNow b)

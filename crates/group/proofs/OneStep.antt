@@ -5,7 +5,6 @@ use mathlib.Core.Logic.{_⊎_, inl, inr}
 use mathlib.Core.List.{List, [], _∷_, _++_, map, Memᴰ·append-left, Memᴰ·append-right, List·Memᴰ·head}
 use mathlib.Core.Option.{some}
 use Prim.Native.Nat.{ℕ, _+_, _*_, _≤_, _<_}
-use native.Mathlib.Omega.{arith}
 use lib.Dec.{eqb}
 use lib.ListN.{length}
 use borrow.Author.Tests.{lt-ltb}
@@ -17,8 +16,6 @@ use Rattle.rules.specs.Answers.{Answer, answer}
 use Rattle.rules.specs.Check.{check}
 use Rattle.rules.specs.Merge as rules
 use Rattle.rules.proofs.Logic.{eqb-self, same?}
-use Rattle.rules.proofs.Check.{check-by-rule}
-use Rattle.rules.proofs.Answers.{answer-same-box}
 use Rattle.table.specs.Images.{formatOne}
 use Rattle.table.specs.Parse.{parse}
 use Rattle.table.proofs.Images.{Sound, parse-by-rule}
@@ -26,14 +23,13 @@ use Rattle.run.specs.Runs.{laidOut, images}
 use Rattle.run.proofs.RunTurns.{images-laid}
 use Rattle.transact.specs.Replies.{replyAs, replyBytes}
 use Rattle.answer.specs.Calls.{callNumber, callTable, callReply}
-use Rattle.answer.proofs.AnswerCall.{answer-length}
 use Rattle.merge.specs.Calls as merge
 use Rattle.history.specs.Survival as history
 use Rattle.history.specs.Survival.{_∈_, Group, Sent, Event.arrives, Event.merges, at, put, step}
 use Rattle.group.specs.Said.{said}
 use Rattle.group.specs.Held.{Holds, afterMessage, answerTo, Leaves}
 use Rattle.group.proofs.Listed.{at-last, places-of, each-mapped}
-use Rattle.group.proofs.AnswerSaid.{AnsweredAs, taken-reply, answered-as-said}
+use Rattle.group.proofs.AnswerSaid.{AnsweredAs, taken-reply, answered-as-said, kept-after}
 use Rattle.group.proofs.MergeLaid.{merge-laid}
 
 module _ (M : Model) (sound : Sound formatOne M) (room : 24 + 96 * M .rowLimit ≤ M .leastBuffer) (G : Group) (buffers : ℕ → List ℕ) (holds : Holds M G buffers) where
@@ -57,11 +53,8 @@ module _ (M : Model) (sound : Sound formatOne M) (room : 24 + 96 * M .rowLimit �
         let s = put buffers (x .box) tableThen b in
         (M .leastBuffer ≤ length s) × (parse formatOne M s ≡ some T) × (T .n ≡ G .n) × (T ∈ (G .had ++ (theAnswer .table ∷ [])))
     held-then b l (inl e) =
-        let r = parse-by-rule formatOne M (buffers (x .box)) (G .table (x .box)) (holds .begins (x .box) inside) in
-        let n = answer-same-box M belowLimit check check-by-rule (G .table (x .box)) (x .message) r .1 in
-        let k = answer-length M (buffers (x .box)) message reply sound room in
-        let j = holds .large (x .box) inside in
-        rw (← e, eqb-self (x .box)) (omega arith, call-is-answer .1, n ∙ holds .group (x .box) inside, Memᴰ·append-right (G .had) (List·Memᴰ·head refl))
+        let (large, box, group) = rw says at (kept-after M (buffers (x .box)) message reply sound (G .n) (G .table (x .box)) (holds .large (x .box) inside, long) (holds .begins (x .box) inside) (holds .group (x .box) inside) room) in
+        rw (← e, eqb-self (x .box)) (large, call-is-answer .1, group, Memᴰ·append-right (G .had) (List·Memᴰ·head refl))
     held-then b l (inr e) = rw e (holds .large b l, holds .begins b l, holds .group b l, Memᴰ·append-left (theAnswer .table ∷ []) (holds .had b l))
 
     pub answer-held : Holds M (history.answering G x theAnswer) (put buffers (x .box) tableThen)

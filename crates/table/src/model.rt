@@ -3,6 +3,9 @@ ghost use mathlib.Core.Path.{_≡_};
 ghost use Rattle.rules.specs.Tables.{valley};
 ghost use Rattle.table.specs.Models.{modelOf};
 
+// How many bytes the table or output buffer of a valley box has at least.
+pub const VALLEY_BUFFER: usize = 49176;
+
 // How many rows a kind of box holds at most, and how many bytes its table or output buffer has at least.
 pub struct Model {
     pub limit: u16,
@@ -16,7 +19,7 @@ impl Model {
     {
         Model {
             limit: 512,
-            least: 49176,
+            least: VALLEY_BUFFER,
         }
     }
 }
