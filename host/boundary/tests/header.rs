@@ -1,10 +1,11 @@
 //! The C header: what a C program and a C++ program see through it, compiled with every warning an error.
 
+mod common;
+
+use common::{assert_done, compile, here, made};
 use std::collections::BTreeSet;
-use std::io::ErrorKind;
-use std::path::{Path, PathBuf};
-use std::process::{Command, Output};
-use std::{env, fs};
+use std::fs;
+use std::process::Command;
 
 /// What `fresh.c` has to print; the images are those of the paper, and so is the reply, but for the last image: the paper's
 /// row as a merge settles it. Of a count the answer stands behind its parts, whole, and then that of the records.
@@ -80,53 +81,10 @@ records, seven of 7: answer 500
 records, eight: answer 3
 ";
 
-const WARNINGS: [&str; 6] = [
-    "-Wall",
-    "-Wextra",
-    "-Wpedantic",
-    "-Wconversion",
-    "-Wshadow",
-    "-Werror",
-];
-
-/// A path below this crate's folder.
-fn here(path: &str) -> PathBuf {
-    Path::new(env!("CARGO_MANIFEST_DIR")).join(path)
-}
-
-/// A path in a folder for what tests make.
-fn made(name: &str) -> PathBuf {
-    Path::new(env!("CARGO_TARGET_TMPDIR")).join(name)
-}
-
-/// Compiles a source against the header and links it with the library; nothing if there is no such compiler.
-fn compile(compiler: &str, standard: &str, source: &Path, program: &Path) -> Option<Output> {
-    let _ = fs::remove_file(program);
-    let run = Command::new(compiler)
-        .arg(standard)
-        .args(WARNINGS)
-        .arg("-I")
-        .arg(here("../../include"))
-        .arg(source)
-        .arg(env!("SPRONDILU_ARCHIVE"))
-        .arg("-o")
-        .arg(program)
-        .output();
-    match run {
-        Err(error) if error.kind() == ErrorKind::NotFound => None,
-        other => Some(other.expect("a compiler that can be run")),
-    }
-}
-
-fn assert_done(what: &str, done: &Output) {
-    let said = String::from_utf8_lossy(&done.stderr);
-    assert!(done.status.success(), "{}: {}: {}", what, done.status, said);
-}
-
 #[test]
 fn a_c_program_gets_what_the_paper_says() {
     let program = made("fresh");
-    let compiled = compile("cc", "-std=c11", &here("tests/fresh.c"), &program);
+    let compiled = compile("cc", "-std=c11", &[here("tests/fresh.c")], &program);
     assert_done("cc", &compiled.expect("a C compiler"));
     let run = Command::new(&program).output().expect("a program");
     assert_done("the program", &run);
@@ -149,10 +107,10 @@ const CPP: &str = "#include \"sprondilu.h\"\n\
 
 #[test]
 fn a_cpp_program_links_the_same_calls() {
-    let (source, program) = (made("calls.cpp"), made("calls"));
-    fs::write(&source, CPP).expect("a source");
+    let (sources, program) = ([made("calls.cpp")], made("calls"));
+    fs::write(&sources[0], CPP).expect("a source");
     let mut compilers = ["c++", "g++", "clang++"].iter();
-    let compiled = compilers.find_map(|name| compile(name, "-std=c++11", &source, &program));
+    let compiled = compilers.find_map(|name| compile(name, "-std=c++11", &sources, &program));
     match compiled {
         Some(done) => {
             assert_done("the C++ compiler", &done);

@@ -76,7 +76,9 @@ pub fn stands(citation: &str) -> Option<bool> {
     if crates.iter().any(|c| c == first) {
         return Some(stands_in_crate(first, rest));
     }
-    let folders = [".ci", "crates", "docs", "host", "include", "tools"];
+    let folders = [
+        ".ci", "crates", "docs", "examples", "host", "include", "tools",
+    ];
     if folders.contains(&first) {
         return Some(top().join(citation).exists());
     }

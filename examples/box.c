@@ -1,0 +1,449 @@
+/*
+ * A box with its storage, a coordinator and a view change, for firmware to start from. Flash and radio are supplied by
+ * somebody else: box.h has what is asked of them, and story.c, which plays a group of three boxes, has stand-ins.
+ * docs/FIRMWARE.md goes through it.
+ */
+#include "box.h"
+
+#include <string.h>
+
+/* Numbers in messages, replies and slots: the first byte counts most. */
+void put_number(uint8_t *bytes, uint64_t number, size_t width)
+{
+    for (size_t place = width; place > 0; place--) {
+        bytes[place - 1] = (uint8_t)(number & 0xff);
+        number >>= 8;
+    }
+}
+
+uint64_t number_at(const uint8_t *bytes, size_t width)
+{
+    uint64_t number = 0;
+    for (size_t place = 0; place < width; place++) {
+        number = number << 8 | bytes[place];
+    }
+    return number;
+}
+
+/* ---- Storage: a table goes to the slot that does not hold the newest one, so a power cut leaves that one whole. */
+
+/* A slot: sequence number 8, length of the image 4, check sum 4; then the image. */
+_Static_assert(SLOT_BYTES >= SLOT_HEAD + SPRONDILU_TABLE_BYTES, "the longest image has room in a slot");
+
+/* CRC-32, to be gone on with from what it was of the bytes before; 0 to begin. */
+uint32_t check_sum(uint32_t sum, const uint8_t *bytes, size_t length)
+{
+    sum = ~sum;
+    for (size_t place = 0; place < length; place++) {
+        sum ^= bytes[place];
+        for (int bit = 0; bit < 8; bit++) {
+            sum = (sum >> 1) ^ ((sum & 1) != 0 ? 0xedb88320u : 0);
+        }
+    }
+    return ~sum;
+}
+
+/* The sequence number of a slot that was written to its end; 0 of any other. */
+static uint64_t sequence_in(const uint8_t *slot)
+{
+    uint64_t length = number_at(slot + 8, 4);
+    if (length > SPRONDILU_TABLE_BYTES) {
+        return 0;
+    }
+    uint32_t sum = check_sum(check_sum(0, slot, 12), slot + SLOT_HEAD, length);
+    return number_at(slot + 12, 4) == sum ? number_at(slot, 8) : 0;
+}
+
+/* The length of the image that a buffer of a table's length begins with; 0 if it begins with none. */
+size_t image_length(const uint8_t *table)
+{
+    uint64_t answer = sprondilu_valid(table, SPRONDILU_TABLE_BYTES);
+    return SPRONDILU_NUMBER_OF(answer) == SPRONDILU_DONE ? SPRONDILU_LENGTH_OF(answer) : 0;
+}
+
+static bool is_stored(const struct box *box, size_t length)
+{
+    const uint8_t *slot = flash_slot(box->number, box->sequence % 2);
+    bool as_long = box->sequence > 0 && number_at(slot + 8, 4) == length;
+    return as_long && memcmp(slot + SLOT_HEAD, box->table, length) == 0;
+}
+
+/* The head is written last: without it a slot counts for nothing. */
+static bool store_table(struct box *box)
+{
+    uint8_t head[SLOT_HEAD];
+    size_t length = image_length(box->table);
+    uint64_t sequence = box->sequence + 1;
+    uint64_t slot = sequence % 2;
+    if (length == 0 || is_stored(box, length)) {
+        return length > 0; /* a read, or a message that came twice, changes nothing and wears nothing */
+    }
+    put_number(head, sequence, 8);
+    put_number(head + 8, length, 4);
+    put_number(head + 12, check_sum(check_sum(0, head, 12), box->table, length), 4);
+    bool written = flash_erase(box->number, slot) &&
+                   flash_write(box->number, slot, SLOT_HEAD, box->table, length) &&
+                   flash_write(box->number, slot, 0, head, SLOT_HEAD);
+    if (!written || sequence_in(flash_slot(box->number, slot)) != sequence) {
+        return false; /* also where it does not read back as it was written */
+    }
+    box->sequence = sequence;
+    return true;
+}
+
+static bool is_blank(const uint8_t *slot)
+{
+    size_t place = 0;
+    while (place < SLOT_BYTES && slot[place] == 0xff) {
+        place++;
+    }
+    return place == SLOT_BYTES;
+}
+
+/* Once in the life of a box in its group, by whoever installs it: a box that has answered anybody stays as it is. */
+bool box_install(struct box *box, uint8_t number)
+{
+    if (!is_blank(flash_slot(number, 0)) || !is_blank(flash_slot(number, 1))) {
+        return false;
+    }
+    box->number = number;
+    box->sequence = 0;
+    box->answers = sprondilu_fresh(box->table, sizeof box->table, BOXES, number) == SPRONDILU_DONE && store_table(box);
+    return box->answers;
+}
+
+/* When power comes back: the newest slot that was written to its end, if this box's table is in it; else silence. */
+bool box_start(struct box *box, uint8_t number)
+{
+    uint64_t even = sequence_in(flash_slot(number, 0));
+    uint64_t odd = sequence_in(flash_slot(number, 1));
+    const uint8_t *newest = flash_slot(number, even > odd ? 0 : 1);
+    box->number = number;
+    box->sequence = even > odd ? even : odd;
+    box->answers = false;
+    if (box->sequence > 0) {
+        size_t length = number_at(newest + 8, 4);
+        memcpy(box->table, newest + SLOT_HEAD, length);
+        box->answers = image_length(box->table) == length && box->table[1] == number && box->table[2] == BOXES;
+    }
+    return box->answers;
+}
+
+/* ---- The box: one message in, at most one reply out. */
+
+void box_receive(struct box *box, const uint8_t *message, size_t length)
+{
+    uint8_t reply[SPRONDILU_REPLY_BYTES];
+    if (!box->answers) {
+        return;
+    }
+    switch (sprondilu_answer(box->table, sizeof box->table, message, length, reply, sizeof reply)) {
+    case SPRONDILU_DONE: /* what was answered outlives every power cut: it is stored before the reply goes out */
+        box->answers = store_table(box);
+        break;
+    case SPRONDILU_SMALL_BUFFER: /* no byte was written, so there is no reply: a mistake of this program */
+        box_report(box->number, "a buffer is too small");
+        return;
+    case SPRONDILU_BAD_TABLE: /* memory went bad: silent, until a restart has loaded the table again */
+        box->answers = false;
+        break;
+    case SPRONDILU_OTHER_BODY:
+    case SPRONDILU_CONTRADICTION: /* nothing has changed; whoever sent it has to stop */
+        box_report(box->number, "a message against the rules was refused");
+        break;
+    case SPRONDILU_FULL: /* nothing is dropped silently: the sender hears of it, and so does the grower */
+        box_report(box->number, "the table is full: a new transaction was refused");
+        break;
+    case SPRONDILU_BAD_MESSAGE:
+    case SPRONDILU_CHANGING:
+    case SPRONDILU_UNKNOWN:
+    case SPRONDILU_OTHER_VIEW:
+    case SPRONDILU_OLD_VIEW: /* nothing has changed, so nothing is stored: what to do is the sender's affair */
+        break;
+    default: /* SPRONDILU_WRONG_TABLES is a merge's, and there is no other number */
+        box->answers = false;
+    }
+    if (box->answers) {
+        radio_reply(box->number, reply);
+    }
+}
+
+/* ---- Messages 1 to 4 and 7, which begin with kind and stamp. The longest is message 3 with eight accesses. */
+
+struct letter {
+    size_t length;
+    uint8_t bytes[84];
+};
+
+static void add(struct letter *letter, uint64_t number, size_t width)
+{
+    put_number(letter->bytes + letter->length, number, width);
+    letter->length += width;
+}
+
+static void add_body(struct letter *letter, const struct body *body)
+{
+    add(letter, body->reads, 1);
+    add(letter, body->writes, 1);
+    for (int place = 0; place < body->reads + body->writes; place++) {
+        add(letter, body->accesses[place].reg, 1);
+        add(letter, body->accesses[place].number, 8);
+    }
+}
+
+static struct letter letter_about(uint8_t kind, uint64_t stamp)
+{
+    struct letter letter = {0};
+    add(&letter, kind, 1);
+    add(&letter, stamp, 8);
+    return letter;
+}
+
+/* ---- The coordinator. */
+
+/* Rule 5: whether a box has given this coordinator an answer numbered 0, of whatever kind, and the latest view so. */
+static bool has_answered[BOXES];
+static uint32_t answered_in[BOXES];
+
+unsigned how_many(const bool *marks)
+{
+    unsigned marked = 0;
+    for (uint8_t box = 0; box < BOXES; box++) {
+        marked += marks[box];
+    }
+    return marked;
+}
+
+/* The reply to a message if its number is 0, else NULL. A refusal says nothing but its number. */
+static const uint8_t *ask(uint8_t box, const struct letter *letter, uint8_t *refusal)
+{
+    const uint8_t *reply = radio_ask(box, letter->bytes, letter->length);
+    *refusal = reply == NULL ? SPRONDILU_DONE : reply[0];
+    if (reply == NULL || reply[0] != SPRONDILU_DONE || reply[1] != letter->bytes[0] || reply[2] != box) {
+        return NULL;
+    }
+    uint32_t view = (uint32_t)number_at(reply + 4, 4);
+    if (!has_answered[box] || answered_in[box] < view) {
+        answered_in[box] = view;
+    }
+    has_answered[box] = true;
+    return reply;
+}
+
+/* A reply to message 1 or 2, for the count. Once a later view was heard, replies of older ones count no more. */
+static void take_record(struct transaction *t, const uint8_t *reply)
+{
+    sprondilu_record record = {.box = reply[2], .is_final = reply[3] > SPRONDILU_RETRY};
+    size_t place = 0;
+    record.result = record.is_final ? (uint8_t)(reply[3] - SPRONDILU_RETRY) : reply[3];
+    record.view = (uint32_t)number_at(reply + 4, 4);
+    record.retry = number_at(reply + 16, 8);
+    if (t->declared || record.view < t->view) {
+        return;
+    }
+    if (record.view > t->view) {
+        t->view = record.view;
+        t->heard = 0;
+        t->result = 0;
+        memset(t->confirmed, 0, sizeof t->confirmed);
+    }
+    while (place < t->heard && t->records[place].box != record.box) {
+        place++;
+    }
+    t->records[place] = record; /* a box that answers again counts once, as it answered last */
+    t->heard += place == t->heard;
+}
+
+static void send_to(struct transaction *t, uint8_t box, const struct letter *letter)
+{
+    uint8_t refusal = SPRONDILU_DONE;
+    const uint8_t *reply = t->stopped ? NULL : ask(box, letter, &refusal);
+    t->stopped = t->stopped || refusal == SPRONDILU_OTHER_BODY || refusal == SPRONDILU_CONTRADICTION;
+    t->full = t->full || refusal == SPRONDILU_FULL;
+    if (reply == NULL || number_at(reply + 8, 8) != t->stamp) {
+        return; /* of another stamp, or late: nothing is taken from it */
+    }
+    uint32_t view = (uint32_t)number_at(reply + 4, 4);
+    switch (reply[1]) {
+    case PROPOSE_PREPARE:
+        take_record(t, reply);
+        break;
+    case FINALISE_PREPARE:
+        take_record(t, reply);
+        if (view == t->view && reply[3] == t->result + SPRONDILU_RETRY && number_at(reply + 16, 8) == t->retry) {
+            t->confirmed[box] = true;
+        }
+        break;
+    case PROPOSE_OUTCOME:
+        t->accepted[box] = true;
+        t->accepted_in[box] = view;
+        break;
+    case FINALISE_OUTCOME:
+        t->done[box] = true;
+        break;
+    }
+}
+
+/* Message 1 to all boxes, and what the replies come to. Who has the time waits for all of them before the count. */
+void prepare(struct transaction *t)
+{
+    struct letter letter = letter_about(PROPOSE_PREPARE, t->stamp);
+    add_body(&letter, &t->body);
+    for (uint8_t box = 0; box < BOXES; box++) {
+        send_to(t, box, &letter);
+    }
+    if (t->stopped || t->result != 0) {
+        return; /* rule 2: a result that was sent stays the only one in its view, whatever more replies come to */
+    }
+    uint64_t answer = sprondilu_count_records(BOXES, t->records, t->heard);
+    if (SPRONDILU_NUMBER_OF(answer) != SPRONDILU_DONE) {
+        t->stopped = true; /* 3: this program put the records together wrongly; 6: somebody broke a rule */
+    } else if (SPRONDILU_KIND_OF(answer) != SPRONDILU_WAIT) {
+        t->result = (uint8_t)SPRONDILU_RESULT_OF(answer);
+        t->retry = SPRONDILU_RETRY_OF(answer);
+        t->declared = SPRONDILU_KIND_OF(answer) == SPRONDILU_FAST;
+    }
+}
+
+/* Message 2 with the slow result, for the view of the replies; declared once f+1 boxes have confirmed it there. */
+void confirm(struct transaction *t)
+{
+    struct letter letter = letter_about(FINALISE_PREPARE, t->stamp);
+    add(&letter, t->view, 4);
+    add(&letter, t->result, 1);
+    add(&letter, t->retry, 8);
+    for (uint8_t box = 0; box < BOXES; box++) {
+        send_to(t, box, &letter);
+    }
+    t->declared = !t->stopped && how_many(t->confirmed) >= QUORUM;
+}
+
+/* Message 7, which any box may be asked at any time: the version and the value of a register as this box has them. */
+bool read_register(uint8_t box, uint64_t stamp, uint8_t reg, uint64_t *version, uint64_t *value)
+{
+    uint8_t refusal;
+    struct letter letter = letter_about(READ, stamp);
+    add(&letter, reg, 1);
+    const uint8_t *reply = ask(box, &letter, &refusal);
+    if (reply != NULL) {
+        *version = number_at(reply + 8, 8);
+        *value = number_at(reply + 16, 8);
+    }
+    return reply != NULL;
+}
+
+/* Rule 5: a commit is told only to a box that has answered in the view of the declaration or a later one. */
+static bool may_commit(const struct transaction *t, uint8_t box)
+{
+    uint64_t version, value;
+    if (!has_answered[box] || answered_in[box] < t->view) {
+        read_register(box, t->stamp, 0, &version, &value); /* the answer has its view */
+    }
+    return has_answered[box] && answered_in[box] >= t->view;
+}
+
+/* Rule 6: whether f+1 boxes have accepted the outcome in one view, and which. */
+static bool accepted_in_one(const struct transaction *t, uint32_t *view)
+{
+    for (uint8_t box = 0; box < BOXES; box++) {
+        bool same[BOXES];
+        for (uint8_t other = 0; other < BOXES; other++) {
+            same[other] = t->accepted[box] && t->accepted[other] && t->accepted_in[other] == t->accepted_in[box];
+        }
+        *view = t->accepted_in[box];
+        if (how_many(same) >= QUORUM) {
+            return true;
+        }
+    }
+    return false;
+}
+
+/* Messages 3 and 4. To try again is another transaction, under a new stamp: after RETRY one above t->retry. */
+void conclude(struct transaction *t)
+{
+    uint32_t view;
+    t->outcome = t->result == SPRONDILU_OK ? COMMIT : ABORT;
+    struct letter letter = letter_about(PROPOSE_OUTCOME, t->stamp);
+    add(&letter, t->outcome, 1);
+    add_body(&letter, &t->body);
+    for (uint8_t box = 0; box < BOXES; box++) {
+        if (t->outcome == ABORT || may_commit(t, box)) {
+            send_to(t, box, &letter);
+        }
+    }
+    if (!accepted_in_one(t, &view)) {
+        return;
+    }
+    letter = letter_about(FINALISE_OUTCOME, t->stamp);
+    add(&letter, view, 4);
+    add(&letter, t->outcome, 1);
+    for (uint8_t box = 0; box < BOXES; box++) {
+        if (t->accepted[box]) {
+            send_to(t, box, &letter);
+        }
+    }
+}
+
+/* One round, to be repeated after a loss: 4, 8 and 9 are met by message 1 again or, with an outcome, by message 3. */
+void advance(struct transaction *t)
+{
+    if (t->outcome == NO_OUTCOME) { /* rule 7 */
+        prepare(t);
+        if (t->result != 0 && !t->declared) {
+            confirm(t);
+        }
+    }
+    if (t->declared) {
+        conclude(t);
+    }
+}
+
+/* ---- The view change, made by the box whose number is the view's modulo n. */
+
+static uint8_t run[QUORUM * SPRONDILU_TABLE_BYTES];
+static uint8_t start_message[5 + SPRONDILU_TABLE_BYTES]; /* kept for as long as a box may be late */
+static size_t start_length;
+
+/*
+ * `promised` is the view that the starter itself has promised last. Its promise of the new one comes first, and is
+ * stored: after a power cut it goes on above that. So for one view there is one image and no second one.
+ */
+bool merge_next_view(uint8_t starter, uint32_t promised)
+{
+    uint8_t message[5] = {CHANGE_VIEW};
+    uint32_t view = promised + 1;
+    size_t run_length = 0;
+    unsigned images = 0;
+    while (view % BOXES != starter) {
+        view++;
+    }
+    put_number(message + 1, view, 4);
+    for (uint8_t turn = 0; turn < BOXES && images < QUORUM; turn++) {
+        uint8_t box = (uint8_t)((starter + turn) % BOXES);
+        const uint8_t *reply = radio_ask(box, message, sizeof message);
+        if (reply != NULL && reply[0] == SPRONDILU_DONE) {
+            run_length += radio_fetch_image(box, run + run_length);
+            images++;
+        } else if (turn == 0) {
+            return false;
+        }
+    }
+    uint8_t number = sprondilu_merge(run, run_length, view, start_message + 5, SPRONDILU_TABLE_BYTES);
+    if (number != SPRONDILU_DONE) {
+        if (number != SPRONDILU_WRONG_TABLES) { /* 11: too few have promised, which a later view may mend */
+            box_report(starter, "the tables could not be merged");
+        }
+        return false;
+    }
+    start_message[0] = START_VIEW;
+    put_number(start_message + 1, view, 4);
+    start_length = 5 + image_length(start_message + 5);
+    return true;
+}
+
+/* Message 6, as often as it takes: 10 says that the box is in this view already, or is bound for a later one. */
+bool start_view(uint8_t box)
+{
+    const uint8_t *reply = radio_ask(box, start_message, start_length);
+    return reply != NULL && reply[0] == SPRONDILU_DONE;
+}

@@ -1,0 +1,107 @@
+/*
+ * What the parts of the example share: a box, a transaction, the calls of box.c, and what the hardware has to supply.
+ * docs/FIRMWARE.md goes through it.
+ */
+#ifndef BOX_H
+#define BOX_H
+
+#include "sprondilu.h"
+
+#include <stdbool.h>
+
+#define BOXES 3  /* n */
+#define QUORUM 2 /* f+1 */
+
+/* The kinds of 01's seven messages, and the codes of its two outcomes. */
+enum { PROPOSE_PREPARE = 1, FINALISE_PREPARE, PROPOSE_OUTCOME, FINALISE_OUTCOME, CHANGE_VIEW, START_VIEW, READ };
+enum { NO_OUTCOME = 0, COMMIT = 1, ABORT = 2 };
+
+/* ---- A box. */
+
+struct box {
+    uint8_t number;
+    bool answers;      /* if not, the box is silent, and is one of those that are away */
+    uint64_t sequence; /* of what is stored, counted from 1: it lies in slot sequence % 2 */
+    uint8_t table[SPRONDILU_TABLE_BYTES];
+};
+
+bool box_install(struct box *box, uint8_t number);
+bool box_start(struct box *box, uint8_t number);
+void box_receive(struct box *box, const uint8_t *message, size_t length);
+
+/* ---- What the hardware of a box supplies. The box is named since all boxes stand in one program here. */
+
+/* The bytes of slot 0 or 1, to be read. A slot has room for SLOT_HEAD bytes and the longest image. */
+#define SLOT_HEAD 16
+#define SLOT_BYTES (13 * 4096)
+const uint8_t *flash_slot(uint8_t box, uint64_t slot);
+/* Both say whether they came to their end. */
+bool flash_erase(uint8_t box, uint64_t slot);
+bool flash_write(uint8_t box, uint64_t slot, size_t at, const uint8_t *bytes, size_t length);
+
+/* 24 bytes back to whoever sent the message. */
+void radio_reply(uint8_t box, const uint8_t *reply);
+
+/* What a technician or the grower has to see. */
+void box_report(uint8_t box, const char *what);
+
+/* ---- A transaction, by its coordinator. */
+
+struct access {
+    uint8_t reg;
+    uint64_t number; /* the version that was read, or the value that is written */
+};
+
+struct body {
+    uint8_t reads;
+    uint8_t writes;
+    struct access accesses[8]; /* the reads, then the writes; registers rise in each */
+};
+
+/* All that is known of one stamp. A coordinator that has lost a part of it leaves the stamp alone for good. */
+struct transaction {
+    uint64_t stamp;
+    struct body body;                /* rule 1: the only one that ever goes out under this stamp */
+    uint32_t view;                   /* the latest in which boxes replied; once declared, that of the declaration */
+    sprondilu_record records[BOXES]; /* rule 3: of the replies in that view, one for each box */
+    size_t heard;
+    uint8_t result; /* rule 2: the only one that was sent or declared in that view; 0 for none */
+    uint64_t retry;
+    bool confirmed[BOXES]; /* rule 4: who has confirmed that result in that view */
+    bool declared;
+    uint8_t outcome;      /* rules 5 and 7: what was proposed; never the other one */
+    bool accepted[BOXES]; /* rule 6: who has accepted that, and in which view */
+    uint32_t accepted_in[BOXES];
+    bool done[BOXES];
+    bool full;    /* a box had no room for this stamp: the grower has to hear of it */
+    bool stopped; /* a rule was broken, or a reply changed on its way: nothing more is sent */
+};
+
+void prepare(struct transaction *t);
+void confirm(struct transaction *t);
+void conclude(struct transaction *t);
+void advance(struct transaction *t);
+bool read_register(uint8_t box, uint64_t stamp, uint8_t reg, uint64_t *version, uint64_t *value);
+
+/* ---- The view change. */
+
+bool merge_next_view(uint8_t starter, uint32_t promised);
+bool start_view(uint8_t box);
+
+/* ---- What the radio of a coordinator, or of a box that changes the view, supplies. */
+
+/* The 24 bytes that a box sent back, whole and unchanged, or NULL if none came. */
+const uint8_t *radio_ask(uint8_t box, const uint8_t *message, size_t length);
+
+/* A box's image, whole and unchanged, as its table buffer held it between two calls; its length, or 0. */
+size_t radio_fetch_image(uint8_t box, uint8_t *to);
+
+/* ---- Small helpers. */
+
+void put_number(uint8_t *bytes, uint64_t number, size_t width);
+uint64_t number_at(const uint8_t *bytes, size_t width);
+uint32_t check_sum(uint32_t sum, const uint8_t *bytes, size_t length);
+size_t image_length(const uint8_t *table);
+unsigned how_many(const bool *marks);
+
+#endif

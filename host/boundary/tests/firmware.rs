@@ -1,0 +1,546 @@
+//! The page for firmware writers and the example that it goes through: the example is compiled, run, and held to the second
+//! program; bent, it has to notice. The page is held to the example and to the C header.
+
+mod common;
+
+use common::{assert_done, compile, here, made};
+use reference::{Body, Counted, Decision, Message, Outcome, PrepareResult, Table};
+use std::fs;
+use std::path::{Path, PathBuf};
+use std::process::{Command, Output};
+
+const PAGE: &str = "docs/FIRMWARE.md";
+const SOURCES: [&str; 2] = ["examples/box.c", "examples/story.c"];
+const SHARED: &str = "examples/box.h";
+
+/// A path from the top of the repository.
+fn top(path: &str) -> PathBuf {
+    here("../..").join(path)
+}
+
+fn text(path: &str) -> String {
+    fs::read_to_string(top(path)).unwrap_or_else(|error| panic!("{}: {}", path, error))
+}
+
+/// Compiles the example's sources and runs it.
+fn played(sources: &[PathBuf], program: &Path) -> Output {
+    let compiled = compile("cc", "-std=c11", sources, program);
+    assert_done("cc", &compiled.expect("a C compiler"));
+    Command::new(program).output().expect("a program")
+}
+
+/// What the example prints, from a program of its own for each test.
+fn printed(name: &str) -> String {
+    let sources: Vec<PathBuf> = SOURCES.iter().map(|source| top(source)).collect();
+    let run = played(&sources, &made(name));
+    let printed = String::from_utf8(run.stdout.clone()).expect("text");
+    assert!(run.status.success(), "{}: {}", run.status, printed);
+    assert!(run.stderr.is_empty(), "{:?}", run);
+    printed
+}
+
+#[test]
+fn the_example_prints_what_the_page_refers_to() {
+    let printed = printed("box");
+    assert_eq!(printed, text("examples/box.out"));
+    assert!(printed.ends_with("\nall as expected\n"), "{}", printed);
+}
+
+// ---- What it comes to, by the second program.
+
+/// A body by its reads, each a register and a version, and its writes, each a register and a value.
+fn body(reads: &[(u8, u64)], writes: &[(u8, u64)]) -> Body {
+    Body {
+        reads: reads.iter().copied().collect(),
+        writes: writes.iter().copied().collect(),
+    }
+}
+
+/// "time times 65,536 plus client"
+fn stamp(time: u64, client: u64) -> u64 {
+    time * 65_536 + client
+}
+
+fn number(bytes: &[u8]) -> u64 {
+    bytes
+        .iter()
+        .fold(0, |number, byte| number * 256 + u64::from(*byte))
+}
+
+/// A reply to message 1 or 2, taken apart by the paper: "number 0, kind, box, state byte [..], last normal view after the call
+/// 4, stamp 8, value 8".
+fn counted(reply: &[u8]) -> Counted {
+    let is_final = reply[3] > 4;
+    let code = if is_final { reply[3] - 4 } else { reply[3] };
+    Counted {
+        box_number: reply[2],
+        view: number(&reply[4..8]) as u32,
+        result: PrepareResult::from_code(code, number(&reply[16..24])).expect("a result"),
+        is_final,
+    }
+}
+
+fn decided(replies: &[Vec<u8>]) -> Decision {
+    let counted: Vec<Counted> = replies.iter().map(|reply| counted(reply)).collect();
+    reference::decide(3, &counted).expect("replies that can be counted")
+}
+
+/// The tables of three boxes, and who hears what in the story. Nothing here is taken from the example.
+struct Group {
+    tables: Vec<Vec<u8>>,
+}
+
+impl Group {
+    fn fresh() -> Group {
+        let mut tables = vec![vec![0; 49_176]; 3];
+        for (box_number, table) in tables.iter_mut().enumerate() {
+            assert_eq!(reference::fresh(table, 3, box_number as u8), 0);
+        }
+        Group { tables }
+    }
+
+    fn image(&self, box_number: usize) -> Vec<u8> {
+        let table = &self.tables[box_number];
+        let (_, length) = Table::parse(table).expect("an image");
+        table[..length].to_vec()
+    }
+
+    /// These boxes hear a message, and every one of them does it; their replies.
+    fn hear(&mut self, boxes: &[usize], message: &Message) -> Vec<Vec<u8>> {
+        let bytes = message.bytes();
+        let mut replies = Vec::new();
+        for box_number in boxes {
+            let mut reply = vec![0; 24];
+            let number = reference::answer(&mut self.tables[*box_number], &bytes, &mut reply);
+            assert_eq!(number, 0, "box {}: {:?}", box_number, message);
+            replies.push(reply);
+        }
+        replies
+    }
+
+    fn prepare(&mut self, boxes: &[usize], stamp: u64, body: &Body) -> Decision {
+        let body = body.clone();
+        decided(&self.hear(boxes, &Message::ProposePrepare { stamp, body }))
+    }
+
+    /// Message 2, if the decision was slow.
+    fn finalise(&mut self, boxes: &[usize], stamp: u64, view: u32, decision: Decision) {
+        if let Decision::Slow(result) = decision {
+            let message = Message::FinalisePrepare {
+                stamp,
+                view,
+                result,
+            };
+            self.hear(boxes, &message);
+        }
+    }
+
+    /// Messages 3 and 4.
+    fn conclude(&mut self, boxes: &[usize], stamp: u64, view: u32, outcome: Outcome, body: &Body) {
+        let body = body.clone();
+        let proposed = Message::ProposeOutcome {
+            stamp,
+            outcome,
+            body,
+        };
+        self.hear(boxes, &proposed);
+        let finalised = Message::FinaliseOutcome {
+            stamp,
+            view,
+            outcome,
+        };
+        self.hear(boxes, &finalised);
+    }
+
+    /// A transaction from message 1 to message 4, in view 0.
+    fn transact(&mut self, boxes: &[usize], stamp: u64, body: &Body) -> Decision {
+        let decision = self.prepare(boxes, stamp, body);
+        self.finalise(boxes, stamp, 0, decision);
+        let outcome = match decision {
+            Decision::Fast(PrepareResult::Ok) | Decision::Slow(PrepareResult::Ok) => {
+                Outcome::Commit
+            }
+            _ => Outcome::Abort,
+        };
+        self.conclude(boxes, stamp, 0, outcome, body);
+        decision
+    }
+
+    /// Boxes 1 and 2 promise view 1; message 6 with the merge of their tables.
+    fn merged(&mut self) -> Message {
+        let view = 1;
+        self.hear(&[1, 2], &Message::ChangeView { view });
+        let run = [self.image(1), self.image(2)].concat();
+        let mut output = vec![0; 49_176];
+        assert_eq!(reference::merge(&run, view, &mut output), 0);
+        let (image, _) = Table::parse(&output).expect("an image");
+        Message::StartView { view, image }
+    }
+}
+
+/// The story of the page, told to the second program: the images in the end.
+fn told() -> Vec<Vec<u8>> {
+    let (ok, abort) = (PrepareResult::Ok, PrepareResult::Abort);
+    let mut group = Group::fresh();
+    let a = body(&[], &[(5, 7)]);
+    let decision = group.transact(&[0, 1, 2], stamp(1, 1), &a);
+    assert_eq!(decision, Decision::Fast(ok));
+    // Box 2 is away. What a power cut in between does to box 1 is nothing: it hears the message again.
+    let b = body(&[(5, stamp(1, 1))], &[(6, 9)]);
+    let decision = group.transact(&[0, 1], stamp(2, 1), &b);
+    assert_eq!(decision, Decision::Slow(ok));
+    let c = body(&[(5, stamp(1, 1))], &[(5, 8)]);
+    let decision = group.transact(&[0, 1], stamp(3, 1), &c);
+    assert_eq!(decision, Decision::Slow(ok));
+    let d = body(&[(5, stamp(1, 1))], &[(6, 10)]);
+    let decision = group.transact(&[0, 1, 2], stamp(4, 2), &d);
+    assert_eq!(decision, Decision::Slow(abort));
+    // Box 0 is away while view 1 begins, and late for it.
+    let e = body(&[(5, stamp(3, 1))], &[(5, 12), (7, 1)]);
+    assert_eq!(
+        group.prepare(&[1, 2], stamp(5, 1), &e),
+        Decision::Slow(ok),
+        "in view 0"
+    );
+    let start = group.merged();
+    group.hear(&[1, 2], &start);
+    group.prepare(&[0], stamp(5, 1), &e);
+    let decision = group.prepare(&[1, 2], stamp(5, 1), &e);
+    assert_eq!(decision, Decision::Slow(ok), "in view 1");
+    group.finalise(&[1, 2], stamp(5, 1), 1, decision);
+    group.conclude(&[1, 2], stamp(5, 1), 1, Outcome::Commit, &e);
+    group.hear(&[0], &start);
+    group.conclude(&[0], stamp(5, 1), 1, Outcome::Commit, &e);
+    (0..3).map(|box_number| group.image(box_number)).collect()
+}
+
+/// The images that the example prints: behind `box 0:` and so on, lines of bytes.
+fn images(printed: &str) -> Vec<Vec<u8>> {
+    let mut images: Vec<Vec<u8>> = Vec::new();
+    for line in printed.lines() {
+        let bytes: Result<Vec<u8>, _> = line
+            .split(' ')
+            .map(|byte| u8::from_str_radix(byte, 16))
+            .collect();
+        if line == format!("box {}:", images.len()) {
+            images.push(Vec::new());
+        } else if let (Some(image), Ok(bytes)) = (images.last_mut(), bytes) {
+            image.extend(bytes);
+        }
+    }
+    images
+}
+
+#[test]
+fn the_tables_in_the_end_are_those_of_the_second_program() {
+    let images = images(&printed("box_images"));
+    let told = told();
+    assert_eq!(told.len(), 3);
+    assert_eq!(images, told);
+    for (box_number, image) in images.iter().enumerate() {
+        let (table, _) = Table::parse(image).expect("an image");
+        assert_eq!(usize::from(table.box_number), box_number);
+        assert_eq!((table.view, table.rows.len()), (1, 5));
+    }
+}
+
+// ---- A wrong example is noticed, by itself.
+
+/// A file of the example, words that stand in it once, and what they are bent to.
+const BENT: [(&str, &str, &str); 15] = [
+    // a reply goes out though the table was not stored
+    (
+        "box.c",
+        "box->answers = store_table(box);",
+        "(void)store_table(box);",
+    ),
+    // nothing is stored at all
+    (
+        "box.c",
+        "box->answers = store_table(box);",
+        "box->answers = true;",
+    ),
+    // a table is written over the newest one
+    (
+        "box.c",
+        "uint64_t slot = sequence % 2;",
+        "uint64_t slot = sequence % 1;",
+    ),
+    // a slot counts whatever its check sum is
+    (
+        "box.c",
+        "return number_at(slot + 12, 4) == sum ? number_at(slot, 8) : 0;",
+        "return sum != 1 ? number_at(slot, 8) : 0;",
+    ),
+    // a box that was started is made fresh
+    (
+        "box.c",
+        "if (!is_blank(flash_slot(number, 0)) || !is_blank(flash_slot(number, 1))) {",
+        "if (!is_blank(flash_slot(number, 0)) && !is_blank(flash_slot(number, 1))) {",
+    ),
+    // after a restart the numbers of slots go on from the older one
+    (
+        "box.c",
+        "box->sequence = even > odd ? even : odd;",
+        "box->sequence = even > odd || even == 0 ? odd : even;",
+    ),
+    // memory gone bad is answered for
+    (
+        "box.c",
+        "case SPRONDILU_BAD_TABLE: /* memory went bad: silent, until a restart has loaded the table again */\n        \
+         box->answers = false;",
+        "case SPRONDILU_BAD_TABLE:",
+    ),
+    // rule 3: replies of two views are counted together
+    (
+        "box.c",
+        "t->view = record.view;\n        t->heard = 0;",
+        "t->view = record.view;",
+    ),
+    // a final result is not taken apart
+    (
+        "box.c",
+        "record.is_final ? (uint8_t)(reply[3] - SPRONDILU_RETRY) : reply[3]",
+        "reply[3]",
+    ),
+    // rule 4: one confirmation is taken for f+1
+    (
+        "box.c",
+        "how_many(t->confirmed) >= QUORUM",
+        "how_many(t->confirmed) > 0",
+    ),
+    // rule 5: a commit is told to a box in an older view
+    (
+        "box.c",
+        "return has_answered[box] && answered_in[box] >= t->view;",
+        "return has_answered[box];",
+    ),
+    // rule 6: one acceptance is taken for f+1
+    (
+        "box.c",
+        "if (how_many(same) >= QUORUM) {",
+        "if (how_many(same) > 0) {",
+    ),
+    // rule 6: message 4 names another view
+    (
+        "box.c",
+        "*view = t->accepted_in[box];",
+        "*view = t->accepted_in[box] - 1;",
+    ),
+    // a refused transaction is committed
+    (
+        "box.c",
+        "t->outcome = t->result == SPRONDILU_OK ? COMMIT : ABORT;",
+        "t->outcome = t->result != 0 ? COMMIT : ABORT;",
+    ),
+    // images are laid with the length of their buffers
+    (
+        "story.c",
+        "size_t length = out_of_reach[box] ? 0 : image_length(boxes[box].table);\n    memcpy(to",
+        "size_t length = out_of_reach[box] ? 0 : SPRONDILU_TABLE_BYTES;\n    memcpy(to",
+    ),
+];
+
+/// A copy of the example in a folder of its own, in which these words have become others; compiled and run.
+fn copied(name: &str, bend: Option<(&str, &str, &str)>) -> Output {
+    let folder = made(name);
+    fs::create_dir_all(&folder).expect("a folder");
+    let mut sources = Vec::new();
+    for path in SOURCES.iter().chain([&SHARED]) {
+        let file = path.trim_start_matches("examples/");
+        let mut source = text(path);
+        if let Some((_, from, to)) = bend.filter(|(bent, _, _)| *bent == file) {
+            assert_eq!(source.matches(from).count(), 1, "{}: {}", file, from);
+            source = source.replace(from, to);
+        }
+        fs::write(folder.join(file), source).expect("a copy");
+        if file.ends_with(".c") {
+            sources.push(folder.join(file));
+        }
+    }
+    played(&sources, &folder.join("bent"))
+}
+
+#[test]
+fn a_bent_example_ends_with_another_number() {
+    assert_done("an unbent copy", &copied("unbent", None));
+    for (place, bend) in BENT.into_iter().enumerate() {
+        let run = copied(&format!("bent_{}", place), Some(bend));
+        let printed = String::from_utf8_lossy(&run.stdout);
+        assert_eq!(run.status.code(), Some(1), "{}: {}", bend.2, printed);
+        assert!(
+            printed.ends_with("\nnot all as expected\n"),
+            "{}: {}",
+            bend.2,
+            printed
+        );
+    }
+}
+
+// ---- The page.
+
+/// The blocks of a page that are marked so, each with its lines.
+fn blocks(page: &str, mark: &str) -> Vec<String> {
+    let mut found = Vec::new();
+    let mut open: Option<(bool, Vec<&str>)> = None;
+    for line in page.lines() {
+        match (line.strip_prefix("```"), open.take()) {
+            (Some(word), None) => open = Some((word == mark, Vec::new())),
+            (Some(_), Some((true, lines))) => found.push(lines.join("\n")),
+            (Some(_), Some((false, _))) | (None, None) => {}
+            (None, Some((wanted, mut lines))) => {
+                lines.push(line);
+                open = Some((wanted, lines));
+            }
+        }
+    }
+    assert!(open.is_none(), "a block has no end");
+    found
+}
+
+/// Whether a block is a run of whole lines of a text.
+fn stands_in(block: &str, text: &str) -> bool {
+    !block.trim().is_empty() && format!("\n{}\n", text).contains(&format!("\n{}\n", block))
+}
+
+#[test]
+fn the_page_quotes_lines_of_the_example() {
+    let page = text(PAGE);
+    let (source, shared) = (text("examples/box.c"), text(SHARED));
+    let quoted = blocks(&page, "c");
+    assert!(quoted.len() > 5, "only {} blocks of C", quoted.len());
+    for block in quoted {
+        let there = stands_in(&block, &source) || stands_in(&block, &shared);
+        assert!(there, "not in the example:\n{}", block);
+    }
+    let printed = blocks(&page, "text");
+    assert_eq!(printed.len(), 1);
+    assert!(
+        stands_in(&printed[0], &text("examples/box.out")),
+        "not printed:\n{}",
+        printed[0]
+    );
+    assert_eq!(
+        page.matches("```").count(),
+        2 * (blocks(&page, "c").len() + 1)
+    );
+}
+
+#[test]
+fn a_block_that_is_not_quoted_is_noticed() {
+    let page = "a\n```c\nint x;\nint y;\n```\nb\n```text\nz\n```\n";
+    assert_eq!(blocks(page, "c"), ["int x;\nint y;"]);
+    assert_eq!(blocks(page, "text"), ["z"]);
+    assert!(stands_in("int x;\nint y;", "int w;\nint x;\nint y;"));
+    assert!(!stands_in("int x;\nint y;", "int x;\nint w;\nint y;"));
+    assert!(!stands_in("nt x;", "int x;"));
+    assert!(!stands_in("", "int x;\n\nint y;"));
+}
+
+/// The numbers of the C header and their names: the words before the colon in the comment above `#define SPRONDILU_.. 5`.
+fn names() -> Vec<(u8, String)> {
+    let header = text("include/sprondilu.h");
+    let mut found = Vec::new();
+    let mut name = "";
+    for line in header.lines() {
+        let words: Vec<&str> = line.split_whitespace().collect();
+        if let Some(comment) = line.strip_prefix("/* ") {
+            name = comment.split(':').next().unwrap_or("");
+        } else if let ["#define", constant, value] = words[..] {
+            let expected = format!("SPRONDILU_{}", name.to_uppercase().replace(' ', "_"));
+            if let (true, Ok(number)) = (constant == expected, value.parse()) {
+                found.push((number, name.to_string()));
+            }
+        }
+    }
+    found
+}
+
+#[test]
+fn the_page_has_a_row_for_every_number() {
+    let page = text(PAGE);
+    let names = names();
+    let numbers: Vec<u8> = names.iter().map(|(number, _)| *number).collect();
+    assert!(numbers.iter().copied().eq(0..12), "{:?}", numbers);
+    for (number, name) in names {
+        let begins = format!("| {} | {} | ", number, name);
+        let rows: Vec<&str> = page
+            .lines()
+            .filter(|row| row.starts_with(&begins))
+            .collect();
+        assert_eq!(rows.len(), 1, "rows that begin with {}", begins);
+        let cells: Vec<&str> = rows[0].trim_matches('|').split('|').collect();
+        assert_eq!(cells.len(), 4, "{}", rows[0]);
+        assert!(cells.iter().all(|cell| !cell.trim().is_empty()));
+    }
+}
+
+/// The line with which the page has the example compiled.
+fn line_of_the_page() -> String {
+    let page = text(PAGE);
+    let lines: Vec<&str> = page
+        .lines()
+        .filter_map(|line| line.strip_prefix("    "))
+        .filter(|line| line.starts_with("cc "))
+        .collect();
+    assert_eq!(lines.len(), 1, "{:?}", lines);
+    lines[0].to_string()
+}
+
+#[test]
+fn the_line_of_the_page_compiles_the_example() {
+    let line = line_of_the_page();
+    let said = format!(" *   {}\n", line);
+    assert!(text("examples/story.c").contains(&said), "{}", said);
+    // The archive may lie elsewhere than where `rt staticlib` writes it; what is made here goes where tests make things.
+    let program = made("box_of_the_page");
+    let _ = fs::remove_file(&program);
+    let mut replaced = 0;
+    let words = line.split(' ').skip(1).map(|word| match word {
+        "target/staticlib/libsprondilu.a" => {
+            replaced += 1;
+            PathBuf::from(env!("SPRONDILU_ARCHIVE"))
+        }
+        "target/box" => {
+            replaced += 1;
+            program.clone()
+        }
+        other => PathBuf::from(other),
+    });
+    let words: Vec<PathBuf> = words.collect();
+    assert_eq!(replaced, 2, "{}", line);
+    let compiled = Command::new("cc").args(words).current_dir(top("")).output();
+    let compiled = compiled.expect("a C compiler");
+    assert_done("cc", &compiled);
+    assert!(compiled.stderr.is_empty(), "{:?}", compiled);
+    let run = Command::new(&program).output().expect("a program");
+    assert_done("the example", &run);
+    assert_eq!(
+        String::from_utf8_lossy(&run.stdout),
+        text("examples/box.out")
+    );
+}
+
+// ---- The shape of the example.
+
+#[test]
+fn a_function_of_the_example_has_under_forty_lines() {
+    let mut seen = 0;
+    for path in SOURCES {
+        let source = text(path);
+        let mut began = 0;
+        for (place, line) in source.lines().enumerate() {
+            if line.ends_with(')') && !line.starts_with(&[' ', '#', '/', '_'][..]) {
+                began = place;
+            } else if line == "}" {
+                let lines = place - began + 1;
+                assert!(lines < 40, "{}:{}: {} lines", path, began + 1, lines);
+                seen += 1;
+            }
+        }
+        for word in ["malloc", "calloc", "alloca"] {
+            assert!(!source.contains(word), "{}: {}", path, word);
+        }
+    }
+    assert!(seen > 20, "only {} functions were found", seen);
+}
