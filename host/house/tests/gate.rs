@@ -51,6 +51,7 @@ impl Gate {
         gate.tool("cargo", LINKED);
         gate.tool("cc", "exit 0\n");
         gate.agree("exit 0\n");
+        gate.demo("exit 0\n");
         gate
     }
 
@@ -60,6 +61,10 @@ impl Gate {
 
     fn agree(&self, body: &str) {
         self.script(self.folder.join("tools/agree"), body);
+    }
+
+    fn demo(&self, body: &str) {
+        self.script(self.folder.join("demo"), body);
     }
 
     fn script(&self, path: PathBuf, body: &str) {
@@ -139,6 +144,13 @@ fn definitions_that_disagree_with_the_second_program_are_red() {
     let gate = Gate::new("disagree");
     gate.agree("echo 'rt: FAILED: agree'\nexit 1\n");
     gate.is_red_at("tools/agree");
+}
+
+#[test]
+fn a_demo_that_does_not_play_is_red() {
+    let gate = Gate::new("demo");
+    gate.demo("echo '7 passed, 0 failed'\nexit 2\n");
+    gate.is_red_at("./demo");
 }
 
 #[test]

@@ -3,11 +3,12 @@
 use house::{cited, crates, files, stands, text, top};
 use std::process::Command;
 
-const PAPERS: [&str; 6] = [
+const PAPERS: [&str; 7] = [
     "README.md",
     "docs/ARCHITECTURE.md",
     "docs/CLAIMS.md",
     "docs/DECISIONS.md",
+    "docs/FIRMWARE.md",
     "docs/PROOF.md",
     "docs/ROADMAP.md",
 ];
@@ -71,14 +72,18 @@ fn every_crate_is_on_the_map_of_the_readme() {
 }
 
 #[test]
-fn the_first_command_shows_every_crate() {
-    let done = Command::new(top().join("demo")).output().unwrap();
+fn the_overview_shows_every_crate() {
+    let done = Command::new(top().join("tools/overview")).output().unwrap();
     let printed = String::from_utf8(done.stdout).unwrap();
     assert!(done.status.success(), "{}", printed);
     assert!(done.stderr.is_empty(), "{}", printed);
     for name in crates() {
         let heading = printed.lines().any(|line| line == name);
-        assert!(heading, "./demo says nothing of {}: {}", name, printed);
+        assert!(
+            heading,
+            "tools/overview says nothing of {}: {}",
+            name, printed
+        );
     }
     assert!(printed.contains("- u32_at(s: &[u8]"), "{}", printed);
     assert!(

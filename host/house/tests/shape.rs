@@ -3,7 +3,7 @@
 use house::{files, text};
 use std::collections::BTreeSet;
 
-/// The lines of each function of a Rattle source, from `fn` to the closing brace, with its name.
+/// The lines of each function of a source in Rattle or Rust, from `fn` to the closing brace, with its name.
 fn functions(source: &str) -> Vec<(String, usize)> {
     let mut found = Vec::new();
     let mut open: Option<(String, usize, usize)> = None;
@@ -12,11 +12,12 @@ fn functions(source: &str) -> Vec<(String, usize)> {
         if let Some((name, indent, lines)) = open.take() {
             if depth == indent && line.trim_end() == format!("{}}}", " ".repeat(indent)) {
                 found.push((name, lines + 1));
-            } else {
+            } else if depth != indent || !line.ends_with(';') {
+                // What ends with a semicolon is a declaration, which has no lines.
                 open = Some((name, indent, lines + 1));
             }
         } else if let Some(name) = function_name(line) {
-            open = Some((name, depth, 1));
+            open = Some((name, depth, 1)).filter(|_| !line.ends_with(&[';', '}'][..]));
         }
     }
     found
@@ -27,23 +28,25 @@ fn function_name(line: &str) -> Option<String> {
     if !words
         .0
         .split_whitespace()
-        .all(|w| ["pub", "extern", "\"C\""].contains(&w))
+        .all(|w| ["pub", "const", "extern", "\"C\""].contains(&w))
     {
         return None;
     }
-    Some(words.1.split('(').next()?.to_string())
+    Some(words.1.split(&['(', '<'][..]).next()?.to_string())
 }
 
 #[test]
 fn a_function_has_under_forty_lines() {
-    let mut seen = 0;
-    for file in files("crates", ".rt") {
-        for (name, lines) in functions(&text(&file)) {
-            assert!(lines < 40, "{}: {} has {} lines", file, name, lines);
-            seen += 1;
+    for (folder, ending, at_least) in [("crates", ".rt", 200), ("host", ".rs", 500)] {
+        let mut seen = 0;
+        for file in files(folder, ending) {
+            for (name, lines) in functions(&text(&file)) {
+                assert!(lines < 40, "{}: {} has {} lines", file, name, lines);
+                seen += 1;
+            }
         }
+        assert!(seen > at_least, "only {} functions in {}", seen, folder);
     }
-    assert!(seen > 10, "only {} functions were found", seen);
 }
 
 #[test]
@@ -53,6 +56,8 @@ fn a_long_function_would_be_noticed() {
         "    x;\n".repeat(40)
     );
     assert_eq!(functions(&long), vec![("long".to_string(), 45)]);
+    let declared = format!("    pub fn one(\n        x: u8,\n    ) -> u8;\n{}", long);
+    assert_eq!(functions(&declared), vec![("long".to_string(), 45)]);
 }
 
 #[test]

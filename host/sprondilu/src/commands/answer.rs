@@ -1,0 +1,222 @@
+//! `answer`: a box's answer to one message, by its table file.
+
+use crate::calls::{self, TABLE_BYTES};
+use crate::ends::{Refusal, Stop};
+use crate::files::{self, Held};
+use crate::image::{Row, Table};
+use crate::json::Json;
+use crate::message::Message;
+use crate::reply::Reply;
+use crate::words::{usage, Words};
+use crate::{names, reasons, stamps, wrong};
+use std::path::{Path, PathBuf};
+
+pub fn run(words: &Words) -> Result<(String, Json), Stop> {
+    let [table, message] = words.files(["the table file", "the message file"])?;
+    let replace = words.may_replace("--reply")?;
+    let out = words.path("--reply");
+    let bytes = files::read(&message)?;
+    let held = Held::of(&table)?;
+    if let Some(out) = out {
+        if held.is(out) || is_same(out, &message) {
+            return Err(usage(
+                "the reply would be written over the table or the message",
+            ));
+        }
+        // Before the table changes, not after.
+        files::may_create(out, replace)?;
+    }
+    let answered = Answered::by(&held, &bytes);
+    answered.store(&held)?;
+    if let Some(out) = out {
+        let written = files::create(out, &answered.reply, replace);
+        written.map_err(|stop| answered.untold(stop))?;
+    }
+    let asked = Asked {
+        table,
+        message,
+        bytes,
+        out,
+    };
+    asked.told(&held, &answered)
+}
+
+fn is_same(one: &Path, other: &Path) -> bool {
+    let real = |path: &Path| path.canonicalize().ok();
+    real(one).is_some() && real(one) == real(other)
+}
+
+/// What the library answered, and the bytes that the table file has to have then.
+struct Answered {
+    number: u8,
+    reply: calls::Reply,
+    after: Option<Vec<u8>>,
+}
+
+impl Answered {
+    fn by(held: &Held, message: &[u8]) -> Answered {
+        // A file that is cut short could become whole by the zeros behind it in a longer buffer. So the file itself is judged
+        // first, and if it is bad the library is asked about no table at all: the reply is that of number 2.
+        let length = calls::image_in(&held.bytes).map(<[u8]>::len);
+        let mut buffer = length.map_or(Vec::new(), |_| held.bytes.clone());
+        let file_length = buffer.len();
+        buffer.resize(file_length.max(TABLE_BYTES), 0);
+        let (number, reply) = calls::answer(&mut buffer, message);
+        let image = calls::image_in(&buffer).map_or(0, <[u8]>::len);
+        // A file with more in it than the image is a dump of a buffer, and stays one.
+        let is_dump = Some(file_length) != length;
+        buffer.truncate(if is_dump {
+            file_length.max(image)
+        } else {
+            image
+        });
+        let changed = number == 0 && buffer != held.bytes;
+        Answered {
+            number,
+            reply,
+            after: changed.then_some(buffer),
+        }
+    }
+
+    /// What changed is on the disk before any reply is given. Where nothing changed, the reply rests on what another run has
+    /// stored, and that run may have been stopped before it synced the folder.
+    fn store(&self, held: &Held) -> Result<(), Stop> {
+        match &self.after {
+            Some(bytes) => held.replace(bytes),
+            None if self.number == 0 => held.sync(),
+            None => Ok(()),
+        }
+    }
+
+    /// A reply that could not be written is not lost: the box gives it again. A view that it has promised or started it refuses the
+    /// second time, as an old one.
+    fn untold(&self, stop: Stop) -> Stop {
+        let again = match self.reply[1] {
+            5 | 6 => "is refused with 10 old view, which then says that it was done",
+            _ => "has the same reply",
+        };
+        match stop {
+            Stop::Trouble(what) if self.after.is_some() => Stop::Trouble(format!(
+                "{}. The table is stored: the same message again {}",
+                what, again
+            )),
+            other => other,
+        }
+    }
+
+    /// The rows that the table had and has no more. Message 6 alone takes rows away: what too few boxes had heard of is in no
+    /// merge.
+    fn gone(&self, held: &Held) -> Vec<Row> {
+        let rows =
+            |bytes: &[u8]| calls::image_in(bytes).map_or(Vec::new(), |image| Table::of(image).rows);
+        let after = self.after.as_ref().map(|bytes| rows(bytes));
+        let is_gone = |row: &Row| {
+            let stays = |after: &Vec<Row>| after.iter().any(|other| other.stamp == row.stamp);
+            !after.as_ref().map_or(true, stays)
+        };
+        rows(&held.bytes).into_iter().filter(is_gone).collect()
+    }
+}
+
+/// What the user asked: the files, and the bytes of the message.
+struct Asked<'a> {
+    table: PathBuf,
+    message: PathBuf,
+    bytes: Vec<u8>,
+    out: Option<&'a Path>,
+}
+
+impl Asked<'_> {
+    fn told(&self, held: &Held, answered: &Answered) -> Result<(String, Json), Stop> {
+        if answered.number != 0 {
+            return Err(self.refused(held, answered));
+        }
+        let reply = Reply::of(&answered.reply).expect("a reply of 24 bytes");
+        let message = Message::of(&self.bytes);
+        let gone = answered.gone(held);
+        let text = format!(
+            "{}: {}; {}{}\n",
+            self.table.display(),
+            reply.words_with(&said(&message, &reply)),
+            if answered.after.is_some() {
+                "the table is stored"
+            } else {
+                "the table stays as it was"
+            },
+            gone_in_words(&gone)
+        );
+        let mut fields = reply.json();
+        if let Message::Read { stamp, register } = message {
+            fields.push(("register", Json::from(register)));
+            fields.push(("read_stamp", Json::from(stamp)));
+        }
+        fields.push((
+            "rows_gone",
+            Json::List(gone.iter().map(Row::json).collect()),
+        ));
+        fields.extend(self.json(answered));
+        Ok((text, Json::Object(fields)))
+    }
+
+    /// What a program wants to know of every answer, refusals too.
+    fn json(&self, answered: &Answered) -> Vec<(&'static str, Json)> {
+        let out = self.out.map(|out| Json::text(out.display().to_string()));
+        vec![
+            super::file_json(&self.table),
+            ("table_changed", Json::Bool(answered.after.is_some())),
+            ("reply", Json::text(hex(&answered.reply))),
+            ("reply_file", out.unwrap_or(Json::Null)),
+        ]
+    }
+
+    fn refused(&self, held: &Held, answered: &Answered) -> Stop {
+        let number = answered.number;
+        let found = match calls::image_in(&held.bytes) {
+            Some(image) => reasons::answer::reason(number, image, &self.bytes),
+            None => wrong::reason(wrong::table::image(&held.bytes)),
+        };
+        // The file that is wrong, if it is one of the two that is.
+        let (path, bytes) = match number {
+            3 => (&self.message, &self.bytes),
+            _ => (&self.table, &held.bytes),
+        };
+        let hint = super::what_it_is(bytes).filter(|_| number == 2 || number == 3);
+        let hint = hint.map(|what| format!(" (the file is {})", what));
+        Stop::Refused(Refusal {
+            number,
+            what: path.display().to_string(),
+            reason: found.0 + &hint.unwrap_or_default(),
+            byte: found.1,
+            more: self.json(answered),
+        })
+    }
+}
+
+/// What the box says; of a read also what was asked, which the reply does not have.
+fn said(message: &Message, reply: &Reply) -> String {
+    match message {
+        Message::Read { stamp, register } => format!(
+            "register {} as of {}: {}",
+            register,
+            stamps::short(*stamp),
+            reply.said()
+        ),
+        _ => reply.said(),
+    }
+}
+
+fn gone_in_words(gone: &[Row]) -> String {
+    if gone.is_empty() {
+        return String::new();
+    }
+    let rows: Vec<String> = gone.iter().map(Row::words).collect();
+    format!(
+        "; not in the table of the view, and so gone: {}: {}",
+        names::how_many(gone.len(), "row"),
+        rows.join("; ")
+    )
+}
+
+pub fn hex(bytes: &[u8]) -> String {
+    bytes.iter().map(|byte| format!("{:02x}", byte)).collect()
+}

@@ -1,0 +1,80 @@
+//! Groups played through the library, and explained: what a newcomer sees first.
+//!
+//! The stories are fixed, and so is what has to come of each step: a demo that goes another way than its words ends with an
+//! error and not with a wrong story.
+
+mod five;
+mod group;
+mod three;
+
+use crate::ends::Stop;
+
+/// What was told, and the files that the group would have had: their names and bytes.
+pub struct Played {
+    pub text: String,
+    pub files: Vec<(String, Vec<u8>)>,
+}
+
+pub fn play() -> Result<Played, Stop> {
+    let three = three::play()?;
+    let five = five::play()?;
+    let text = [BEFORE, &three.text, &five.text, AFTER].concat();
+    Ok(Played {
+        text,
+        files: [three.files, five.files].concat(),
+    })
+}
+
+const BEFORE: &str = "\
+SPRONDILU: WHAT A GROUP OF BOXES DOES
+
+Boxes in a valley keep the record of the water that growers use. Each box holds
+one table. There is no master, and the radio between them is slow and loses
+messages. Below, two groups of boxes live through a bad day, in memory. Every
+answer of a box, every count and every merge is the proved library's, the one
+that box firmware links.
+
+Some words first.
+
+  register     one of 64 numbered places for a number; here, the cubic metres
+               that a pump has given
+  client       somebody with a handset
+  transaction  what a client records at once: registers that were read,
+               registers that are written
+  stamp        names a transaction and gives it its place in time: 2:1 is time 2
+               at client 1; as one number, time x 65536 + client
+  5@2:1        register 5 was read, in the version that transaction 2:1 wrote;
+               5@0: nobody had written it
+  5=7          register 5 is written, with the value 7
+  result       what boxes think of a transaction. OK: nothing speaks against it.
+               ABORT: it clashes with a committed one. ABSTAIN: it clashes with
+               one that may yet be committed. RETRY 9:1: only a stamp later than
+               9:1 can do. Each is tentative at first, and may become final
+  declared     the client may rely on a result that it has declared final
+  outcome      what becomes of it: commit or abort; noted first, then done
+  view         the group's time is cut into views; a new one begins with a merge
+               of the tables of enough boxes
+
+The client sends messages to the boxes and counts their replies. There are seven
+messages: 1 propose-prepare, 2 finalise-prepare, 3 propose-outcome,
+4 finalise-outcome, 5 change-view, 6 start-view, 7 read. An arrow is a message
+that is sent; below it stand the answers.
+";
+
+const AFTER: &str = "
+WHAT YOU HAVE SEEN
+
+  - Boxes that agree need one round of radio; a quorum of them is enough in two.
+  - Of two transactions that clash, one was committed and the other was not.
+  - What was declared final, or noted by a quorum, stood in every merge, whoever
+    was away and whatever was lost.
+
+That it is so in every history in which clients keep seven rules, as these two
+did, is proved; README.md has the rules, and says what is assumed.
+
+The files of this demo, to look at with the other commands:
+  sprondilu demo --keep FOLDER
+  sprondilu show FOLDER/five/box4.table
+What else there is:
+  sprondilu --help
+";

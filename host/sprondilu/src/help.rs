@@ -1,0 +1,208 @@
+//! The help texts: of the program, and of each command.
+
+/// What is shown with a command line that makes no sense.
+pub const SHORT: &str = "\
+usage: sprondilu COMMAND ..
+commands: show, check, fresh, message, answer, merge, count, demo
+More: sprondilu --help, and sprondilu COMMAND --help";
+
+const PROGRAM: &str = "\
+sprondilu: season records of boxes, on files
+
+usage: sprondilu COMMAND ..
+
+  show     a table file for people; also a message or a reply
+  check    whether a file is well formed; if not, what is wrong and at which byte
+  fresh    write the table file of a box that was never used
+  message  write one of the seven messages from words
+  answer   a box's answer to a message file, by its table file
+  merge    the table with which a view begins, from the files of f+1 boxes
+  count    what the replies of boxes to messages 1 and 2 come to
+  demo     groups of three and of five boxes, played and explained
+
+sprondilu COMMAND --help says more of each; sprondilu --version names this
+program.
+
+Files hold the bytes that boxes have and send: a table file begins with a
+table's image, a message file is one message, a reply file is one reply of 24
+bytes. A stamp is written TIME:CLIENT, such as 2:1, or as one number, which is
+time x 65536 + client. Numbers may be written in hexadecimal digits after 0x.
+After -- no word is an option.
+
+Every number, table, reply and count is the proved library's.
+
+With --json one JSON object is printed, for a refusal too. Stamps and versions
+are one number in it; values of registers are text, since they may have 64 bits.
+
+exit status
+  0  done
+  1  refused: the number, its name and the reason are printed
+  2  bad usage, or a file that cannot be read or written: the error is on the
+     standard error output, and nothing else is printed
+";
+
+const SHOW: &str = "\
+usage: sprondilu show [--message | --reply] [--json] FILE
+
+Shows a table file for people: the box, its view, and its rows in stamp order,
+with the time and the client of each stamp, result and outcome by name, and what
+the transaction reads and writes. 5@2:1 is register 5, read in the version that
+the transaction 2:1 wrote; 5@0 is register 5, which nobody had written before;
+5=7 is register 5, written with the value 7.
+
+A result that was declared on a fast count stays tentative in the tables until a
+merge makes it final; tentative OK beside a commit is in order.
+
+  --message  the file is a message
+  --reply    the file is a reply
+  --json     for a program
+
+Refusals: 2 bad table; 3 bad message, also for a file that is no reply.
+";
+
+const CHECK: &str = "\
+usage: sprondilu check [--message | --reply] [--json] FILE
+
+Whether the file begins with a table by the rules; if not, what is wrong, and at
+which byte. The first byte is byte 0; if several places are wrong, one of them
+is named. Bytes after a table are no mistake: a dump of a box's buffer has some.
+
+A file that is well formed need not be the one that a box had: a changed value,
+or a transaction that was committed against the rules, is not seen in its form.
+
+  --message  whether the file is one of the seven messages; message 6 is judged
+             for a group as large as its image's
+  --reply    whether the file is a reply that a box gives
+  --json     for a program
+
+Refusals: 2 bad table; 3 bad message, also for a file that is no reply.
+";
+
+const FRESH: &str = "\
+usage: sprondilu fresh --n N --box BOX [--json] FILE
+
+Writes the table file of a box that was never used. A file that is there already
+is never written over. A box is made fresh once: one that has lost its table is
+not made fresh again in the same group, or what it promised is forgotten.
+
+  --n N      how many boxes the group has: 3, 5 or 7
+  --box BOX  which of them this is: 0 to N-1
+  --json     for a program
+
+Refusal: 3 bad message, for a bad N or BOX.
+";
+
+const MESSAGE: &str = "\
+usage: sprondilu message KIND .. [--out FILE [--replace]] [--json]
+
+Writes one of the seven messages to a file, or, without one, prints it in
+hexadecimal digits.
+
+  1 propose-prepare  STAMP [read REGISTER@VERSION ..] [write REGISTER=VALUE ..]
+  2 finalise-prepare STAMP view V RESULT
+                     RESULT is OK, ABORT, ABSTAIN, or RETRY and a stamp
+  3 propose-outcome  STAMP commit|abort [read ..] [write ..]
+  4 finalise-outcome STAMP view V commit|abort
+  5 change-view      V
+  6 start-view       V FILE      with the table file of the merge for view V
+  7 read             STAMP register REGISTER
+
+The kind is the word, without its number. A body has up to 4 reads and up to 4
+writes and at least one of them; they are laid in the order of their registers.
+A version is the stamp of the write that was read, or 0 for never written.
+For example: sprondilu message propose-prepare 2:1 read 5@1:1 write 5=9 --out two.message
+
+Whether a message may be sent is not judged here. Nothing is lost, and no two
+committed transactions clash, if whoever sends messages keeps the seven rules,
+which README.md has.
+
+  --out FILE  the file to write; one that is there already is not written over
+  --replace   it is, unless it begins with a table
+  --json      for a program
+
+Refusals: 3 bad message, if what the words say is against the rules of a
+message; 2 bad table, if the file of start-view is none.
+";
+
+const ANSWER: &str = "\
+usage: sprondilu answer TABLE MESSAGE [--reply FILE [--replace]] [--json]
+
+A box's answer to a message: the table file becomes what the message makes of
+it, and the reply is printed and, with --reply, written to a file, also if the
+box refuses. If a start-view takes rows away, they are named: what too few boxes
+had heard of is in no merge.
+
+The table is written safely: to a new file, synced, and renamed over the old
+one, before any reply is given. A power cut leaves the old table whole or the
+new one whole. After one, the same message may be answered again and has the
+same reply; only messages 5 and 6, if they were stored, are then refused with 10
+old view. Two runs at once on one table file wait for each other. A refused
+message leaves the file alone, and so does one that changes nothing. A file that
+holds more than the table, such as a dump of a box's buffer, keeps what stands
+after it.
+
+  --reply FILE  the file for the reply's 24 bytes; one that is there already is
+                not written over
+  --replace     it is, unless it begins with a table
+  --json        for a program
+
+Refusals: 2 bad table, 3 bad message, 4 changing, 5 other body, 6 contradiction,
+7 full, 8 unknown, 9 other view, 10 old view.
+";
+
+const MERGE: &str = "\
+usage: sprondilu merge --view V --out FILE [--json] TABLE ..
+
+The table with which view V begins, from the table files of exactly f+1 boxes
+that have promised V: 2 of 3, 3 of 5, 4 of 7. The files stay as they are. The
+order in which they are named does not matter. For one view one merge is sent,
+and no other.
+
+  --view V    the view
+  --out FILE  the file to write; one that is there already is not written over
+  --json      for a program
+
+Refusals: 2 bad table, 11 wrong tables, 5 other body, 6 contradiction, 7 full.
+";
+
+const COUNT: &str = "\
+usage: sprondilu count --n N [--json] REPLY ..
+
+What replies of the boxes of a group to messages 1 and 2, for one stamp, come
+to: fast with a result, slow with one, or wait; and what may be done then. A
+reply by which a box refused holds no result: it is named and not counted.
+
+  --n N   how many boxes the group has: 3, 5 or 7. Replies do not say it, so
+          a wrong N is not noticed
+  --json  for a program
+
+Refusals: 3 bad message (a bad N, a box outside the group or twice, unequal
+views, a file that is no reply), 6 contradiction.
+";
+
+const DEMO: &str = "\
+usage: sprondilu demo [--keep FOLDER]
+
+Plays a group of three boxes and a group of five through a fast commit, a clash,
+lost messages and a view change, in memory, through the proved library, and
+explains each step.
+
+  --keep FOLDER  make this folder and leave in it the tables, messages, replies
+                 and merges of the demo, for show and the other commands
+";
+
+/// The help of a command, or of the program.
+pub fn of(name: &str) -> Option<&'static str> {
+    match name {
+        "--help" | "-h" | "help" => Some(PROGRAM),
+        "show" => Some(SHOW),
+        "check" => Some(CHECK),
+        "fresh" => Some(FRESH),
+        "message" => Some(MESSAGE),
+        "answer" => Some(ANSWER),
+        "merge" => Some(MERGE),
+        "count" => Some(COUNT),
+        "demo" => Some(DEMO),
+        _ => None,
+    }
+}
