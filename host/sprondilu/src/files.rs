@@ -106,6 +106,14 @@ fn sync_folder_of(path: &Path) -> io::Result<()> {
     File::open(folder_of(path))?.sync_all()
 }
 
+/// Sees to it that a file which was read is found under its name after a power cut too: whoever put it there may have been stopped
+/// before he did.
+pub fn settle(path: &Path) -> Result<(), Stop> {
+    let real = path.canonicalize();
+    let synced = real.and_then(|real| sync_folder_of(&real));
+    synced.map_err(|error| trouble("sync the folder of", path, &error))
+}
+
 fn is_there(path: &Path) -> bool {
     fs::symlink_metadata(path).is_ok()
 }
@@ -119,6 +127,9 @@ pub fn may_create(path: &Path, replace: bool) -> Result<(), Stop> {
             why
         )))
     };
+    if path.is_dir() {
+        return cannot("it is a folder");
+    }
     if path.file_name().is_none() {
         return Err(Stop::Trouble(format!(
             "'{}' is no name for a file",
@@ -130,7 +141,6 @@ pub fn may_create(path: &Path, replace: bool) -> Result<(), Stop> {
     }
     match fs::symlink_metadata(path) {
         Err(_) => Ok(()),
-        Ok(about) if about.is_dir() => cannot("it is a folder"),
         Ok(_) if !replace => Err(exists(path)),
         // Whatever a user types: a table may hold a season.
         Ok(_) if calls::image_in(&read(path)?).is_some() => {

@@ -33,7 +33,8 @@ impl Words {
             } else if flags.contains(&name.as_str()) {
                 taken.flags.push(alone(name, value)?);
             } else if valued.contains(&name.as_str()) {
-                let value = value.or_else(|| next_value(&mut rest));
+                let is_option = |word: &str| flags.contains(&word) || valued.contains(&word);
+                let value = value.or_else(|| next_value(&mut rest, is_option));
                 let value = value.ok_or_else(|| usage(format!("{} needs a value", name)))?;
                 taken.valued.push((name, value));
             } else {
@@ -118,9 +119,12 @@ fn alone(name: String, value: Option<OsString>) -> Result<String, Stop> {
     }
 }
 
-/// The next word as a value. A word that looks like an option is none: whoever means it writes it after `=`.
-fn next_value<'a>(rest: &mut impl Iterator<Item = &'a OsString>) -> Option<OsString> {
-    let is_value = |word: &&OsString| !word.to_string_lossy().starts_with("--");
+/// The next word as a value. One of the command's own options is none: whoever means a file of that name writes it after `=`.
+fn next_value<'a>(
+    rest: &mut impl Iterator<Item = &'a OsString>,
+    is_option: impl Fn(&str) -> bool,
+) -> Option<OsString> {
+    let is_value = |word: &&OsString| !is_option(&word.to_string_lossy());
     rest.next().filter(is_value).cloned()
 }
 

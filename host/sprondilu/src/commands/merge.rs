@@ -35,13 +35,12 @@ fn read_all(paths: &[PathBuf]) -> Result<(Vec<u8>, Vec<Named>), Stop> {
     let mut run = Vec::new();
     let mut tables = Vec::new();
     for path in paths {
-        let (bytes, length) = super::table_file(path)?;
-        let image = &bytes[..length];
-        run.extend(image);
+        let image = super::settled_image(path)?;
         tables.push(Named {
             name: path.display().to_string(),
-            table: Table::of(image),
+            table: Table::of(&image),
         });
+        run.extend(image);
     }
     Ok((run, tables))
 }

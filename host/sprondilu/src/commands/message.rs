@@ -160,11 +160,8 @@ fn start_view<'a>(
 ) -> Result<Message, Stop> {
     let view = view(rest)?;
     next(rest, "the table file of the merge")?;
-    let (bytes, length) = super::table_file(Path::new(&words.plain[2]))?;
-    Ok(Message::StartView {
-        view,
-        image: bytes[..length].to_vec(),
-    })
+    let image = super::settled_image(Path::new(&words.plain[2]))?;
+    Ok(Message::StartView { view, image })
 }
 
 /// `read K@VERSION .. write K=VALUE ..`, laid in the order of their registers.

@@ -56,8 +56,9 @@ pub fn run(words: Vec<OsString>) -> Ended {
 
 impl Command {
     fn done(&self, words: &[OsString]) -> Ended {
-        let as_json = words.iter().any(|word| word == "--json");
         let taken = Words::of(words, self.flags, self.valued);
+        // A file may have this name too, after `--` or as a value: what counts is the option.
+        let as_json = taken.as_ref().map_or(false, |words| words.has("--json"));
         match taken.and_then(|words| (self.run)(&words)) {
             Ok((text, json)) => Ended::Answered(Answer {
                 text,
@@ -171,4 +172,11 @@ fn table_file(path: &Path) -> Result<(Vec<u8>, usize), Stop> {
     let bytes = files::read(path)?;
     let length = image_of(path, &bytes)?.len();
     Ok((bytes, length))
+}
+
+/// The image of a table file on which something will rest that others are sent: it is to be there after a power cut too.
+fn settled_image(path: &Path) -> Result<Vec<u8>, Stop> {
+    let (bytes, length) = table_file(path)?;
+    files::settle(path)?;
+    Ok(bytes[..length].to_vec())
 }

@@ -21,7 +21,7 @@ pub fn reason(number: u8, image: &[u8], message: &[u8]) -> (String, Option<usize
     let message = Message::of(message);
     let said = match number {
         4 => changing(&table),
-        5 => held(&table, &message).map(|row| other_body(row)),
+        5 => held(&table, &message).map(other_body),
         6 => held(&table, &message).and_then(|row| contradiction(row, &message)),
         7 => Some(full(&table, &message)),
         8 => Some(unknown(&table, &message)),

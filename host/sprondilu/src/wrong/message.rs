@@ -41,10 +41,10 @@ fn length(bytes: &[u8], wanted: usize) -> Good {
     })
 }
 
-/// What comes before the part whose length only the bytes before it tell.
-fn at_least(bytes: &[u8], wanted: usize) -> Good {
-    ensure(bytes.len() >= wanted, bytes.len(), || {
-        let name = names::kind(bytes[0]);
+/// What comes before the part whose length only the bytes before it tell is there; with that part the message is longer.
+fn at_least(bytes: &[u8], before: usize, part: usize) -> Good {
+    ensure(bytes.len() >= before, bytes.len(), || {
+        let (name, wanted) = (names::kind(bytes[0]), before + part);
         format!(
             "the message ends here, and a {} has at least {} bytes",
             name, wanted
@@ -60,7 +60,7 @@ fn stamped(bytes: &[u8], wanted: usize) -> Good {
 /// The stamp at the front, and two counts and a body at the end.
 fn proposed(bytes: &[u8], counts_place: usize) -> Good {
     let body_place = counts_place + 2;
-    at_least(bytes, body_place + ACCESS_BYTES)?;
+    at_least(bytes, body_place, ACCESS_BYTES)?;
     let counts = (bytes[counts_place], bytes[counts_place + 1]);
     body::counts(counts.0, counts.1, counts_place)?;
     let accesses = usize::from(counts.0) + usize::from(counts.1);
@@ -112,7 +112,7 @@ fn read(bytes: &[u8]) -> Good {
 /// "The image must be normal, view v, box v mod n, the same n, start rows equal to rows, prepare bytes 0 or 5 to 8, outcomes 0, 3
 /// or 4"
 fn started(bytes: &[u8], n: Option<u8>) -> Good {
-    at_least(bytes, IMAGE_PLACE + HEADER_BYTES)?;
+    at_least(bytes, IMAGE_PLACE, HEADER_BYTES)?;
     let rest = &bytes[IMAGE_PLACE..];
     let image = match calls::image_in(rest) {
         Some(image) => image,

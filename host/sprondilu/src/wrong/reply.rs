@@ -58,7 +58,11 @@ fn answer(found: &Reply) -> Good {
     }
 }
 
+/// "6 with v below promised or at or below view" is an old view: no box starts view 0.
 fn started(found: &Reply) -> Good {
+    ensure(found.view > 0, 4, || {
+        "the view that was started is 0, in which boxes begin".to_string()
+    })?;
     ensure(found.stamp == 0, 8, || {
         "the stamp of a view that was started is 0".to_string()
     })?;

@@ -29,7 +29,7 @@ pub fn image(bytes: &[u8]) -> Good {
 fn header(bytes: &[u8]) -> Good {
     let end = bytes.len();
     ensure(end > 0, end, || {
-        "the file is empty, and the header of a table has 24 bytes".to_string()
+        "there is nothing here, and the header of a table has 24 bytes".to_string()
     })?;
     ensure(bytes[0] == 1, 0, || {
         format!("the format is {}, and the only one is 1", bytes[0])

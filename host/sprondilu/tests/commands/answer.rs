@@ -1,0 +1,413 @@
+//! `answer`
+
+use super::show::assert_reply;
+use crate::common::boxes::{long_table, settled};
+use crate::common::json::Value;
+use crate::common::ran::{bad_usage, not_tried, refused};
+use crate::common::{answered, fresh, hex, run, Folder, History};
+use samples::{damage, message as make, random, Dice, Row};
+
+/// "After message 1 with stamp 65,537 and one write, register 5, value 7: rows 1, length 57 [..]"
+#[test]
+fn the_bytes_of_the_paper() {
+    let folder = Folder::new();
+    run(&folder, "fresh --n 3 --box 0 zero.table").done();
+    run(&folder, "message propose-prepare 65537 write 5=7 --out m").done();
+    let ran = run(&folder, "answer zero.table m --reply r").done();
+    assert!(ran
+        .out
+        .contains("0 done: box 0 in view 0: tentative OK for 1:1"));
+    let header = [&[1, 0, 3, 0, 0, 0, 0, 1][..], &[0; 12], &[0, 0, 0, 57]].concat();
+    let row = [
+        &[0, 0, 0, 0, 0, 1, 0, 1][..],
+        &[0; 8],
+        &[0, 0, 0, 48, 0, 1, 1, 0],
+    ]
+    .concat();
+    let body = vec![5, 0, 0, 0, 0, 0, 0, 0, 7];
+    assert_eq!(folder.bytes("zero.table"), [header, row, body].concat());
+    let reply = [
+        &[0, 1, 0, 1, 0, 0, 0, 0][..],
+        &[0, 0, 0, 0, 0, 1, 0, 1],
+        &[0; 8],
+    ]
+    .concat();
+    assert_eq!(folder.bytes("r"), reply);
+    assert_eq!(folder.names(), ["m", "r", "zero.table"]);
+}
+
+/// Long histories of one table file: number, name, table file and reply file are those of the second program.
+#[test]
+fn histories_are_those_of_the_second_program() {
+    let mut met = [0; 12];
+    for seed in 1..29 {
+        let folder = Folder::new();
+        let mut history = History::seeded(seed);
+        folder.put("t", &history.image);
+        for _ in 0..25 {
+            met[usize::from(asked(&folder, &mut history))] += 1;
+        }
+        assert_eq!(folder.names(), ["m", "r", "t"]);
+    }
+    // Every number that a box gives to a whole table; 1 and 11 are none of them.
+    let given = [
+        met[0], met[3], met[4], met[5], met[6], met[7], met[8], met[9], met[10],
+    ];
+    assert!(given.iter().all(|times| *times > 2), "{:?}", met);
+    assert_eq!((met[1], met[2], met[11]), (0, 0, 0));
+}
+
+/// Has one message answered by the program and the second program.
+fn asked(folder: &Folder, history: &mut History) -> u8 {
+    let message = history.message();
+    let before = history.image.clone();
+    let (number, reply) = history.answer(&message);
+    folder.put("m", &message);
+    let inode = folder.inode("t");
+    let ran = run(folder, "answer t m --json --reply r --replace");
+    assert_eq!(
+        folder.bytes("t"),
+        history.image,
+        "{:02x?}: {:?}",
+        message,
+        ran
+    );
+    assert_eq!(folder.bytes("r"), reply, "{:02x?}: {:?}", message, ran);
+    let changed = before != history.image;
+    assert_eq!(folder.inode("t") != inode, changed, "{:?}", ran);
+    let told = ran.json();
+    assert_eq!(told.text("reply"), Some(&*hex(&reply)));
+    assert_eq!(told.text("reply_file"), Some("r"));
+    assert_eq!(told.at(&["table_changed"]), &Value::Bool(changed));
+    if number != 0 {
+        ran.refused_json(number);
+        return number;
+    }
+    ran.done();
+    assert_reply(&told, &reply);
+    assert_gone(&told, &before, &history.image);
+    number
+}
+
+/// The rows that the table had and has no more are told, each of them and no other.
+fn assert_gone(told: &Value, before: &[u8], after: &[u8]) {
+    let rows = |image: &[u8]| reference::Table::parse(image).expect("a table").0.rows;
+    let (before, after) = (rows(before), rows(after));
+    let gone = before.keys().filter(|stamp| !after.contains_key(stamp));
+    let told = told.list("rows_gone").iter();
+    let told = told.map(|row| row.number("stamp").expect("a stamp"));
+    assert!(told.eq(gone.copied()));
+}
+
+/// "The box takes it whole": what it alone had heard of is gone, and is not gone silently.
+#[test]
+fn rows_that_a_start_takes_away_are_named() {
+    let folder = Folder::new();
+    let (normal, _) = held();
+    folder.put("t", &normal);
+    let mut rows = reference::Table::parse(&settled(&normal, 9))
+        .expect("a table")
+        .0;
+    rows.rows.remove(&(65_536 + 1));
+    rows.rows.remove(&(3 * 65_536 + 1));
+    rows.start_rows = rows.rows.len();
+    folder.put("m", &make::start_view(9, &rows.image()));
+    let out = run(&folder, "answer t m").done().out;
+    let gone = "; not in the table of the view, and so gone: 2 rows: \
+                1:1 tentative OK, none, write 5=7; 3:1 none, abort noted, write 5=7\n";
+    assert!(out.ends_with(gone), "{}", out);
+    folder.put("t", &normal);
+    let told = run(&folder, "answer t m --json").done().json();
+    assert_gone(&told, &normal, &folder.bytes("t"));
+    assert_eq!(told.list("rows_gone").len(), 2);
+}
+
+/// A read says what was asked, which the reply does not have.
+#[test]
+fn a_read_names_its_register_and_stamp() {
+    let folder = Folder::new();
+    folder.put("t", &held().0);
+    for (words, says, version) in [
+        (
+            "read 2:9 register 5",
+            "register 5 as of 2:9: 7, written by 2:1",
+            Some(131_073),
+        ),
+        (
+            "read 1:9 register 5",
+            "register 5 as of 1:9: never written",
+            None,
+        ),
+    ] {
+        run(&folder, &format!("message {} --out m --replace", words)).done();
+        let out = run(&folder, "answer t m").done().out;
+        assert!(out.contains(says), "{}", out);
+        let told = run(&folder, "answer t m --json").done().json();
+        assert_eq!(told.number("register"), Some(5));
+        assert!(told.number("read_stamp").is_some());
+        assert_eq!(told.number("version"), version);
+        assert_eq!(told.text("value"), version.map(|_| "7"));
+    }
+}
+
+/// The file that is wrong is named, and what it is instead.
+#[test]
+fn files_in_the_wrong_place_are_named() {
+    let folder = Folder::new();
+    folder.put("t", &held().0);
+    folder.put("m", &make::read(9, 5));
+    run(&folder, "answer t m --reply r").done();
+    for (line, says) in [
+        ("answer t t", "t: refused with 3 bad message: "),
+        ("answer t r", "r: refused with 3 bad message: "),
+        ("answer m t", "m: refused with 2 bad table: "),
+        ("answer r m", "r: refused with 2 bad table: "),
+        ("show m", "m: refused with 2 bad table: "),
+        ("check --message t", "t: refused with 3 bad message: "),
+        ("show --reply m", "m: refused with 3 bad message: "),
+    ] {
+        let ran = run(&folder, line);
+        assert!(ran.out.starts_with(says), "{:?}", ran);
+        let what = match &says[..1] {
+            "t" => "(the file is a table)\n",
+            "m" => "(the file is a message)\n",
+            _ => "(the file is a reply)\n",
+        };
+        assert!(ran.out.ends_with(what), "{:?}", ran);
+    }
+}
+
+/// A normal table of box 0 of 3 in view 4, and the changing one that it becomes for view 9. It holds 1:1 with a tentative OK, 2:1
+/// with a final one and commit done, 3:1 with abort noted and no prepare.
+fn held() -> (Vec<u8>, Vec<u8>) {
+    let mut rows: Vec<Row> = [1, 5, 0].map(samples::row_of_the_paper).to_vec();
+    for (time, row) in (1..).zip(&mut rows) {
+        row.stamp = time * 65_536 + 1;
+        row.outcome = [0, 3, 2][time as usize - 1];
+    }
+    let table = samples::Table {
+        box_number: 0,
+        n: 3,
+        mode: 0,
+        view: 4,
+        promised: 4,
+        start_rows: 0,
+        rows,
+    };
+    let normal = table.image();
+    let changing = answered(&normal, &make::change_view(9)).1;
+    (normal, changing)
+}
+
+/// Every number that a box gives, each in each of its circumstances: the message in words, and what the reason has to say.
+const REFUSED: [(bool, u8, &str, &str); 23] = [
+    (true, 4, "propose-prepare 1:1 write 5=7", "promised view 9"),
+    (true, 4, "finalise-prepare 1:1 view 4 OK", "promised view 9"),
+    (
+        true,
+        4,
+        "propose-outcome 1:1 commit write 5=7",
+        "promised view 9",
+    ),
+    (
+        true,
+        4,
+        "finalise-outcome 2:1 view 4 commit",
+        "promised view 9",
+    ),
+    (true, 4, "read 1:1 register 5", "left view 4"),
+    (false, 5, "propose-prepare 1:1 write 5=8", "write 5=7"),
+    (false, 5, "propose-prepare 3:1 read 1@0", "3:1"),
+    (false, 5, "propose-outcome 2:1 commit write 6=7", "2:1"),
+    (false, 6, "finalise-prepare 2:1 view 4 ABORT", "final OK"),
+    (
+        false,
+        6,
+        "finalise-prepare 2:1 view 4 RETRY 2:1",
+        "RETRY 2:1",
+    ),
+    (
+        false,
+        6,
+        "propose-outcome 2:1 abort write 5=7",
+        "commit done",
+    ),
+    (
+        false,
+        6,
+        "propose-outcome 3:1 commit write 5=7",
+        "abort noted",
+    ),
+    (
+        false,
+        6,
+        "finalise-outcome 3:1 view 4 commit",
+        "says commit",
+    ),
+    (false, 8, "finalise-prepare 9:1 view 4 OK", "no row of 9:1"),
+    (false, 8, "finalise-prepare 3:1 view 4 OK", "no prepare"),
+    (
+        false,
+        8,
+        "finalise-outcome 9:1 view 4 abort",
+        "no row of 9:1",
+    ),
+    (false, 8, "finalise-outcome 1:1 view 4 abort", "no outcome"),
+    (false, 9, "finalise-prepare 1:1 view 3 OK", "view 4"),
+    (false, 9, "finalise-outcome 2:1 view 5 commit", "view 5"),
+    (false, 10, "change-view 4", "promised view 4"),
+    (false, 10, "change-view 0", "view 0"),
+    (true, 10, "change-view 9", "promised view 9"),
+    (true, 10, "change-view 5", "view 5"),
+];
+
+#[test]
+fn refusals_of_messages_1_to_5_and_7() {
+    let folder = Folder::new();
+    let (normal, changing) = held();
+    for (is_changing, number, words, reason_says) in REFUSED {
+        folder.put("t", if is_changing { &changing } else { &normal });
+        run(&folder, &format!("message {} --out m --replace", words)).done();
+        let (reason, _) = refused(&folder, "answer t m", number);
+        assert!(reason.contains(reason_says), "{}: {}", words, reason);
+        assert_refusal_is_replied(&folder, number);
+    }
+}
+
+/// The reply of a refusal is written where one is asked for: "the number in byte 0 and 23 zero bytes".
+fn assert_refusal_is_replied(folder: &Folder, number: u8) {
+    let table = folder.bytes("t");
+    run(folder, "answer t m --reply r").refused(number);
+    let mut reply = vec![0; 24];
+    reply[0] = number;
+    assert_eq!(folder.bytes("r"), reply);
+    assert_eq!(folder.bytes("t"), table);
+    folder.remove("r");
+}
+
+/// A bad table, a bad message, a full table, and views that are started too late.
+#[test]
+fn refusals_2_3_7_and_10_of_message_6() {
+    let folder = Folder::new();
+    let (normal, changing) = held();
+    let image = settled(&fresh(3, 0), 9);
+    let eight = settled(&fresh(3, 0), 8);
+    let four = settled(&fresh(3, 0), 4);
+    let fives = settled(&fresh(5, 0), 9);
+    let row = samples::row_of_the_paper(0);
+    let prepare = make::propose_prepare(&row);
+    let full = long_table(512);
+    let new = make::propose_outcome(&Row { stamp: 5, ..row }, 1);
+    let cases: [(&[u8], Vec<u8>, u8, &str); 9] = [
+        (&normal[1..], prepare.clone(), 2, "format"),
+        (&normal[..normal.len() - 1], vec![9], 2, "ends here"),
+        (&normal, prepare[1..].to_vec(), 3, "at byte 0"),
+        (&changing, vec![9], 3, "kind is 9"),
+        (&normal, make::start_view(9, &fives), 3, "group of 5"),
+        (&full, new, 7, "512 rows"),
+        (
+            &changing,
+            make::start_view(8, &eight),
+            10,
+            "promised view 9",
+        ),
+        (&normal, make::start_view(4, &four), 10, "in view 4"),
+        (&normal, make::change_view(4), 10, "view 4"),
+    ];
+    for (table, message, number, reason_says) in cases {
+        folder.put("t", table);
+        folder.put("m", &message);
+        let (reason, _) = refused(&folder, "answer t m", number);
+        assert!(reason.contains(reason_says), "{}: {}", number, reason);
+        assert_refusal_is_replied(&folder, number);
+    }
+    folder.put("t", &changing);
+    folder.put("m", &make::start_view(9, &image));
+    run(&folder, "answer t m").done();
+    assert_eq!(folder.bytes("t"), image);
+}
+
+/// Tables with a rule broken anywhere: 2, before anything that is wrong with the message.
+#[test]
+fn damaged_tables_are_refused_before_anything_else() {
+    let folder = Folder::new();
+    let mut dice = Dice::seeded(51);
+    for turn in 0..40 {
+        let mut image = random::table(&mut dice, turn % 4).image();
+        damage::spoil(&mut dice, &mut image);
+        if reference::Table::parse(&image).is_some() {
+            continue;
+        }
+        folder.put("t", &image);
+        folder.put("m", &dice.bytes(turn));
+        refused(&folder, "answer t m", 2);
+        assert_refusal_is_replied(&folder, 2);
+    }
+}
+
+/// The same message a second time: the same reply for messages 1 to 4 and 7, and for a view "old view".
+#[test]
+fn the_same_message_again() {
+    let folder = Folder::new();
+    let started = settled(&fresh(3, 0), 10);
+    for (words, again) in [
+        ("propose-prepare 9:1 read 5@2:1 write 5=8", 0),
+        ("finalise-prepare 1:1 view 4 ABSTAIN", 0),
+        ("propose-outcome 1:1 abort write 5=7", 0),
+        ("finalise-outcome 3:1 view 4 abort", 0),
+        ("read 9:1 register 5", 0),
+        ("change-view 10", 10),
+        ("start-view 10 started", 10),
+    ] {
+        folder.put("t", &held().0);
+        folder.put("started", &started);
+        run(&folder, &format!("message {} --out m --replace", words)).done();
+        run(&folder, "answer t m --reply first").done();
+        let table = folder.bytes("t");
+        let ran = run(&folder, "answer t m --reply second");
+        if again == 0 {
+            ran.done();
+            assert_eq!(folder.bytes("second"), folder.bytes("first"), "{}", words);
+        } else {
+            ran.refused(again);
+        }
+        assert_eq!(folder.bytes("t"), table);
+        folder.remove("first");
+        folder.remove("second");
+    }
+}
+
+#[test]
+fn words_that_make_no_sense() {
+    let folder = Folder::new();
+    folder.put("t", &fresh(3, 0));
+    folder.put("m", &make::change_view(1));
+    for (line, words) in [
+        ("answer", "the table file is missing"),
+        ("answer t", "the message file is missing"),
+        ("answer t m m", "'m' is one word too many"),
+        ("answer t m --out r", "there is no option --out"),
+        (
+            "answer t m --replace",
+            "--replace is for the file of --reply",
+        ),
+        ("answer t m --reply r --reply s", "--reply is given twice"),
+        (
+            "answer t m --reply t",
+            "written over the table or the message",
+        ),
+        (
+            "answer t m --reply m --replace",
+            "written over the table or the message",
+        ),
+        (
+            "answer t m --reply ./t --replace",
+            "written over the table or the message",
+        ),
+    ] {
+        bad_usage(&folder, line, words);
+    }
+    run(&folder, "answer t m --reply").bad_usage("--reply needs a value");
+    not_tried(&folder, "answer missing m", "cannot read missing");
+    not_tried(&folder, "answer t missing", "cannot read missing");
+}
