@@ -37,11 +37,12 @@ fn register(row: &Row) -> u8 {
 
 /// A message by the rules but for its kind, 0 or 8 to 255.
 fn unknown(dice: &mut Dice, row: &Row) -> Vec<u8> {
-    let mut message = dice.one_of(&[
+    let made: [fn(&Row) -> Vec<u8>; 3] = [
         make::propose_prepare,
-        |row: &Row| make::read(row.stamp, 0),
-        |row: &Row| make::change_view(row.stamp as u32),
-    ])(row);
+        |row| make::read(row.stamp, 0),
+        |row| make::change_view(row.stamp as u32),
+    ];
+    let mut message = dice.one_of(&made)(row);
     message[0] = (dice.below(249) as u8).wrapping_add(8);
     message
 }

@@ -61,8 +61,6 @@ fn what_is_no_file_is_not_read() {
 #[test]
 fn endless_and_huge_files_are_refused() {
     let folder = good_files();
-    let huge = File::create(folder.at("huge")).expect("a file");
-    huge.set_len(1 << 40).expect("a file with a hole in it");
     for (line, _) in READERS {
         // A table file has to be one that another can take the place of.
         let words = if line.starts_with("answer FILE") {
@@ -72,6 +70,9 @@ fn endless_and_huge_files_are_refused() {
         };
         not_tried(&folder, &line.replace("FILE", "/dev/zero"), words);
     }
+    // Nobody reads this one, the test neither.
+    let huge = File::create(folder.at("huge")).expect("a file");
+    huge.set_len(1 << 40).expect("a file with a hole in it");
     for (line, _) in READERS {
         let output = crate::common::run(&folder, &line.replace("FILE", "huge"));
         output.not_tried("huge has more than");
