@@ -1,7 +1,7 @@
 //! Validity against the second program: number and length, on images of many kinds, good and bad.
 
 use samples::damage::{self, ALWAYS_IMAGES, NEVER_IMAGES};
-use samples::{random, Dice, Table, Tally, MOST_ROWS, TABLE_BYTES};
+use samples::{random, Dice, Tally, MOST_ROWS, TABLE_BYTES};
 
 /// The answer that the second program's verdict is coded as.
 fn expected(bytes: &[u8]) -> u64 {
@@ -30,14 +30,6 @@ fn judged(kind: &str, bytes: &[u8]) -> bool {
 /// Judges and counts.
 fn counting(tally: &mut Tally) -> impl FnMut(&str, &[u8]) + '_ {
     move |kind, bytes| tally.count(kind, judged(kind, bytes))
-}
-
-/// Tables of three to eight rows, in which every field about which a sample asks can stand.
-fn small_tables(seed: u64, count: usize) -> (Dice, Vec<Table>) {
-    let mut dice = Dice::seeded(seed);
-    let tables = (0..count).map(|place| random::table(&mut dice, 3 + place % 6));
-    let tables = tables.collect();
-    (dice, tables)
 }
 
 #[test]
@@ -73,7 +65,7 @@ fn rows_are_512_at_most() {
 
 #[test]
 fn each_field_is_held_to_its_rules() {
-    let (mut dice, tables) = small_tables(4, 60);
+    let (mut dice, tables) = random::small_tables(4, 60);
     let mut tally = Tally::default();
     for table in &tables {
         damage::fields_overwritten(table, &[], &mut counting(&mut tally));
@@ -101,7 +93,7 @@ fn each_field_of_a_large_table_is_held_to_its_rules() {
 
 #[test]
 fn some_fields_at_once_are_held_to_their_rules() {
-    let (mut dice, tables) = small_tables(6, 500);
+    let (mut dice, tables) = random::small_tables(6, 500);
     let mut tally = Tally::default();
     for table in &tables {
         damage::some_fields_overwritten(&mut dice, table, 100, &mut counting(&mut tally));
@@ -111,7 +103,7 @@ fn some_fields_at_once_are_held_to_their_rules() {
 
 #[test]
 fn boxes_modes_and_codes_are_held_to_their_rules() {
-    let (_, tables) = small_tables(7, 6);
+    let (_, tables) = random::small_tables(7, 6);
     let mut tally = Tally::default();
     for table in &tables {
         damage::every_mode(table, &mut counting(&mut tally));
@@ -127,7 +119,7 @@ fn boxes_modes_and_codes_are_held_to_their_rules() {
 
 #[test]
 fn counts_and_bodies_are_held_to_their_rules() {
-    let (mut dice, tables) = small_tables(8, 200);
+    let (mut dice, tables) = random::small_tables(8, 200);
     let mut tally = Tally::default();
     for table in &tables {
         let judge = &mut counting(&mut tally);

@@ -14,6 +14,14 @@ pub fn table(dice: &mut Dice, rows: usize) -> Table {
     table_with(dice, rows, any_counts)
 }
 
+/// Tables of three to eight rows, in which every field about which a sample asks can stand, and the dice that made them.
+pub fn small_tables(seed: u64, count: usize) -> (Dice, Vec<Table>) {
+    let mut dice = Dice::seeded(seed);
+    let tables = (0..count).map(|place| table(&mut dice, 3 + place % 6));
+    let tables = tables.collect();
+    (dice, tables)
+}
+
 /// A table of so many rows with the longest bodies, so that each row takes 96 bytes.
 pub fn full_table(dice: &mut Dice, rows: usize) -> Table {
     table_with(dice, rows, |_| (4, 4))

@@ -1,20 +1,20 @@
 //! `check`: whether a file is well formed, and if not, what is wrong and at which byte.
 
+use super::Kind;
 use crate::ends::Stop;
 use crate::image::Header;
 use crate::json::Json;
 use crate::reply::Reply;
-use crate::words::{usage, Words};
+use crate::words::Words;
 use crate::{calls, files, names, wrong};
 use std::path::Path;
 
 pub fn run(words: &Words) -> Result<(String, Json), Stop> {
     let [path] = words.files(["the file"])?;
-    match (words.has("--message"), words.has("--reply")) {
-        (false, false) => table(&path),
-        (true, false) => message(&path),
-        (false, true) => reply(&path),
-        (true, true) => Err(usage("--message and --reply at once")),
+    match Kind::of(words)? {
+        Kind::Table => table(&path),
+        Kind::Message => message(&path),
+        Kind::Reply => reply(&path),
     }
 }
 

@@ -112,6 +112,25 @@ fn stopped(stop: Stop) -> Ended {
     Ended::Stopped(stop, false)
 }
 
+/// What a file is said to be.
+enum Kind {
+    Table,
+    Message,
+    Reply,
+}
+
+impl Kind {
+    /// A table, if nothing else is said.
+    fn of(words: &Words) -> Result<Kind, Stop> {
+        match (words.has("--message"), words.has("--reply")) {
+            (false, false) => Ok(Kind::Table),
+            (true, false) => Ok(Kind::Message),
+            (false, true) => Ok(Kind::Reply),
+            (true, true) => Err(usage("--message and --reply at once")),
+        }
+    }
+}
+
 /// How the JSON of what is done begins.
 fn done_json() -> Vec<(&'static str, Json)> {
     vec![

@@ -1,22 +1,21 @@
 //! `show`: a file for people.
 
-use super::check;
+use super::{check, Kind};
 use crate::ends::Stop;
 use crate::image::{Row, Table};
 use crate::json::Json;
 use crate::message::Message;
-use crate::words::{usage, Words};
+use crate::words::Words;
 use crate::{names, stamps};
 use std::fmt::Write;
 use std::path::Path;
 
 pub fn run(words: &Words) -> Result<(String, Json), Stop> {
     let [path] = words.files(["the file"])?;
-    match (words.has("--message"), words.has("--reply")) {
-        (false, false) => table(&path),
-        (true, false) => message(&path),
-        (false, true) => reply(&path),
-        (true, true) => Err(usage("--message and --reply at once")),
+    match Kind::of(words)? {
+        Kind::Table => table(&path),
+        Kind::Message => message(&path),
+        Kind::Reply => reply(&path),
     }
 }
 

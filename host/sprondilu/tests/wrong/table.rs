@@ -30,16 +30,9 @@ fn counting(tally: &mut Tally) -> impl FnMut(&str, &[u8]) + '_ {
     move |kind, bytes| tally.count(kind, judged(kind, bytes))
 }
 
-fn small_tables(seed: u64, count: usize) -> (Dice, Vec<Table>) {
-    let mut dice = Dice::seeded(seed);
-    let tables = (0..count).map(|place| random::table(&mut dice, 3 + place % 6));
-    let tables = tables.collect();
-    (dice, tables)
-}
-
 #[test]
 fn each_field_is_judged_as_by_the_library() {
-    let (mut dice, tables) = small_tables(104, 14);
+    let (mut dice, tables) = random::small_tables(104, 14);
     let mut tally = Tally::default();
     for table in &tables {
         damage::fields_overwritten(table, &[], &mut counting(&mut tally));
@@ -53,7 +46,7 @@ fn each_field_is_judged_as_by_the_library() {
 
 #[test]
 fn boxes_modes_codes_and_bodies_are_judged_as_by_the_library() {
-    let (mut dice, tables) = small_tables(105, 30);
+    let (mut dice, tables) = random::small_tables(105, 30);
     let mut tally = Tally::default();
     damage::every_box(&tables[0], &mut counting(&mut tally));
     damage::every_code(&tables[0], 1, &mut counting(&mut tally));
@@ -147,7 +140,7 @@ fn places(table: &Table, field: &Field, end: usize) -> Vec<Range<usize>> {
 /// One field with another value: what is wrong is named there.
 #[test]
 fn the_byte_that_is_named_is_in_the_damaged_field() {
-    let (mut dice, tables) = small_tables(108, 60);
+    let (mut dice, tables) = random::small_tables(108, 60);
     let mut met: BTreeMap<String, (u64, u64)> = BTreeMap::new();
     for table in &tables {
         let behind = dice.one_of(&[0, 200]);
