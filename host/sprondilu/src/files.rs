@@ -4,7 +4,6 @@
 //! happens wholly or not at all; then the folder is synced. So there is at every moment the old file whole or the new one
 //! whole under its name, and when a command says that it is done, the new one is on the disk.
 
-use crate::calls;
 use crate::ends::Stop;
 use std::fs::{self, File, Metadata, OpenOptions};
 use std::io::{self, ErrorKind, Read, Write};
@@ -106,20 +105,32 @@ fn sync_folder_of(path: &Path) -> io::Result<()> {
     File::open(folder_of(path))?.sync_all()
 }
 
-/// Sees to it that a file which was read is found under its name after a power cut too: whoever put it there may have been stopped
-/// before he did.
+/// Sees to it that a file which was read is there after a power cut too: whoever put it there may have been stopped before he did,
+/// or may have been another program.
 pub fn settle(path: &Path) -> Result<(), Stop> {
     let real = path.canonicalize();
-    let synced = real.and_then(|real| sync_folder_of(&real));
-    synced.map_err(|error| trouble("sync the folder of", path, &error))
+    let synced = real.and_then(|real| {
+        File::open(&real)?.sync_all()?;
+        sync_folder_of(&real)
+    });
+    synced.map_err(|error| trouble("sync", path, &error))
 }
 
+/// Whether there is something under a name, be it a link that leads nowhere.
 fn is_there(path: &Path) -> bool {
     fs::symlink_metadata(path).is_ok()
 }
 
+/// What a new file may be written over.
+#[derive(Clone, Copy)]
+pub enum Over {
+    Nothing,
+    /// A file of the same kind, which is named, or an empty one.
+    Same(&'static str, fn(&[u8]) -> bool),
+}
+
 /// Whether a new file may be written there: its folder is there, and nothing is under its name, or what may be replaced.
-pub fn may_create(path: &Path, replace: bool) -> Result<(), Stop> {
+pub fn may_create(path: &Path, over: Over) -> Result<(), Stop> {
     let cannot = |why: &str| {
         Err(Stop::Trouble(format!(
             "cannot write {}: {}",
@@ -139,15 +150,26 @@ pub fn may_create(path: &Path, replace: bool) -> Result<(), Stop> {
     if !folder_of(path).is_dir() {
         return cannot("its folder is not there");
     }
-    match fs::symlink_metadata(path) {
-        Err(_) => Ok(()),
-        Ok(_) if !replace => Err(exists(path)),
-        // Whatever a user types: a table may hold a season.
-        Ok(_) if calls::image_in(&read(path)?).is_some() => {
-            cannot("it begins with a table, and a table is never written over")
-        }
-        Ok(_) => Ok(()),
+    match over {
+        _ if !is_there(path) => Ok(()),
+        Over::Nothing => Err(exists(path)),
+        Over::Same(what, is_one) => may_replace(path, what, is_one),
     }
+}
+
+/// Whatever a user types, what is no message or no reply may be somebody's season, whole or damaged.
+fn may_replace(path: &Path, what: &str, is_one: fn(&[u8]) -> bool) -> Result<(), Stop> {
+    let about = fs::metadata(path).map_err(|error| trouble("write", path, &error))?;
+    is_replaceable("write", &about, path)?;
+    let bytes = read(path)?;
+    if bytes.is_empty() || is_one(&bytes) {
+        return Ok(());
+    }
+    Err(Stop::Trouble(format!(
+        "cannot write {}: what is there is no {}, and is not written over",
+        path.display(),
+        what
+    )))
 }
 
 fn exists(path: &Path) -> Stop {
@@ -157,11 +179,11 @@ fn exists(path: &Path) -> Stop {
     ))
 }
 
-/// Writes a new file. What stands there already stays, unless it is to be replaced.
-pub fn create(path: &Path, bytes: &[u8], replace: bool) -> Result<(), Stop> {
-    may_create(path, replace)?;
+/// Writes a new file, over nothing or over what may be replaced.
+pub fn create(path: &Path, bytes: &[u8], over: Over) -> Result<(), Stop> {
+    may_create(path, over)?;
     let draft = Draft::write(path, bytes, None).map_err(|error| trouble("write", path, &error))?;
-    let placed = if replace {
+    let placed = if is_there(path) && !matches!(over, Over::Nothing) {
         fs::rename(&draft.path, path)
     } else {
         place_new(&draft.path, path)
@@ -174,11 +196,16 @@ pub fn create(path: &Path, bytes: &[u8], replace: bool) -> Result<(), Stop> {
 }
 
 /// A second name for a file fails if somebody has that name, also if he took it just now. Some file systems know no second
-/// names: there the name is looked for and then taken.
+/// names: there the name is taken first, by an empty file, and the draft put in its place.
 fn place_new(draft: &Path, path: &Path) -> io::Result<()> {
     match fs::hard_link(draft, path) {
-        Err(error) if error.kind() != ErrorKind::AlreadyExists && !is_there(path) => {
-            fs::rename(draft, path)
+        Err(error) if error.kind() != ErrorKind::AlreadyExists => {
+            OpenOptions::new().write(true).create_new(true).open(path)?;
+            let placed = fs::rename(draft, path);
+            if placed.is_err() {
+                let _ = fs::remove_file(path);
+            }
+            placed
         }
         other => other,
     }
@@ -205,7 +232,7 @@ impl Held {
             let path = name.canonicalize().map_err(cannot)?;
             let (file, is_writable) = open_to_change(&path).map_err(cannot)?;
             let ours = file.metadata().map_err(cannot)?;
-            is_replaceable(&ours, name)?;
+            is_replaceable("read", &ours, name)?;
             system::lock(&file).map_err(|error| trouble("lock", name, &error))?;
             let same = |there: Metadata| (there.dev(), there.ino()) == (ours.dev(), ours.ino());
             if !fs::metadata(&path).map_or(false, same) {
@@ -236,18 +263,27 @@ impl Held {
         let old = self.file.metadata().map_err(cannot)?;
         let draft = Draft::write(&self.path, bytes, Some(&old)).map_err(cannot)?;
         fs::rename(&draft.path, &self.path).map_err(cannot)?;
-        self.sync()
+        sync_folder_of(&self.path).map_err(|error| {
+            Stop::Trouble(format!(
+                "cannot sync the folder of {}: {}. The new table has its place, but may not outlast a power cut: no reply is \
+                 given, and the message is to be answered again",
+                self.path.display(),
+                error
+            ))
+        })
     }
 
-    /// Sees to it that the name leads to the file also after a power cut. The file itself was synced before it had the name.
+    /// Sees to it that the table which was read is there after a power cut too: the run that put it in its place may have been
+    /// stopped before it did, and a file that was copied there may not have been synced at all.
     pub fn sync(&self) -> Result<(), Stop> {
-        sync_folder_of(&self.path)
-            .map_err(|error| trouble("sync the folder of", &self.path, &error))
+        let synced = self.file.sync_all();
+        let synced = synced.and_then(|()| sync_folder_of(&self.path));
+        synced.map_err(|error| trouble("sync", &self.path, &error))
     }
 }
 
-/// A folder is no table file, and neither is a pipe or a device: nothing can be put in their place.
-fn is_replaceable(about: &Metadata, name: &Path) -> Result<(), Stop> {
+/// A folder, a pipe or a device is none: nothing can be put in their place.
+fn is_replaceable(doing: &str, about: &Metadata, name: &Path) -> Result<(), Stop> {
     if about.is_file() {
         return Ok(());
     }
@@ -257,7 +293,8 @@ fn is_replaceable(about: &Metadata, name: &Path) -> Result<(), Stop> {
         "it is no file that another could take the place of"
     };
     Err(Stop::Trouble(format!(
-        "cannot read {}: {}",
+        "cannot {} {}: {}",
+        doing,
         name.display(),
         what
     )))

@@ -12,7 +12,7 @@ sprondilu: season records of boxes, on files
 usage: sprondilu COMMAND ..
 
   show     a table file for people; also a message or a reply
-  check    whether a file is well formed; if not, what is wrong and at which byte
+  check    whether a file is well formed; if not, what is wrong, at which byte
   fresh    write the table file of a box that was never used
   message  write one of the seven messages from words
   answer   a box's answer to a message file, by its table file
@@ -37,8 +37,8 @@ are one number in it; values of registers are text, since they may have 64 bits.
 exit status
   0  done
   1  refused: the number, its name and the reason are printed
-  2  bad usage, or a file that cannot be read or written: the error is on the
-     standard error output, and nothing else is printed
+  2  bad usage, a file that cannot be read or written, or an answer that cannot
+     be printed: the error is on the standard error output
 ";
 
 const SHOW: &str = "\
@@ -50,8 +50,8 @@ the transaction reads and writes. 5@2:1 is register 5, read in the version that
 the transaction 2:1 wrote; 5@0 is register 5, which nobody had written before;
 5=7 is register 5, written with the value 7.
 
-A result that was declared on a fast count stays tentative in the tables until a
-merge makes it final; tentative OK beside a commit is in order.
+A result that was declared on a fast count stays tentative in the tables until
+message 2 or a merge makes it final; tentative OK beside a commit is in order.
 
   --message  the file is a message
   --reply    the file is a reply
@@ -102,6 +102,7 @@ hexadecimal digits.
   2 finalise-prepare STAMP view V RESULT
                      RESULT is OK, ABORT, ABSTAIN, or RETRY and a stamp
   3 propose-outcome  STAMP commit|abort [read ..] [write ..]
+                     like FILE commit|abort    for what a message proposes
   4 finalise-outcome STAMP view V commit|abort
   5 change-view      V
   6 start-view       V FILE      with the table file of the merge for view V
@@ -110,14 +111,16 @@ hexadecimal digits.
 The kind is the word, without its number. A body has up to 4 reads and up to 4
 writes and at least one of them; they are laid in the order of their registers.
 A version is the stamp of the write that was read, or 0 for never written.
-For example: sprondilu message propose-prepare 2:1 read 5@1:1 write 5=9 --out two.message
+For example:
+  sprondilu message propose-prepare 2:1 read 5@1:1 write 5=9 --out two.message
 
-Whether a message may be sent is not judged here. Nothing is lost, and no two
-committed transactions clash, if whoever sends messages keeps the seven rules,
-which README.md has.
+Whether a message may be sent is not judged here. What was declared final, or
+accepted by f+1 boxes in one view, is not lost, and no two committed
+transactions clash, if whoever sends messages keeps the seven rules, which
+README.md has, and sends one merge for a view.
 
   --out FILE  the file to write; one that is there already is not written over
-  --replace   it is, unless it begins with a table
+  --replace   it is, if it is a message or empty
   --json      for a program
 
 Refusals: 3 bad message, if what the words say is against the rules of a
@@ -130,7 +133,7 @@ usage: sprondilu answer TABLE MESSAGE [--reply FILE [--replace]] [--json]
 A box's answer to a message: the table file becomes what the message makes of
 it, and the reply is printed and, with --reply, written to a file, also if the
 box refuses. If a start-view takes rows away, they are named: what too few boxes
-had heard of is in no merge.
+had heard of may be missing in the merge.
 
 The table is written safely: to a new file, synced, and renamed over the old
 one, before any reply is given. A power cut leaves the old table whole or the
@@ -139,11 +142,13 @@ same reply; only messages 5 and 6, if they were stored, are then refused with 10
 old view. Two runs at once on one table file wait for each other. A refused
 message leaves the file alone, and so does one that changes nothing. A file that
 holds more than the table, such as a dump of a box's buffer, keeps what stands
-after it.
+after the longer of the old and the new table. A file with two names (a hard
+link) is replaced under the one that is named here, so that there are two tables
+then: give a table one name, or links that are symbolic.
 
   --reply FILE  the file for the reply's 24 bytes; one that is there already is
                 not written over
-  --replace     it is, unless it begins with a table
+  --replace     it is, if it is a reply or empty
   --json        for a program
 
 Refusals: 2 bad table, 3 bad message, 4 changing, 5 other body, 6 contradiction,
@@ -173,7 +178,7 @@ to: fast with a result, slow with one, or wait; and what may be done then. A
 reply by which a box refused holds no result: it is named and not counted.
 
   --n N   how many boxes the group has: 3, 5 or 7. Replies do not say it, so
-          a wrong N is not noticed
+          a wrong N may go unnoticed
   --json  for a program
 
 Refusals: 3 bad message (a bad N, a box outside the group or twice, unequal

@@ -22,6 +22,11 @@ pub fn how_many(number: usize, thing: &str) -> String {
     format!("{} {}{}", number, thing, if number == 1 { "" } else { "s" })
 }
 
+/// What is wrong with another n than groups have.
+pub fn bad_n(n: u8) -> String {
+    format!("n is {}, and groups have 3, 5 or 7 boxes", n)
+}
+
 /// The name of a number that a call returned.
 pub fn number(number: u8) -> &'static str {
     NUMBERS

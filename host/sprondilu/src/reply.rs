@@ -66,16 +66,27 @@ impl Reply {
         )
     }
 
-    /// What a reply numbered 0 says.
+    /// What a reply numbered 0 says, and about what.
     pub fn said(&self) -> String {
-        let about = stamps::short(self.stamp);
         match self.kind {
-            1 | 2 => format!("{} for {}", names::prepare(self.state, self.value), about),
-            3 | 4 => format!("{} for {}", names::outcome(self.state), about),
+            1..=4 => format!(
+                "{} for {}",
+                self.state_in_words(),
+                stamps::short(self.stamp)
+            ),
+            _ => self.state_in_words(),
+        }
+    }
+
+    /// What a reply numbered 0 says.
+    pub fn state_in_words(&self) -> String {
+        match self.kind {
+            1 | 2 => names::prepare(self.state, self.value),
+            3 | 4 => names::outcome(self.state).to_string(),
             5 => format!("promised view {}", self.stamp),
-            6 => format!("view {} started", self.view),
+            6 => format!("view {} has started", self.view),
             _ if self.stamp == 0 => "never written".to_string(),
-            _ => format!("{}, written by {}", self.value, about),
+            _ => format!("{}, written by {}", self.value, stamps::short(self.stamp)),
         }
     }
 

@@ -1,6 +1,7 @@
 //! The words of a command line: options with and without a value, and the rest in their order.
 
 use crate::ends::Stop;
+use crate::files::Over;
 use crate::stamps;
 use std::ffi::OsString;
 use std::path::{Path, PathBuf};
@@ -59,12 +60,19 @@ impl Words {
         self.value(option).map(Path::new)
     }
 
-    /// Whether the file behind an option may be replaced. Without that file there is nothing to replace.
-    pub fn may_replace(&self, option: &str) -> Result<bool, Stop> {
-        if self.has("--replace") && self.value(option).is_none() {
-            return Err(usage(format!("--replace is for the file of {}", option)));
+    /// What the file of an option may be written over: with `--replace`, another of its kind. Without that file there is nothing to
+    /// replace.
+    pub fn over(
+        &self,
+        option: &str,
+        what: &'static str,
+        is_one: fn(&[u8]) -> bool,
+    ) -> Result<Over, Stop> {
+        match (self.has("--replace"), self.value(option)) {
+            (false, _) => Ok(Over::Nothing),
+            (true, Some(_)) => Ok(Over::Same(what, is_one)),
+            (true, None) => Err(usage(format!("--replace is for the file of {}", option))),
         }
-        Ok(self.has("--replace"))
     }
 
     /// The number behind an option that has to be there, if it is no greater than this; `what` says which numbers make sense.

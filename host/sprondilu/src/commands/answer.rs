@@ -13,7 +13,9 @@ use std::path::{Path, PathBuf};
 
 pub fn run(words: &Words) -> Result<(String, Json), Stop> {
     let [table, message] = words.files(["the table file", "the message file"])?;
-    let replace = words.may_replace("--reply")?;
+    let over = words.over("--reply", "reply", |bytes| {
+        wrong::reply::reply(bytes).is_ok()
+    })?;
     let out = words.path("--reply");
     let bytes = files::read(&message)?;
     let held = Held::of(&table)?;
@@ -24,12 +26,12 @@ pub fn run(words: &Words) -> Result<(String, Json), Stop> {
             ));
         }
         // Before the table changes, not after.
-        files::may_create(out, replace)?;
+        files::may_create(out, over)?;
     }
     let answered = Answered::by(&held, &bytes);
     answered.store(&held)?;
     if let Some(out) = out {
-        let written = files::create(out, &answered.reply, replace);
+        let written = files::create(out, &answered.reply, over);
         written.map_err(|stop| answered.untold(stop))?;
     }
     let asked = Asked {
@@ -78,13 +80,13 @@ impl Answered {
         }
     }
 
-    /// What changed is on the disk before any reply is given. Where nothing changed, the reply rests on what another run has
-    /// stored, and that run may have been stopped before it synced the folder.
+    /// What changed is on the disk before any reply is given. Where nothing changed, the reply, and a refusal too, rests on what
+    /// is in the table; only of a bad table and a bad message it says nothing.
     fn store(&self, held: &Held) -> Result<(), Stop> {
         match &self.after {
             Some(bytes) => held.replace(bytes),
-            None if self.number == 0 => held.sync(),
-            None => Ok(()),
+            None if self.number == 2 || self.number == 3 => Ok(()),
+            None => held.sync(),
         }
     }
 
@@ -104,8 +106,8 @@ impl Answered {
         }
     }
 
-    /// The rows that the table had and has no more. Message 6 alone takes rows away: what too few boxes had heard of is in no
-    /// merge.
+    /// The rows that the table had and has no more. Message 6 alone takes rows away: what too few boxes had heard of may be missing
+    /// in the merge.
     fn gone(&self, held: &Held) -> Vec<Row> {
         let rows =
             |bytes: &[u8]| calls::image_in(bytes).map_or(Vec::new(), |image| Table::of(image).rows);

@@ -39,7 +39,6 @@ struct Heard {
     left_out: Vec<(String, u8)>,
     /// The stamp that they are about, with the file that said it first.
     about: Option<(u64, String)>,
-    confirmations: usize,
 }
 
 impl Heard {
@@ -57,9 +56,11 @@ impl Heard {
             )));
         }
         self.is_about(reply.stamp, &name)?;
-        self.confirmations += usize::from(reply.kind == 2);
-        let record = reply.record();
-        self.counted.push(Named { name, record });
+        self.counted.push(Named {
+            name,
+            record: reply.record(),
+            confirms: reply.kind == 2,
+        });
         Ok(())
     }
 
@@ -84,7 +85,11 @@ impl Heard {
     /// Rule 4: "confirmations (number 0) of message 2 by f+1 different boxes, in one view". The library has seen to it that the
     /// boxes differ and the view is one, and two final results would be a contradiction.
     fn is_confirmed(&self, n: u8) -> bool {
-        self.confirmations >= quorum(n)
+        self.confirmations() >= quorum(n)
+    }
+
+    fn confirmations(&self) -> usize {
+        self.counted.iter().filter(|reply| reply.confirms).count()
     }
 
     fn words(&self, n: u8, counted: Counted) -> String {
@@ -110,7 +115,7 @@ impl Heard {
                 text,
                 "{}: {} have confirmed final {} in this view: it may be declared final",
                 replies_of(how_many, n),
-                self.confirmations,
+                self.confirmations(),
                 names::result(result, retry_stamp)
             ),
             _ => writeln!(text, "{}", in_words(n, how_many, counted)),
@@ -137,7 +142,7 @@ impl Heard {
                 "left_out",
                 Json::List(self.left_out.iter().map(left_out_json).collect()),
             ),
-            ("confirmations", Json::from(self.confirmations)),
+            ("confirmations", Json::from(self.confirmations())),
         ]);
         fields.extend(counted_json(counted));
         fields.push(("may_declare", Json::Bool(is_fast || self.is_confirmed(n))));
@@ -171,6 +176,7 @@ fn reply_json(reply: &Named) -> Json {
     ];
     fields.extend(names::result_json(record.result, record.retry));
     fields.push(("final", Json::Bool(record.is_final != 0)));
+    fields.push(("confirms", Json::Bool(reply.confirms)));
     Json::Object(fields)
 }
 
@@ -218,7 +224,7 @@ pub fn in_words(n: u8, how_many: usize, counted: Counted) -> String {
             result,
             retry_stamp,
         } => format!(
-            "slow {}: it may be sent in message 2, and is final once {} have confirmed that",
+            "slow {}: it may be sent in message 2, if no other was in this view, and is final once {} confirm it",
             names::result(result, retry_stamp),
             quorum(n)
         ),

@@ -26,7 +26,7 @@ fn keep(folder: &Path, kept: &[(String, Vec<u8>)]) -> Result<(), Stop> {
         make(&folder.join(group))?;
     }
     for (name, bytes) in kept {
-        files::create(&folder.join(name), bytes, false)?;
+        files::create(&folder.join(name), bytes, files::Over::Nothing)?;
     }
     Ok(())
 }

@@ -1,9 +1,10 @@
 //! `fresh`: the table of a box that was never used.
 
 use crate::ends::Stop;
+use crate::files::Over;
 use crate::json::Json;
 use crate::words::Words;
-use crate::{calls, files};
+use crate::{calls, files, names};
 
 pub fn run(words: &Words) -> Result<(String, Json), Stop> {
     let [path] = words.files(["the file to write"])?;
@@ -13,7 +14,7 @@ pub fn run(words: &Words) -> Result<(String, Json), Stop> {
     let image = calls::fresh(n, box_number)
         .map_err(|number| super::refused(number, &file, why(n, box_number)))?;
     // A table that is there may hold entries: it is never written over.
-    files::create(&path, &image, false)?;
+    files::create(&path, &image, Over::Nothing)?;
     let length = image.len();
     let text = format!(
         "{}: fresh table of box {} of {}, {} bytes\n",
@@ -35,6 +36,6 @@ fn why(n: u8, box_number: u8) -> String {
             n - 1,
             box_number
         ),
-        _ => format!("n is {}, and groups have 3, 5 or 7 boxes", n),
+        _ => names::bad_n(n),
     }
 }

@@ -1,6 +1,7 @@
 //! `merge`: the table with which a view begins, from the table files of f+1 boxes.
 
 use crate::ends::Stop;
+use crate::files::Over;
 use crate::image::{Header, Table};
 use crate::json::Json;
 use crate::reasons::merge::{reason, Named};
@@ -21,11 +22,11 @@ pub fn run(words: &Words) -> Result<(String, Json), Stop> {
     if paths.is_empty() {
         return Err(usage("the table files of f+1 boxes are missing"));
     }
-    files::may_create(out, false)?;
+    files::may_create(out, Over::Nothing)?;
     let (run, tables) = read_all(&paths)?;
     let image = calls::merge(&run, view)
         .map_err(|number| super::refused(number, "the merge", reason(number, &tables, view)))?;
-    files::create(out, &image, false)?;
+    files::create(out, &image, Over::Nothing)?;
     Ok(told(out, &image))
 }
 

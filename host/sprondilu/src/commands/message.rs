@@ -9,7 +9,7 @@ use crate::{calls, files, names, wrong};
 use std::path::Path;
 
 pub fn run(words: &Words) -> Result<(String, Json), Stop> {
-    let replace = words.may_replace("--out")?;
+    let over = words.over("--out", "message", calls::is_message)?;
     let text = words.text();
     let mut rest = text.iter().map(String::as_str);
     let message = from_words(&mut rest, words)?;
@@ -24,7 +24,7 @@ pub fn run(words: &Words) -> Result<(String, Json), Stop> {
     let hex = super::answer::hex(&bytes);
     let told = match words.path("--out") {
         Some(out) => {
-            files::create(out, &bytes, replace)?;
+            files::create(out, &bytes, over)?;
             format!(
                 "{}: {} ({} bytes)\n",
                 out.display(),
@@ -70,6 +70,7 @@ fn from_words<'a>(
         None => Err(usage(no_such_kind(name))),
         Some(5) => Ok(Message::ChangeView { view: view(rest)? }),
         Some(6) => start_view(rest, words),
+        Some(3) if words.plain.get(1).map_or(false, |word| word == "like") => like(rest, words),
         Some(kind) => stamped(kind, rest),
     }
 }
@@ -149,6 +150,30 @@ fn result<'a>(rest: &mut impl Iterator<Item = &'a str>) -> Result<(u8, u64), Sto
         _ => Err(usage(format!(
             "a result is OK, ABORT, ABSTAIN or RETRY STAMP, not '{}'",
             word
+        ))),
+    }
+}
+
+/// `propose-outcome like FILE commit`: the transaction of a message file, which is safer than to type it again: "one stamp, one
+/// body".
+fn like<'a>(rest: &mut impl Iterator<Item = &'a str>, words: &Words) -> Result<Message, Stop> {
+    rest.next();
+    next(rest, "the message file")?;
+    let path = Path::new(&words.plain[2]);
+    let bytes = super::check::message_file(path)?;
+    match Message::of(&bytes) {
+        Message::ProposePrepare { stamp, body } | Message::ProposeOutcome { stamp, body, .. } => {
+            let verdict = verdict(rest)?;
+            Ok(Message::ProposeOutcome {
+                stamp,
+                verdict,
+                body,
+            })
+        }
+        other => Err(usage(format!(
+            "{} is a {}, and proposes no transaction",
+            path.display(),
+            names::kind(other.kind())
         ))),
     }
 }

@@ -1,7 +1,7 @@
 //! A group of five.
 
 use super::group::Group;
-use super::three::{at, body, fast, slow, ABORT, ABSTAIN, COMMIT, FINAL, OK};
+use super::parts::{at, body, fast, slow, ABORT, ABSTAIN, COMMIT, FINAL, OK};
 use super::Played;
 use crate::ends::Stop;
 use crate::image::Body;
@@ -27,16 +27,16 @@ pub fn play() -> Result<Played, Stop> {
 
 fn told_to_nobody(group: &mut Group) -> Result<(), Stop> {
     group.head("2.1 A fast result that nobody hears of");
-    group.say("Box 4 is away. Client 1 records 4 cubic metres in register 10.");
+    group.say("Box 4 is away. Client 3 records 4 cubic metres in register 10.");
     let propose = Message::ProposePrepare {
-        stamp: at(1, 1),
+        stamp: at(1, 3),
         body: body(10, None, 4),
     };
     let replies = group.send(&propose, &[0, 1, 2, 3], &[4]);
     group.count(&replies, fast(OK))?;
     group.say(
-        "OK is declared final. The client tells the grower that the water is recorded, and then its battery is empty: no box \
-         learns that the result is final, and no commit is sent. Four boxes have a tentative OK, and that is all.",
+        "OK is declared final, and client 3 writes that down. Then its battery is empty: no box learns that the result is \
+         final, and no commit is sent. Four boxes have a tentative OK, and that is all.",
     );
     Ok(())
 }
@@ -126,20 +126,23 @@ fn view_change(group: &mut Group) -> Result<(), Stop> {
     group.expect(&replies, 0, &[0; 3])?;
     let image = group.merge(1, &[2, 3, 4])?;
     group.say(
-        "Everything is there. 1:1 was declared because four of the five boxes said OK; so of any three tables two or more say \
+        "Everything is there. 1:3 was declared because four of the five boxes said OK; so of any three tables two or more say \
          it. By that the merge sees that it may have been declared, and keeps it. The commit of 5:1 stands in one of these \
          three tables; it was noted by three boxes, so of any three one or more have it, and a commit that is found is kept.",
     );
     let start = Message::StartView { view: 1, image };
-    let replies = group.send(&start, &ALL, &[]);
-    group.expect(&replies, 0, &[0; 5])?;
+    let replies = group.send(&start, &[2, 3, 4], &[]);
+    group.expect(&replies, 0, &[0; 3])?;
+    group.say("Boxes 0 and 1 come back, and take it too.");
+    let replies = group.send(&start, &[0, 1], &[]);
+    group.expect(&replies, 0, &[0; 2])?;
     group.all_the_same()
 }
 
 fn last_commit(group: &mut Group) -> Result<(), Stop> {
-    group.say("Client 1 has a new battery, and knows that 1:1 was declared OK. Its commit is told to the boxes, in view 1.");
-    group.settle(at(1, 1), COMMIT, &body(10, None, 4), 1, &ALL, &[])?;
-    group.read(4, at(9, 9), 10, at(1, 1), 4)?;
+    group.say("Client 3 has a new battery, and has it in writing that 1:3 was declared OK. Its commit is told to the boxes, in view 1.");
+    group.settle(at(1, 3), COMMIT, &body(10, None, 4), 1, &ALL, &[])?;
+    group.read(4, at(9, 9), 10, at(1, 3), 4)?;
     group.read(3, at(9, 9), 12, at(5, 1), 8)?;
     group.say("Box 4 was away when the first was recorded, and box 3 when the second was.");
     group.all_the_same()?;

@@ -6,8 +6,8 @@ use crate::commands;
 use crate::ends::Stop;
 use crate::image::{Body, Table};
 use crate::message::Message;
+use crate::names;
 use crate::reply::Reply;
-use crate::{names, stamps};
 use std::fmt::Write;
 
 /// How far words stand in below a heading, how much further an answer stands, and how long a line is.
@@ -280,19 +280,8 @@ impl Group {
 
 /// What a box says, in few words.
 fn in_words(reply: &Reply) -> String {
-    if reply.number != 0 {
-        return format!(
-            "refused with {} {}",
-            reply.number,
-            names::number(reply.number)
-        );
-    }
-    match reply.kind {
-        1 | 2 => names::prepare(reply.state, reply.value),
-        3 | 4 => names::outcome(reply.state).to_string(),
-        5 => format!("promised view {}", reply.stamp),
-        6 => format!("view {} has started", reply.view),
-        _ if reply.stamp == 0 => "never written".to_string(),
-        _ => format!("{}, written by {}", reply.value, stamps::short(reply.stamp)),
+    match reply.number {
+        0 => reply.state_in_words(),
+        _ => reply.words(),
     }
 }

@@ -5,6 +5,7 @@
 
 mod five;
 mod group;
+mod parts;
 mod three;
 
 use crate::ends::Stop;
@@ -47,13 +48,18 @@ Some words first.
                5@0: nobody had written it
   5=7          register 5 is written, with the value 7
   result       what boxes think of a transaction. OK: nothing speaks against it.
-               ABORT: it clashes with a committed one. ABSTAIN: it clashes with
-               one that may yet be committed. RETRY 9:1: only a stamp later than
-               9:1 can do. Each is tentative at first, and may become final
-  declared     the client may rely on a result that it has declared final
+               ABORT: what it read was written over by a committed one.
+               ABSTAIN: it clashes with one that may yet be committed.
+               RETRY 9:1: the committed 9:1 has read what it writes, so that
+               only a later stamp can do. Tentative at first, then final
+  count        what replies come to. Fast: so many boxes agree that their result
+               may be declared after one round of radio. Slow: a quorum, f+1 of
+               2f+1 boxes, has answered, and has to confirm the result in a
+               second round. Wait: fewer have answered
+  declared     a result that was declared final stands in every later merge
   outcome      what becomes of it: commit or abort; noted first, then done
-  view         the group's time is cut into views; a new one begins with a merge
-               of the tables of enough boxes
+  view         the group's time is cut into views. Boxes promise a new one, the
+               tables of a quorum are merged, and it begins with the merge
 
 The client sends messages to the boxes and counts their replies. There are seven
 messages: 1 propose-prepare, 2 finalise-prepare, 3 propose-outcome,
@@ -65,12 +71,13 @@ const AFTER: &str = "
 WHAT YOU HAVE SEEN
 
   - Boxes that agree need one round of radio; a quorum of them is enough in two.
-  - Of two transactions that clash, one was committed and the other was not.
-  - What was declared final, or noted by a quorum, stood in every merge, whoever
-    was away and whatever was lost.
+  - No two transactions that clash were both committed.
+  - What was declared final, or noted by a quorum in one view, stood in every
+    merge for a later view, whoever was away and whatever was lost.
 
-That it is so in every history in which clients keep seven rules, as these two
-did, is proved; README.md has the rules, and says what is assumed.
+That the last two hold in every history in which clients keep seven rules and a
+view starts with one merge, as here, is proved; README.md has the rules, and
+says what is assumed.
 
 The files of this demo, to look at with the other commands:
   sprondilu demo --keep FOLDER

@@ -1,50 +1,10 @@
 //! A group of three.
 
 use super::group::Group;
+use super::parts::{at, body, fast, slow, ABORT, ABSTAIN, COMMIT, FINAL, OK};
 use super::Played;
-use crate::calls::Counted;
 use crate::ends::Stop;
-use crate::image::{Access, Body};
 use crate::message::Message;
-
-pub const OK: u8 = 1;
-pub const ABSTAIN: u8 = 3;
-pub const FINAL: u8 = 4;
-pub const COMMIT: u8 = 1;
-pub const ABORT: u8 = 2;
-
-/// The stamp of a time and a client.
-pub const fn at(time: u64, client: u64) -> u64 {
-    time * 65_536 + client
-}
-
-pub fn fast(result: u8) -> Counted {
-    Counted::Fast {
-        result,
-        retry_stamp: 0,
-    }
-}
-
-pub fn slow(result: u8) -> Counted {
-    Counted::Slow {
-        result,
-        retry_stamp: 0,
-    }
-}
-
-/// One register that is written, and, if it was read before, in which version.
-pub fn body(register: u8, seen: Option<u64>, value: u64) -> Body {
-    Body {
-        reads: seen
-            .into_iter()
-            .map(|number| Access { register, number })
-            .collect(),
-        writes: vec![Access {
-            register,
-            number: value,
-        }],
-    }
-}
 
 const ALL: [u8; 3] = [0, 1, 2];
 

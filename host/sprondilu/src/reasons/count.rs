@@ -2,12 +2,14 @@
 
 use super::NOT_SEEN;
 use crate::calls::Record;
-use crate::{names, stamps};
+use crate::{names, wrong};
 
 /// A reply that was to be counted, and the name of its file.
 pub struct Named {
     pub name: String,
     pub record: Record,
+    /// Whether it answers message 2.
+    pub confirms: bool,
 }
 
 /// The reason of a refused count in a group of n.
@@ -23,7 +25,7 @@ pub fn reason(number: u8, n: u8, replies: &[Named]) -> String {
 /// "Bad n, a box outside the group or twice, unequal views or a bad result: 3."
 fn bad(n: u8, replies: &[Named]) -> Option<String> {
     if ![3, 5, 7].contains(&n) {
-        return Some(format!("n is {}, and groups have 3, 5 or 7 boxes", n));
+        return Some(names::bad_n(n));
     }
     if let Some(outside) = replies.iter().find(|reply| reply.record.box_number >= n) {
         return Some(format!(
@@ -61,16 +63,8 @@ fn bad_result(reply: &Named) -> Option<String> {
             reply.name, result
         ));
     }
-    let is_stamp = retry > 0 && retry <= stamps::GREATEST;
-    if (result == 4 && !is_stamp) || (result != 4 && retry != 0) {
-        return Some(format!(
-            "{} has {} with the retry stamp {}",
-            reply.name,
-            names::result(result, retry),
-            retry
-        ));
-    }
-    None
+    let found = wrong::body::retry_stamp(retry, result == 4, 16).err();
+    found.map(|wrong| format!("{}, {}", reply.name, wrong.words()))
 }
 
 /// "Two unequal finals, or a fast count for a result other than a final one: 6."

@@ -1,6 +1,7 @@
 //! Why tables cannot be merged.
 
 use super::NOT_SEEN;
+use crate::commands::count::quorum;
 use crate::image::{Row, Table};
 use crate::{names, stamps};
 use std::collections::BTreeMap;
@@ -33,7 +34,7 @@ fn wrong_tables(tables: &[Named], view: u32) -> Option<String> {
             first.name, n, other.name, other.table.header.n
         ));
     }
-    let needed = usize::from(n / 2) + 1;
+    let needed = quorum(n);
     if tables.len() != needed {
         return Some(format!(
             "a merge in a group of {} is of exactly {} tables, and here are {}",

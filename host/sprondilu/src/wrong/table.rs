@@ -2,6 +2,7 @@
 
 use super::{body, ensure, Good};
 use crate::image::{number_at, u32_at, Header, ACCESS_BYTES, HEADER_BYTES, ROW_BYTES};
+use crate::names;
 
 const MOST_ROWS: u32 = 512;
 
@@ -75,9 +76,7 @@ fn sizes(found: &Header, end: usize) -> Good {
 /// "n = 3, 5 or 7 boxes, numbered 0 to n-1"
 fn group(found: &Header) -> Good {
     let (n, box_number) = (found.n, found.box_number);
-    ensure([3, 5, 7].contains(&n), 2, || {
-        format!("n is {}, and groups have 3, 5 or 7 boxes", n)
-    })?;
+    ensure([3, 5, 7].contains(&n), 2, || names::bad_n(n))?;
     ensure(box_number < n, 1, || {
         format!(
             "the box is {}, and those of {} are 0 to {}",

@@ -167,6 +167,39 @@ fn what_show_says_is_what_message_takes() {
     assert!(others.iter().all(|times| *times > 5), "{:?}", met);
 }
 
+/// `propose-outcome like FILE`: the stamp and the body of a message that proposes a transaction.
+#[test]
+fn an_outcome_is_proposed_for_what_was_proposed() {
+    let folder = Folder::new();
+    let mut dice = Dice::seeded(42);
+    for row in &random::table(&mut dice, 20).rows {
+        for message in [
+            samples::message::propose_prepare(row),
+            samples::message::propose_outcome(row, 2),
+        ] {
+            folder.put("like", &message);
+            for (code, outcome) in [(1, "commit"), (2, "abort")] {
+                let line = format!("message propose-outcome like like {}", outcome);
+                run(&folder, &format!("{} --out m --replace", line)).done();
+                let expected = samples::message::propose_outcome(row, code);
+                assert_eq!(folder.bytes("m"), expected);
+            }
+        }
+    }
+    folder.put("view", &samples::message::change_view(1));
+    let line = "message propose-outcome like";
+    bad_usage(
+        &folder,
+        &format!("{} view commit", line),
+        "proposes no transaction",
+    );
+    bad_usage(&folder, line, "the message file is missing");
+    bad_usage(&folder, &format!("{} like", line), "the outcome is missing");
+    bad_usage(&folder, &format!("{} like commit more", line), "'more'");
+    folder.put("bad", &folder.bytes("like")[1..]);
+    refused(&folder, &format!("{} bad commit", line), 3);
+}
+
 /// The widest bodies that there are, in words and back.
 #[test]
 fn the_widest_bodies_go_both_ways() {
@@ -178,7 +211,7 @@ fn the_widest_bodies_go_both_ways() {
         let out = run(&folder, "show --message m").done().out;
         let words = out.lines().nth(1).expect("the words");
         let line = format!("message --out m --replace {}", words);
-        folder.put("m", b"something else");
+        folder.put("m", &samples::message::change_view(1));
         run(&folder, &line).done();
         assert_eq!(folder.bytes("m"), message);
     }
@@ -257,7 +290,7 @@ fn what_is_against_the_rules_is_refused() {
 #[test]
 fn a_file_that_is_there_is_written_over_only_if_asked() {
     let folder = Folder::new();
-    folder.put("m", b"old");
+    folder.put("m", &samples::message::change_view(9));
     not_tried(
         &folder,
         "message change-view 1 --out m",
@@ -272,14 +305,20 @@ fn a_file_that_is_there_is_written_over_only_if_asked() {
         "message change-view 1 --out no/m",
         "cannot write no/m",
     );
-    // A table is written over by nobody.
-    folder.put("t", &fresh(3, 0));
-    let line = "message change-view 1 --out t --replace";
-    not_tried(&folder, line, "it begins with a table");
-    let started = settled(&long_table(3), 4);
+    // Nothing but a message, or nothing at all, is written over: no table, whole or damaged, and no reply.
+    let (whole, started) = (fresh(3, 0), settled(&long_table(3), 4));
+    folder.put("whole", &whole);
+    folder.put("damaged", &whole[..23]);
+    folder.put("reply", &[&[4][..], &[0; 23]].concat());
     folder.put("merged", &started);
+    for name in ["whole", "damaged", "reply"] {
+        let line = format!("message change-view 1 --out {} --replace", name);
+        not_tried(&folder, &line, "what is there is no message");
+    }
     let line = "message start-view 4 merged --out merged --replace";
-    not_tried(&folder, line, "it begins with a table");
+    not_tried(&folder, line, "what is there is no message");
+    folder.put("empty", b"");
+    run(&folder, "message change-view 1 --out empty --replace").done();
     not_tried(&folder, "message change-view 1 --out .", "folder");
     not_tried(&folder, "message change-view 1 --replace --out .", "folder");
 }

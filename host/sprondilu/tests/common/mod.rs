@@ -13,7 +13,7 @@ pub use ran::{program, run, run_words, Ran};
 
 use std::collections::BTreeMap;
 use std::fs;
-use std::os::unix::fs::MetadataExt;
+use std::os::unix::fs::{FileTypeExt, MetadataExt};
 use std::path::{Path, PathBuf};
 use std::sync::atomic::{AtomicUsize, Ordering};
 
@@ -102,8 +102,10 @@ pub struct Touched {
 impl Touched {
     fn of(path: &Path) -> Touched {
         let about = fs::symlink_metadata(path).expect("what is said of a file");
+        // Whoever reads a pipe waits for its other end.
+        let bytes = Some(path).filter(|_| !about.file_type().is_fifo());
         Touched {
-            bytes: fs::read(path).ok(),
+            bytes: bytes.and_then(|path| fs::read(path).ok()),
             inode: about.ino(),
             mode: about.mode(),
             changed: (about.mtime(), about.mtime_nsec()),

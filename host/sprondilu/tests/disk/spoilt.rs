@@ -165,28 +165,34 @@ fn a_run_that_is_killed_leaves_the_old_table_or_the_new_one() {
     }
 }
 
-/// A run was stopped after its rename and before it synced the folder. Whoever answers from that table then syncs first.
+/// A run was stopped after its rename and before it synced the folder; or the table was copied there by somebody who syncs nothing.
+/// Whoever answers from that table then syncs it and its folder first, also if he refuses.
 #[test]
 fn a_reply_waits_for_what_another_run_stored() {
-    let case = adding(3);
-    let (_, calls) = run(&case.folder, LINE, None);
-    let renamed = place(&calls, 0, |call| call.name == "rename");
-    case.begin();
-    let spoilt = Spoilt {
-        turn: renamed + 2,
-        how: "KILL",
-    };
-    let (ran, calls) = run(&case.folder, LINE, Some(spoilt));
-    assert!(ran.status.is_none() && case.is_new("killed behind the rename"));
-    let folder = &calls.last().expect("the sync that was not done").file;
-    assert_eq!(calls.last().expect("a call").name, "fsync");
-    let (ran, calls) = run(&case.folder, LINE, None);
-    ran.done();
-    let told = place(&calls, 0, |call| call.name == "write");
-    let synced = place(&calls, 0, |call| {
-        call.name == "fsync" && call.file == *folder
-    });
-    assert!(synced < told, "{:#?}", calls);
+    for (case, number) in [
+        (adding(3), 0),
+        (case(long_table(3), make::change_view(7)), 10),
+    ] {
+        let (_, calls) = run(&case.folder, LINE, None);
+        let renamed = place(&calls, 0, |call| call.name == "rename");
+        case.begin();
+        let spoilt = Spoilt {
+            turn: renamed + 2,
+            how: "KILL",
+        };
+        let (ran, _) = run(&case.folder, LINE, Some(spoilt));
+        assert!(ran.status.is_none() && case.is_new("killed after the rename"));
+        let (ran, calls) = run(&case.folder, LINE, None);
+        assert_eq!(ran.status, Some(i32::from(number > 0)), "{:?}", ran);
+        let told = place(&calls, 0, |call| call.name == "write");
+        let folder = folder_of(&case);
+        for synced in ["t", &folder] {
+            let synced = place(&calls, 0, |call| {
+                call.name == "fsync" && call.file == synced
+            });
+            assert!(synced < told, "{:#?}", calls);
+        }
+    }
 }
 
 /// The same of what is merged, and of a merge that is sent: others will go by it.
@@ -203,9 +209,10 @@ fn a_merge_waits_for_what_another_run_stored() {
         let (ran, calls) = run(&folder, line, None);
         ran.done();
         let created = place(&calls, 0, |call| call.name == "create");
-        let is_synced = |call: &&Call| call.name == "fsync" && folder.path().ends_with(&call.file);
+        // Each of them, and the folder that it is in.
+        let is_synced = |call: &&Call| call.name == "fsync";
         let synced = calls[..created].iter().filter(is_synced).count();
-        assert_eq!(synced, tables, "{}: {:#?}", line, calls);
+        assert_eq!(synced, 2 * tables, "{}: {:#?}", line, calls);
     }
 }
 
@@ -291,7 +298,7 @@ fn other_files_are_whole_or_not_there() {
         "message change-view 8 --out new --replace",
         "merge --view 7 --out new zero one",
     ] {
-        let old = line.contains("--replace").then_some(&b"what was there"[..]);
+        let old = line.contains("--replace").then_some(&[5, 0, 0, 0, 1][..]);
         for how in ["ENOSPC", "EIO", "KILL", "HALF"] {
             spoil_each_of(&folder, line, old, how);
         }

@@ -6,6 +6,7 @@ use crate::common::{answered, run, run_words, Folder};
 use samples::message as make;
 use std::fs;
 use std::os::unix::fs::symlink;
+use std::process::Command;
 
 /// A message that adds a row to the table of `good_files`, and the table then.
 fn adding(folder: &Folder) -> Vec<u8> {
@@ -106,13 +107,23 @@ fn a_reply_is_not_written_over_the_table_or_the_message() {
 fn a_table_waits_for_a_place_for_the_reply() {
     let folder = good_files();
     adding(&folder);
+    folder.put("damaged", &folder.bytes("t")[1..]);
+    symlink("/dev/null", folder.at("nul")).expect("a link");
+    symlink("nowhere", folder.at("dangling")).expect("a link");
+    let made = Command::new("mkfifo").arg(folder.at("pipe")).status();
+    assert!(made.expect("mkfifo").success());
     for (reply, words) in [
         ("r", "r is there already"),
         (".", "it is a folder"),
         (". --replace", "it is a folder"),
         ("no/reply", "its folder is not there"),
         ("t/reply", "its folder is not there"),
-        ("one --replace", "it begins with a table"),
+        ("one --replace", "what is there is no reply"),
+        ("add --replace", "over the table or the message"),
+        ("damaged --replace", "what is there is no reply"),
+        ("nul --replace", "another could take the place of"),
+        ("pipe --replace", "another could take the place of"),
+        ("dangling --replace", "cannot write dangling"),
     ] {
         not_tried(&folder, &format!("answer t add --reply {}", reply), words);
     }

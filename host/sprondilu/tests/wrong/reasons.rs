@@ -118,6 +118,7 @@ fn some_replies(dice: &mut Dice) -> (u8, Vec<samples::Record>) {
 fn named(place: usize, record: &samples::Record) -> reasons::count::Named {
     reasons::count::Named {
         name: place.to_string(),
+        confirms: false,
         record: Record {
             box_number: record.box_number,
             result: record.result.0,
