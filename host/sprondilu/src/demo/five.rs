@@ -127,8 +127,8 @@ fn view_change(group: &mut Group) -> Result<(), Stop> {
     let image = group.merge(1, &[2, 3, 4])?;
     group.say(
         "Everything is there. 1:3 was declared because four of the five boxes said OK; so of any three tables two or more say \
-         it. By that the merge sees that it may have been declared, and keeps it. The commit of 5:1 stands in one of these \
-         three tables; it was noted by three boxes, so of any three one or more have it, and a commit that is found is kept.",
+         it. By that the merge sees that it may have been declared, and, as nothing clashes with it, keeps it. The commit of \
+         5:1 stands in one of these three tables; it was noted by three boxes, so of any three one or more have it, and a commit that is found is kept.",
     );
     let start = Message::StartView { view: 1, image };
     let replies = group.send(&start, &[2, 3, 4], &[]);
