@@ -131,6 +131,13 @@ bool box_start(struct box *box, uint8_t number)
 
 /* ---- The box: one message in, at most one reply out. */
 
+/* A box that cannot stand by an answer gives none, until a restart has loaded its table; somebody has to see to it. */
+static void fall_silent(struct box *box, const char *why)
+{
+    box->answers = false;
+    box_report(box->number, why);
+}
+
 void box_receive(struct box *box, const uint8_t *message, size_t length)
 {
     uint8_t reply[SPRONDILU_REPLY_BYTES];
@@ -139,13 +146,15 @@ void box_receive(struct box *box, const uint8_t *message, size_t length)
     }
     switch (sprondilu_answer(box->table, sizeof box->table, message, length, reply, sizeof reply)) {
     case SPRONDILU_DONE: /* what was answered outlives every power cut: it is stored before the reply goes out */
-        box->answers = store_table(box);
+        if (!store_table(box)) {
+            fall_silent(box, "the table could not be stored");
+        }
         break;
     case SPRONDILU_SMALL_BUFFER: /* no byte was written, so there is no reply: a mistake of this program */
         box_report(box->number, "a buffer is too small");
         return;
-    case SPRONDILU_BAD_TABLE: /* memory went bad: silent, until a restart has loaded the table again */
-        box->answers = false;
+    case SPRONDILU_BAD_TABLE: /* memory went bad; what is stored is from before that */
+        fall_silent(box, "the table in memory is damaged");
         break;
     case SPRONDILU_OTHER_BODY:
     case SPRONDILU_CONTRADICTION: /* nothing has changed; whoever sent it has to stop */
@@ -161,7 +170,7 @@ void box_receive(struct box *box, const uint8_t *message, size_t length)
     case SPRONDILU_OLD_VIEW: /* nothing has changed, so nothing is stored: what to do is the sender's affair */
         break;
     default: /* SPRONDILU_WRONG_TABLES is a merge's, and there is no other number */
-        box->answers = false;
+        fall_silent(box, "a number came that no answer has");
     }
     if (box->answers) {
         radio_reply(box->number, reply);
@@ -214,12 +223,18 @@ unsigned how_many(const bool *marks)
     return marked;
 }
 
+/* Whether a reply is numbered 0, and to a message of this kind from this box: an old one may come in late. */
+static bool is_done(const uint8_t *reply, uint8_t kind, uint8_t box)
+{
+    return reply != NULL && reply[0] == SPRONDILU_DONE && reply[1] == kind && reply[2] == box;
+}
+
 /* The reply to a message if its number is 0, else NULL. A refusal says nothing but its number. */
 static const uint8_t *ask(uint8_t box, const struct letter *letter, uint8_t *refusal)
 {
     const uint8_t *reply = radio_ask(box, letter->bytes, letter->length);
     *refusal = reply == NULL ? SPRONDILU_DONE : reply[0];
-    if (reply == NULL || reply[0] != SPRONDILU_DONE || reply[1] != letter->bytes[0] || reply[2] != box) {
+    if (!is_done(reply, letter->bytes[0], box)) {
         return NULL;
     }
     uint32_t view = (uint32_t)number_at(reply + 4, 4);
@@ -259,7 +274,7 @@ static void send_to(struct transaction *t, uint8_t box, const struct letter *let
     uint8_t refusal = SPRONDILU_DONE;
     const uint8_t *reply = t->stopped ? NULL : ask(box, letter, &refusal);
     t->stopped = t->stopped || refusal == SPRONDILU_OTHER_BODY || refusal == SPRONDILU_CONTRADICTION;
-    t->full = t->full || refusal == SPRONDILU_FULL;
+    t->full[box] = refusal == SPRONDILU_FULL || (t->full[box] && reply == NULL);
     if (reply == NULL || number_at(reply + 8, 8) != t->stamp) {
         return; /* of another stamp, or late: nothing is taken from it */
     }
@@ -287,6 +302,9 @@ static void send_to(struct transaction *t, uint8_t box, const struct letter *let
 /* Message 1 to all boxes, and what the replies come to. Who has the time waits for all of them before the count. */
 void prepare(struct transaction *t)
 {
+    if (t->outcome != NO_OUTCOME) {
+        return; /* rule 7: nothing is counted any more, so nothing is declared */
+    }
     struct letter letter = letter_about(PROPOSE_PREPARE, t->stamp);
     add_body(&letter, &t->body);
     for (uint8_t box = 0; box < BOXES; box++) {
@@ -308,6 +326,9 @@ void prepare(struct transaction *t)
 /* Message 2 with the slow result, for the view of the replies; declared once f+1 boxes have confirmed it there. */
 void confirm(struct transaction *t)
 {
+    if (t->outcome != NO_OUTCOME || t->declared || t->result == 0) {
+        return; /* rule 7; what was declared stays so; and rule 3: without a result there is nothing to send */
+    }
     struct letter letter = letter_about(FINALISE_PREPARE, t->stamp);
     add(&letter, t->view, 4);
     add(&letter, t->result, 1);
@@ -358,11 +379,14 @@ static bool accepted_in_one(const struct transaction *t, uint32_t *view)
     return false;
 }
 
-/* Messages 3 and 4. To try again is another transaction, under a new stamp: after RETRY one above t->retry. */
-void conclude(struct transaction *t)
+/* Messages 3 and 4, as often as it takes: to propose the same again is no harm, and finds who missed it. */
+static void propose(struct transaction *t, uint8_t outcome)
 {
     uint32_t view;
-    t->outcome = t->result == SPRONDILU_OK ? COMMIT : ABORT;
+    if (t->stopped || (t->outcome != NO_OUTCOME && t->outcome != outcome)) {
+        return; /* rule 5: never both outcomes */
+    }
+    t->outcome = outcome;
     struct letter letter = letter_about(PROPOSE_OUTCOME, t->stamp);
     add(&letter, t->outcome, 1);
     add_body(&letter, &t->body);
@@ -374,6 +398,7 @@ void conclude(struct transaction *t)
     if (!accepted_in_one(t, &view)) {
         return;
     }
+    t->recorded = t->outcome == COMMIT; /* from here on it stands in every view, whatever becomes of this program */
     letter = letter_about(FINALISE_OUTCOME, t->stamp);
     add(&letter, view, 4);
     add(&letter, t->outcome, 1);
@@ -384,17 +409,33 @@ void conclude(struct transaction *t)
     }
 }
 
+/*
+ * What follows from the declared result; or once more what was proposed, for those that missed it. To try again after
+ * an abort is another transaction, under a new stamp: after RETRY one above t->retry.
+ */
+void conclude(struct transaction *t)
+{
+    if (t->outcome != NO_OUTCOME) {
+        propose(t, t->outcome);
+    } else if (t->declared) { /* rule 5: of a result that is not declared nothing follows */
+        propose(t, t->result == SPRONDILU_OK ? COMMIT : ABORT);
+    }
+}
+
+/* Abort without a result, or against one: allowed until commit was proposed or anybody was told that it is recorded. */
+void give_up(struct transaction *t)
+{
+    propose(t, ABORT);
+}
+
 /* One round, to be repeated after a loss: 4, 8 and 9 are met by message 1 again or, with an outcome, by message 3. */
 void advance(struct transaction *t)
 {
-    if (t->outcome == NO_OUTCOME) { /* rule 7 */
-        prepare(t);
-        if (t->result != 0 && !t->declared) {
-            confirm(t);
-        }
-    }
-    if (t->declared) {
-        conclude(t);
+    prepare(t);
+    confirm(t);
+    conclude(t);
+    if (how_many(t->full) > BOXES - QUORUM) {
+        give_up(t); /* fewer than f+1 boxes have room for it */
     }
 }
 
@@ -421,16 +462,20 @@ bool merge_next_view(uint8_t starter, uint32_t promised)
     for (uint8_t turn = 0; turn < BOXES && images < QUORUM; turn++) {
         uint8_t box = (uint8_t)((starter + turn) % BOXES);
         const uint8_t *reply = radio_ask(box, message, sizeof message);
-        if (reply != NULL && reply[0] == SPRONDILU_DONE) {
-            run_length += radio_fetch_image(box, run + run_length);
-            images++;
+        if (is_done(reply, CHANGE_VIEW, box) && number_at(reply + 8, 8) == view) {
+            size_t length = radio_fetch_image(box, run + run_length);
+            run_length += length;
+            images += length > 0; /* for one that did not arrive the next box may stand in */
         } else if (turn == 0) {
             return false;
         }
     }
+    if (images < QUORUM) {
+        return false; /* too few have promised, or too few images came: a later view may mend it */
+    }
     uint8_t number = sprondilu_merge(run, run_length, view, start_message + 5, SPRONDILU_TABLE_BYTES);
     if (number != SPRONDILU_DONE) {
-        if (number != SPRONDILU_WRONG_TABLES) { /* 11: too few have promised, which a later view may mend */
+        if (number != SPRONDILU_WRONG_TABLES) { /* 11: one of them has promised a later view since */
             box_report(starter, "the tables could not be merged");
         }
         return false;
@@ -445,5 +490,5 @@ bool merge_next_view(uint8_t starter, uint32_t promised)
 bool start_view(uint8_t box)
 {
     const uint8_t *reply = radio_ask(box, start_message, start_length);
-    return reply != NULL && reply[0] == SPRONDILU_DONE;
+    return is_done(reply, START_VIEW, box) && number_at(reply + 4, 4) == number_at(start_message + 1, 4);
 }

@@ -42,7 +42,7 @@ bool flash_write(uint8_t box, uint64_t slot, size_t at, const uint8_t *bytes, si
 /* 24 bytes back to whoever sent the message. */
 void radio_reply(uint8_t box, const uint8_t *reply);
 
-/* What a technician or the grower has to see. */
+/* What a technician or the grower has to see. A box without power shows nothing: it starts from its storage later. */
 void box_report(uint8_t box, const char *what);
 
 /* ---- A transaction, by its coordinator. */
@@ -68,18 +68,21 @@ struct transaction {
     uint8_t result; /* rule 2: the only one that was sent or declared in that view; 0 for none */
     uint64_t retry;
     bool confirmed[BOXES]; /* rule 4: who has confirmed that result in that view */
-    bool declared;
-    uint8_t outcome;      /* rules 5 and 7: what was proposed; never the other one */
-    bool accepted[BOXES]; /* rule 6: who has accepted that, and in which view */
+    bool declared;         /* the result stands, but the grower is told nothing yet */
+    uint8_t outcome;       /* rules 5 and 7: what was proposed; never the other one */
+    bool accepted[BOXES];  /* rule 6: who has accepted that, and in which view */
     uint32_t accepted_in[BOXES];
     bool done[BOXES];
-    bool full;    /* a box had no room for this stamp: the grower has to hear of it */
-    bool stopped; /* a rule was broken, or a reply changed on its way: nothing more is sent */
+    bool recorded;    /* f+1 have accepted the commit in one view: now the grower may be told */
+    bool full[BOXES]; /* who had no room for this stamp: the grower has to hear of it */
+    bool stopped;     /* a rule was broken, or a reply changed on its way: nothing more is sent */
 };
 
+/* Each keeps the rules by itself, in whatever order they are called: what is not allowed, or not yet, is not sent. */
 void prepare(struct transaction *t);
 void confirm(struct transaction *t);
 void conclude(struct transaction *t);
+void give_up(struct transaction *t);
 void advance(struct transaction *t);
 bool read_register(uint8_t box, uint64_t stamp, uint8_t reg, uint64_t *version, uint64_t *value);
 
@@ -90,7 +93,10 @@ bool start_view(uint8_t box);
 
 /* ---- What the radio of a coordinator, or of a box that changes the view, supplies. */
 
-/* The 24 bytes that a box sent back, whole and unchanged, or NULL if none came. */
+/*
+ * The 24 bytes that a box sent back, whole and unchanged, or NULL if none came. A refusal and a reply to message 7 do
+ * not say what was asked: that they answer this message, the radio has to see to. Any other reply may be an old one.
+ */
 const uint8_t *radio_ask(uint8_t box, const uint8_t *message, size_t length);
 
 /* A box's image, whole and unchanged, as its table buffer held it between two calls; its length, or 0. */

@@ -1,6 +1,6 @@
 /*
- * A group of three boxes plays a story with the code of box.c: arrays stand in for flash and radio, and power is cut in
- * the middle of storing. At the top of the repository:
+ * A group of three boxes plays a story with the code of box.c: arrays stand in for flash and radio, power is cut in the
+ * middle of storing, and what is sent gets lost. At the top of the repository:
  *
  *   cc -std=c11 -O2 -I include examples/box.c examples/story.c target/staticlib/libsprondilu.a -o target/box
  *
@@ -31,6 +31,7 @@ static void step(bool as_expected, const char *what)
 /* ---- In place of the flash: erased by the sector and written by the byte, for as long as power lasts. */
 
 static uint8_t flash[BOXES][2][SLOT_BYTES];
+static bool flash_fails[BOXES]; /* takes no byte any more */
 static int power_left[BOXES] = {-1, -1, -1}; /* sectors and bytes until the power of a box is cut; -1: it is not */
 
 static bool power_lasts(uint8_t box)
@@ -60,7 +61,7 @@ bool flash_erase(uint8_t box, uint64_t slot)
 bool flash_write(uint8_t box, uint64_t slot, size_t at, const uint8_t *bytes, size_t length)
 {
     size_t done = 0;
-    while (done < length && power_lasts(box)) {
+    while (done < length && !flash_fails[box] && power_lasts(box)) {
         flash[box][slot][at + done] &= bytes[done]; /* bits are cleared by writing and set by erasing */
         done++;
     }
@@ -75,9 +76,17 @@ static bool restart(uint8_t box)
     return box_start(&boxes[box], box);
 }
 
-/* ---- In place of the radio: who is out of reach, and the reply that a box has sent. */
+/* ---- In place of the radio: whom it reaches, and the reply that a box has sent last. */
 
-static bool out_of_reach[BOXES];
+enum reach {
+    IN_REACH,
+    OUT_OF_REACH,
+    REPLY_LOST, /* the box hears, and is not heard */
+    OLD_REPLY,  /* what is sent to the box is lost, and its last reply comes once more */
+    IMAGE_LOST  /* the box hears and is heard, but its image does not arrive */
+};
+
+static enum reach reach[BOXES];
 static bool replied[BOXES];
 static uint8_t replies[BOXES][SPRONDILU_REPLY_BYTES];
 
@@ -90,29 +99,50 @@ void radio_reply(uint8_t box, const uint8_t *reply)
 const uint8_t *radio_ask(uint8_t box, const uint8_t *message, size_t length)
 {
     replied[box] = false;
-    if (!out_of_reach[box]) {
+    if (reach[box] != OUT_OF_REACH && reach[box] != OLD_REPLY) {
         box_receive(&boxes[box], message, length);
     }
-    return replied[box] ? replies[box] : NULL;
+    bool heard = replied[box] && reach[box] != REPLY_LOST;
+    return heard || reach[box] == OLD_REPLY ? replies[box] : NULL;
 }
 
 size_t radio_fetch_image(uint8_t box, uint8_t *to)
 {
-    size_t length = out_of_reach[box] ? 0 : image_length(boxes[box].table);
+    bool lost = reach[box] == OUT_OF_REACH || reach[box] == IMAGE_LOST;
+    size_t length = lost ? 0 : image_length(boxes[box].table);
     memcpy(to, boxes[box].table, length);
     return length;
 }
 
+/* ---- In place of a light or a bell: what a box has to report, and whether it has. */
+
+static const char *to_report[BOXES];
+static bool reported[BOXES];
+
 void box_report(uint8_t box, const char *what)
 {
-    printf("box %u reports: %s\n", box, what);
-    all_as_expected = false; /* in this story there is nothing to report */
+    char line[120];
+    if (power_left[box] == 0) {
+        return; /* its power is cut */
+    }
+    snprintf(line, sizeof line, "box %u reports: %s", box, what);
+    step(to_report[box] != NULL && strcmp(what, to_report[box]) == 0, line);
+    reported[box] = true;
+}
+
+/* Whether a box has reported what it had to. From here on it has nothing to report. */
+static bool has_reported(uint8_t box)
+{
+    bool has = reported[box];
+    reported[box] = false;
+    to_report[box] = NULL;
+    return has;
 }
 
 /* ---- The story. */
 
 /*
- * Five transactions: counts of reads and writes, then register and version of each read, register and value of each
+ * Eight transactions: counts of reads and writes, then register and version of each read, register and value of each
  * write. A version that is yet to be read stands as 0.
  */
 static struct transaction a = {.stamp = STAMP(1, 1), .body = {0, 1, {{5, 7}}}};
@@ -120,17 +150,21 @@ static struct transaction b = {.stamp = STAMP(2, 1), .body = {1, 1, {{5, 0}, {6,
 static struct transaction c = {.stamp = STAMP(3, 1), .body = {1, 1, {{5, 0}, {5, 8}}}};
 static struct transaction d = {.stamp = STAMP(4, 2), .body = {1, 1, {{5, 0}, {6, 10}}}};
 static struct transaction e = {.stamp = STAMP(5, 1), .body = {1, 2, {{5, 0}, {5, 12}, {7, 1}}}};
+static struct transaction f = {.stamp = STAMP(6, 1), .body = {0, 1, {{8, 3}}}};
+static struct transaction g = {.stamp = STAMP(7, 2), .body = {1, 1, {{8, 0}, {9, 4}}}};
+static struct transaction h = {.stamp = STAMP(8, 1), .body = {0, 1, {{10, 6}}}};
 
 /* What has become of a transaction, in a line, which has to be the expected one. */
 static void show(const char *name, const struct transaction *t, const char *expected)
 {
-    static const char *const results[] = {"nothing", "OK", "ABORT", "ABSTAIN", "RETRY"};
+    static const char *const results[] = {"no result", "OK", "ABORT", "ABSTAIN", "RETRY"};
     static const char *const outcomes[] = {"nothing", "commit", "abort"};
     char line[160];
     snprintf(line, sizeof line,
-             "%s: %zu replies in view %" PRIu32 ", %u confirmations, %s %s; %s accepted by %u, done by %u", name,
-             t->heard, t->view, how_many(t->confirmed), results[t->result], t->declared ? "declared" : "not declared",
-             outcomes[t->outcome], how_many(t->accepted), how_many(t->done));
+             "%s: %zu %s in view %" PRIu32 ", %u confirmations, %s%s; %s accepted by %u, done by %u%s", name, t->heard,
+             t->heard == 1 ? "reply" : "replies", t->view, how_many(t->confirmed), results[t->result],
+             t->declared ? " declared" : t->result != 0 ? " not declared" : "", outcomes[t->outcome],
+             how_many(t->accepted), how_many(t->done), t->recorded ? ": recorded" : "");
     step(!t->stopped && strcmp(line, expected) == 0, line);
 }
 
@@ -159,20 +193,21 @@ static void begin(void)
 static void fast_and_slow(void)
 {
     advance(&a);
-    show("A", &a, "A: 3 replies in view 0, 0 confirmations, OK declared; commit accepted by 3, done by 3");
-    out_of_reach[2] = true;
+    show("A", &a, "A: 3 replies in view 0, 0 confirmations, OK declared; commit accepted by 3, done by 3: recorded");
+    reach[2] = OUT_OF_REACH;
     read_for(&b, 0);
     step(b.body.accesses[0].number == a.stamp, "box 2 is out of reach; B reads what A wrote, and so does D");
     read_for(&d, 1);
     prepare(&b);
     confirm(&b);
-    out_of_reach[1] = true;
+    reach[1] = OUT_OF_REACH;
     conclude(&b);
     show("B", &b, "B: 2 replies in view 0, 2 confirmations, OK declared; commit accepted by 1, done by 0");
-    out_of_reach[1] = false;
+    give_up(&b);
+    step(b.outcome == COMMIT && !b.stopped, "box 1 missed that; but a commit was proposed, and B cannot be given up");
+    reach[1] = IN_REACH;
     advance(&b);
-    step(b.accepted[1], "box 1 missed that, and is asked again");
-    show("B", &b, "B: 2 replies in view 0, 2 confirmations, OK declared; commit accepted by 2, done by 2");
+    show("B", &b, "B: 2 replies in view 0, 2 confirmations, OK declared; commit accepted by 2, done by 2: recorded");
 }
 
 /* Box 1 loses power at every step of storing its confirmation, one after the other, until power lasts to the end. */
@@ -184,6 +219,7 @@ static void power_cuts(void)
     int cuts = 0;
     read_for(&c, 0);
     prepare(&c);
+    conclude(&c); /* too early: nothing comes of it */
     show("C", &c, "C: 2 replies in view 0, 0 confirmations, OK not declared; nothing accepted by 0, done by 0");
     size_t length = image_length(boxes[1].table);
     memcpy(before, boxes[1].table, length);
@@ -201,27 +237,32 @@ static void power_cuts(void)
     snprintf(line, sizeof line, "power of box 1 is cut at each of %d steps of storing: no reply, nothing lost", cuts);
     step(nothing_lost && cuts == SLOT_BYTES / SECTOR + (int)length + SLOT_HEAD, line);
     advance(&c);
-    show("C", &c, "C: 2 replies in view 0, 2 confirmations, OK declared; commit accepted by 2, done by 2");
+    show("C", &c, "C: 2 replies in view 0, 2 confirmations, OK declared; commit accepted by 2, done by 2: recorded");
 }
 
 /* D read register 5 before C wrote it. Box 2, back in reach, has not heard of C and says OK; one ABORT is enough. */
 static void clash(void)
 {
-    out_of_reach[2] = false;
+    reach[2] = IN_REACH;
     step(d.body.accesses[0].number == a.stamp, "box 2 is back; what D has read, C has written over in the meantime");
     advance(&d);
     show("D", &d, "D: 3 replies in view 0, 3 confirmations, ABORT declared; abort accepted by 3, done by 3");
 }
 
+static uint32_t promised_by(uint8_t box)
+{
+    return (uint32_t)number_at(boxes[box].table + 12, 4);
+}
+
 /* E is prepared in view 0, and the view changes before its result was sent: what was heard in view 0 counts no more. */
 static void change_view(void)
 {
-    out_of_reach[0] = true;
+    reach[0] = OUT_OF_REACH;
     read_for(&e, 1);
     step(e.body.accesses[0].number == c.stamp, "box 0 is out of reach; E reads what C wrote");
     prepare(&e);
     show("E", &e, "E: 2 replies in view 0, 0 confirmations, OK not declared; nothing accepted by 0, done by 0");
-    bool merged = merge_next_view(1, (uint32_t)number_at(boxes[1].table + 12, 4));
+    bool merged = merge_next_view(1, promised_by(1));
     step(merged && start_view(1) && start_view(2) && !start_view(0),
          "boxes 1 and 2 begin view 1 with the merge of their tables");
 }
@@ -229,13 +270,103 @@ static void change_view(void)
 /* Box 0 comes back in view 0, and answers there: no commit of view 1 is told to it before it has begun view 1. */
 static void late_box(void)
 {
-    out_of_reach[0] = false;
+    reach[0] = IN_REACH;
     advance(&e);
-    show("E", &e, "E: 2 replies in view 1, 2 confirmations, OK declared; commit accepted by 2, done by 2");
+    show("E", &e, "E: 2 replies in view 1, 2 confirmations, OK declared; commit accepted by 2, done by 2: recorded");
     step(!e.accepted[0], "box 0 is back, in view 0 still: the commit is kept from it");
     step(start_view(0), "box 0 begins view 1");
     advance(&e);
-    show("E", &e, "E: 2 replies in view 1, 2 confirmations, OK declared; commit accepted by 3, done by 3");
+    show("E", &e, "E: 2 replies in view 1, 2 confirmations, OK declared; commit accepted by 3, done by 3: recorded");
+}
+
+/* F comes to box 0 alone. */
+static void failing_flash(void)
+{
+    reach[2] = OUT_OF_REACH;
+    flash_fails[1] = true;
+    to_report[1] = "the table could not be stored";
+    advance(&f);
+    show("F", &f, "F: 1 reply in view 1, 0 confirmations, no result; nothing accepted by 0, done by 0");
+    flash_fails[1] = false;
+    step(has_reported(1) && !replied[1] && restart(1), "box 2 is out of reach, box 1 is silent; a restart helps box 1");
+}
+
+/* G clashes with F, which box 0 alone knows of. One of two boxes says OK, then two of three: but ABSTAIN was sent. */
+static void one_result(void)
+{
+    read_for(&g, 1);
+    prepare(&g);
+    show("G", &g, "G: 2 replies in view 1, 0 confirmations, ABSTAIN not declared; nothing accepted by 0, done by 0");
+    reach[0] = OUT_OF_REACH;
+    reach[1] = REPLY_LOST;
+    confirm(&g);
+    step(replied[1] && how_many(g.confirmed) == 0, "G's message 2 comes to box 1 alone, and the reply is lost");
+    reach[0] = IN_REACH;
+    reach[1] = OUT_OF_REACH;
+    reach[2] = IN_REACH;
+    prepare(&g);
+    step(g.records[2].box == 2 && g.records[2].result == SPRONDILU_OK, "box 2 is back, and says OK, as box 1 did");
+    advance(&g);
+    show("G", &g, "G: 3 replies in view 1, 2 confirmations, ABSTAIN declared; abort accepted by 2, done by 2");
+    reach[1] = IN_REACH;
+    advance(&g);
+    show("G", &g, "G: 3 replies in view 1, 2 confirmations, ABSTAIN declared; abort accepted by 3, done by 3");
+}
+
+/* F again: before message 2 went out its coordinator has waited too long. */
+static void giving_up(void)
+{
+    reach[2] = OUT_OF_REACH;
+    prepare(&f);
+    show("F", &f, "F: 2 replies in view 1, 0 confirmations, OK not declared; nothing accepted by 0, done by 0");
+    give_up(&f);
+    show("F", &f, "F: 2 replies in view 1, 0 confirmations, OK not declared; abort accepted by 2, done by 2");
+    reach[2] = IN_REACH;
+    advance(&f);
+    step(f.accepted[2], "box 2 is back, and hears of the abort; nothing more is counted, sent or declared");
+    show("F", &f, "F: 2 replies in view 1, 0 confirmations, OK not declared; abort accepted by 3, done by 3");
+}
+
+/* As many transactions as a box has room for, in its memory alone: a restart knows nothing of them. */
+static void fill(uint8_t box)
+{
+    uint8_t message[20] = {PROPOSE_PREPARE, [10] = 1, [11] = 63}; /* no read, one write: of register 63 */
+    uint8_t reply[SPRONDILU_REPLY_BYTES];
+    uint64_t time = 100;
+    do {
+        put_number(message + 1, STAMP(time, 3), 8);
+        time++;
+    } while (sprondilu_answer(boxes[box].table, SPRONDILU_TABLE_BYTES, message, sizeof message, reply,
+                              sizeof reply) == SPRONDILU_DONE);
+    to_report[box] = "the table is full: a new transaction was refused";
+}
+
+static void full_tables(void)
+{
+    fill(1);
+    fill(2);
+    advance(&h);
+    show("H", &h, "H: 1 reply in view 1, 0 confirmations, no result; abort accepted by 1, done by 0");
+    step(has_reported(1) && has_reported(2) && h.full[1] && h.full[2], "too few boxes have room for H: it is given up");
+    step(restart(1) && restart(2), "boxes 1 and 2 have room again");
+    advance(&h);
+    show("H", &h, "H: 1 reply in view 1, 0 confirmations, no result; abort accepted by 3, done by 3");
+}
+
+/* For one box's image another's stands in; and an old reply of a box is not taken for one to message 5 or 6. */
+static void more_views(void)
+{
+    reach[0] = IMAGE_LOST;
+    bool merged = merge_next_view(2, promised_by(2));
+    step(merged && start_view(2) && start_view(0) && start_view(1),
+         "the image of box 0 is lost on the way: all begin view 2 with the merge of the other two");
+    reach[0] = IN_REACH;
+    reach[1] = OLD_REPLY;
+    merged = merge_next_view(0, promised_by(0));
+    step(merged && start_view(0) && start_view(2) && !start_view(1),
+         "boxes 0 and 2 begin view 3; box 1 hears nothing, and an old reply of it proves nothing");
+    reach[1] = IN_REACH;
+    step(start_view(1), "box 1 begins view 3");
 }
 
 static void end(void)
@@ -244,10 +375,12 @@ static void end(void)
     uint64_t value = 0;
     bool everywhere = true;
     boxes[2].table[0] ^= 1;
-    bool silent = !read_register(2, STAMP(6, 1), 5, &version, &value) && !replied[2];
-    step(silent && restart(2), "a bit of box 2's memory turns: it falls silent, and a restart loads its table");
+    to_report[2] = "the table in memory is damaged";
+    bool silent = !read_register(2, STAMP(9, 1), 5, &version, &value) && !replied[2];
+    step(has_reported(2) && silent && restart(2),
+         "a bit of box 2's memory has turned: it falls silent, and a restart loads its table");
     for (uint8_t box = 0; box < BOXES; box++) {
-        everywhere = restart(box) && read_register(box, STAMP(6, 1), 5, &version, &value) && everywhere;
+        everywhere = restart(box) && read_register(box, STAMP(9, 1), 5, &version, &value) && everywhere;
         everywhere = everywhere && version == e.stamp && value == 12;
     }
     step(everywhere, "every box is restarted; register 5 is read in each: 12, as E wrote it");
@@ -273,6 +406,11 @@ int main(void)
     clash();
     change_view();
     late_box();
+    failing_flash();
+    one_result();
+    giving_up();
+    full_tables();
+    more_views();
     end();
     for (uint8_t box = 0; box < BOXES; box++) {
         print_image(box);

@@ -4,7 +4,7 @@
 mod common;
 
 use common::{assert_done, compile, here, made};
-use reference::{Body, Counted, Decision, Message, Outcome, PrepareResult, Table};
+use reference::{Body, Counted, Decision, Message, Number, Outcome, PrepareResult, Table};
 use std::fs;
 use std::path::{Path, PathBuf};
 use std::process::{Command, Output};
@@ -166,11 +166,10 @@ impl Group {
         decision
     }
 
-    /// Boxes 1 and 2 promise view 1; message 6 with the merge of their tables.
-    fn merged(&mut self) -> Message {
-        let view = 1;
-        self.hear(&[1, 2], &Message::ChangeView { view });
-        let run = [self.image(1), self.image(2)].concat();
+    /// Boxes promise a view; message 6 with the merge of the tables of two of them.
+    fn merged(&mut self, view: u32, boxes: &[usize], two: [usize; 2]) -> Message {
+        self.hear(boxes, &Message::ChangeView { view });
+        let run = two.map(|box_number| self.image(box_number)).concat();
         let mut output = vec![0; 49_176];
         assert_eq!(reference::merge(&run, view, &mut output), 0);
         let (image, _) = Table::parse(&output).expect("an image");
@@ -178,10 +177,9 @@ impl Group {
     }
 }
 
-/// The story of the page, told to the second program: the images in the end.
-fn told() -> Vec<Vec<u8>> {
+/// A, B, C and D, in view 0.
+fn tell_of_view_0(group: &mut Group) {
     let (ok, abort) = (PrepareResult::Ok, PrepareResult::Abort);
-    let mut group = Group::fresh();
     let a = body(&[], &[(5, 7)]);
     let decision = group.transact(&[0, 1, 2], stamp(1, 1), &a);
     assert_eq!(decision, Decision::Fast(ok));
@@ -195,14 +193,15 @@ fn told() -> Vec<Vec<u8>> {
     let d = body(&[(5, stamp(1, 1))], &[(6, 10)]);
     let decision = group.transact(&[0, 1, 2], stamp(4, 2), &d);
     assert_eq!(decision, Decision::Slow(abort));
-    // Box 0 is away while view 1 begins, and late for it.
+}
+
+/// E, in both views. Box 0 is away while view 1 begins, and late for it.
+fn tell_of_the_change(group: &mut Group) {
+    let ok = PrepareResult::Ok;
     let e = body(&[(5, stamp(3, 1))], &[(5, 12), (7, 1)]);
-    assert_eq!(
-        group.prepare(&[1, 2], stamp(5, 1), &e),
-        Decision::Slow(ok),
-        "in view 0"
-    );
-    let start = group.merged();
+    let decision = group.prepare(&[1, 2], stamp(5, 1), &e);
+    assert_eq!(decision, Decision::Slow(ok), "in view 0");
+    let start = group.merged(1, &[1, 2], [1, 2]);
     group.hear(&[1, 2], &start);
     group.prepare(&[0], stamp(5, 1), &e);
     let decision = group.prepare(&[1, 2], stamp(5, 1), &e);
@@ -211,6 +210,47 @@ fn told() -> Vec<Vec<u8>> {
     group.conclude(&[1, 2], stamp(5, 1), 1, Outcome::Commit, &e);
     group.hear(&[0], &start);
     group.conclude(&[0], stamp(5, 1), 1, Outcome::Commit, &e);
+}
+
+/// F, which is given up, G, for which a second count would come to another result, and H, for which box 0 alone has room.
+fn tell_of_view_1(group: &mut Group) {
+    let (ok, abstain) = (PrepareResult::Ok, PrepareResult::Abstain);
+    let f = body(&[], &[(8, 3)]);
+    assert_eq!(group.prepare(&[0], stamp(6, 1), &f), Decision::Wait);
+    let g = body(&[(8, 0)], &[(9, 4)]);
+    let asked = Message::ProposePrepare {
+        stamp: stamp(7, 2),
+        body: g.clone(),
+    };
+    let mut heard = group.hear(&[0, 1], &asked);
+    let decision = decided(&heard);
+    assert_eq!(decision, Decision::Slow(abstain));
+    group.finalise(&[1], stamp(7, 2), 1, decision);
+    heard.extend(group.hear(&[2], &asked));
+    assert_eq!(decided(&heard), Decision::Slow(ok), "counted once more");
+    group.finalise(&[0, 2], stamp(7, 2), 1, decision);
+    group.conclude(&[0, 2], stamp(7, 2), 1, Outcome::Abort, &g);
+    group.conclude(&[1], stamp(7, 2), 1, Outcome::Abort, &g);
+    let decision = group.prepare(&[0, 1], stamp(6, 1), &f);
+    assert_eq!(decision, Decision::Slow(ok));
+    group.conclude(&[0, 1], stamp(6, 1), 1, Outcome::Abort, &f);
+    group.conclude(&[2], stamp(6, 1), 1, Outcome::Abort, &f);
+    let h = body(&[], &[(10, 6)]);
+    assert_eq!(group.prepare(&[0], stamp(8, 1), &h), Decision::Wait);
+    group.conclude(&[0, 1, 2], stamp(8, 1), 1, Outcome::Abort, &h);
+}
+
+/// The story of the page, told to the second program: the images in the end.
+fn told() -> Vec<Vec<u8>> {
+    let mut group = Group::fresh();
+    tell_of_view_0(&mut group);
+    tell_of_the_change(&mut group);
+    tell_of_view_1(&mut group);
+    // The image of box 0 is lost; then box 1 is late.
+    let start = group.merged(2, &[0, 1, 2], [1, 2]);
+    group.hear(&[0, 1, 2], &start);
+    let start = group.merged(3, &[0, 2], [0, 2]);
+    group.hear(&[0, 1, 2], &start);
     (0..3).map(|box_number| group.image(box_number)).collect()
 }
 
@@ -240,26 +280,22 @@ fn the_tables_in_the_end_are_those_of_the_second_program() {
     for (box_number, image) in images.iter().enumerate() {
         let (table, _) = Table::parse(image).expect("an image");
         assert_eq!(usize::from(table.box_number), box_number);
-        assert_eq!((table.view, table.rows.len()), (1, 5));
+        assert_eq!((table.view, table.rows.len()), (3, 8));
     }
 }
 
 // ---- A wrong example is noticed, by itself.
 
 /// A file of the example, words that stand in it once, and what they are bent to.
-const BENT: [(&str, &str, &str); 15] = [
+const BENT: [(&str, &str, &str); 28] = [
     // a reply goes out though the table was not stored
     (
         "box.c",
-        "box->answers = store_table(box);",
-        "(void)store_table(box);",
+        "fall_silent(box, \"the table could not be stored\");",
+        "box_report(box->number, \"the table could not be stored\");",
     ),
     // nothing is stored at all
-    (
-        "box.c",
-        "box->answers = store_table(box);",
-        "box->answers = true;",
-    ),
+    ("box.c", "if (!store_table(box)) {", "if (false) {"),
     // a table is written over the newest one
     (
         "box.c",
@@ -287,9 +323,26 @@ const BENT: [(&str, &str, &str); 15] = [
     // memory gone bad is answered for
     (
         "box.c",
-        "case SPRONDILU_BAD_TABLE: /* memory went bad: silent, until a restart has loaded the table again */\n        \
-         box->answers = false;",
-        "case SPRONDILU_BAD_TABLE:",
+        "fall_silent(box, \"the table in memory is damaged\");",
+        "box_report(box->number, \"the table in memory is damaged\");",
+    ),
+    // a box falls silent without a report
+    (
+        "box.c",
+        "box->answers = false;\n    box_report(box->number, why);",
+        "box->answers = false;\n    (void)why;",
+    ),
+    // rule 1: message 3 has another body than message 1
+    (
+        "box.c",
+        "t->outcome, 1);\n    add_body(",
+        "t->outcome, 1);\n    t->body.accesses[0].number++;\n    add_body(",
+    ),
+    // rule 2: a second count in a view in which a result was sent
+    (
+        "box.c",
+        "if (t->stopped || t->result != 0) {",
+        "if (t->stopped) {",
     ),
     // rule 3: replies of two views are counted together
     (
@@ -309,11 +362,29 @@ const BENT: [(&str, &str, &str); 15] = [
         "how_many(t->confirmed) >= QUORUM",
         "how_many(t->confirmed) > 0",
     ),
+    // a result that was declared is confirmed all the same
+    (
+        "box.c",
+        "if (t->outcome != NO_OUTCOME || t->declared || t->result == 0) {",
+        "if (t->outcome != NO_OUTCOME || t->result == 0) {",
+    ),
+    // rule 5: a commit although nothing was declared
+    (
+        "box.c",
+        "} else if (t->declared) {",
+        "} else if (t->result != 0) {",
+    ),
     // rule 5: a commit is told to a box in an older view
     (
         "box.c",
         "return has_answered[box] && answered_in[box] >= t->view;",
         "return has_answered[box];",
+    ),
+    // rule 5: an abort after a commit
+    (
+        "box.c",
+        "if (t->stopped || (t->outcome != NO_OUTCOME && t->outcome != outcome)) {",
+        "if (t->stopped) {",
     ),
     // rule 6: one acceptance is taken for f+1
     (
@@ -327,17 +398,55 @@ const BENT: [(&str, &str, &str); 15] = [
         "*view = t->accepted_in[box];",
         "*view = t->accepted_in[box] - 1;",
     ),
+    // rule 7: message 2 after an outcome
+    (
+        "box.c",
+        "if (t->outcome != NO_OUTCOME || t->declared || t->result == 0) {",
+        "if (t->declared || t->result == 0) {",
+    ),
+    // rule 7: replies are taken after an outcome
+    (
+        "box.c",
+        "if (t->outcome != NO_OUTCOME) {\n        return; /* rule 7",
+        "if (t->stopped) {\n        return; /* rule 7",
+    ),
     // a refused transaction is committed
     (
         "box.c",
-        "t->outcome = t->result == SPRONDILU_OK ? COMMIT : ABORT;",
-        "t->outcome = t->result != 0 ? COMMIT : ABORT;",
+        "propose(t, t->result == SPRONDILU_OK ? COMMIT : ABORT);",
+        "propose(t, COMMIT);",
     ),
+    // the grower is told before f+1 boxes have accepted the commit
+    (
+        "box.c",
+        "t->outcome = outcome;",
+        "t->outcome = outcome;\n    t->recorded = outcome == COMMIT;",
+    ),
+    // a transaction for which there is no room is not given up
+    (
+        "box.c",
+        "if (how_many(t->full) > BOXES - QUORUM) {",
+        "if (how_many(t->full) > BOXES) {",
+    ),
+    // any reply numbered 0 is taken for a promise
+    (
+        "box.c",
+        "if (is_done(reply, CHANGE_VIEW, box) && number_at(reply + 8, 8) == view) {",
+        "if (reply != NULL && reply[0] == SPRONDILU_DONE) {",
+    ),
+    // a view counts as begun because an earlier one was
+    (
+        "box.c",
+        " && number_at(reply + 4, 4) == number_at(start_message + 1, 4);",
+        ";",
+    ),
+    // an image that did not arrive is counted
+    ("box.c", "images += length > 0;", "images++;"),
     // images are laid with the length of their buffers
     (
         "story.c",
-        "size_t length = out_of_reach[box] ? 0 : image_length(boxes[box].table);\n    memcpy(to",
-        "size_t length = out_of_reach[box] ? 0 : SPRONDILU_TABLE_BYTES;\n    memcpy(to",
+        "size_t length = lost ? 0 : image_length(boxes[box].table);",
+        "size_t length = lost ? 0 : SPRONDILU_TABLE_BYTES;",
     ),
 ];
 
@@ -378,6 +487,30 @@ fn a_bent_example_ends_with_another_number() {
 }
 
 // ---- The page.
+
+/// "of five boxes three reply OK, OK, ABORT, ABORT is sent and confirmed by the box that said ABORT, and two late replies
+/// say OK"
+#[test]
+fn a_count_after_message_2_comes_to_6_as_the_page_says() {
+    let (ok, abort) = (PrepareResult::Ok, PrepareResult::Abort);
+    let reply = |box_number, result, is_final| Counted {
+        box_number,
+        view: 0,
+        result,
+        is_final,
+    };
+    let (zero, one) = (reply(0, ok, false), reply(1, ok, false));
+    let late = [reply(3, ok, false), reply(4, ok, false)];
+    let first = [zero, one, reply(2, abort, false)];
+    assert_eq!(reference::decide(5, &first), Ok(Decision::Slow(abort)));
+    let confirmed = [zero, one, reply(2, abort, true), late[0], late[1]];
+    assert_eq!(reference::decide(5, &confirmed), Err(Number::Contradiction));
+    // confirmed by another box, it does not
+    let confirmed = [reply(0, abort, true), one, first[2], late[0], late[1]];
+    assert_eq!(reference::decide(5, &confirmed), Ok(Decision::Slow(abort)));
+    let words = "confirmed by the box that said ABORT, and two late replies say OK";
+    assert!(text(PAGE).contains(words), "{}", words);
+}
 
 /// The blocks of a page that are marked so, each with its lines.
 fn blocks(page: &str, mark: &str) -> Vec<String> {
