@@ -21,7 +21,7 @@ impl Answer {
     }
 }
 
-/// A call of the library that ended with another number than 0: "each refusal exactly in its circumstances".
+/// What ended with another number than 0.
 #[derive(Debug, PartialEq, Eq)]
 pub struct Refusal {
     pub number: u8,

@@ -29,7 +29,8 @@ bytes. A stamp is written TIME:CLIENT, such as 2:1, or as one number, which is
 time x 65536 + client. Numbers may be written in hexadecimal digits after 0x.
 After -- no word is an option.
 
-Every number, table, reply and count is the proved library's.
+Every number, table, reply and count is the proved library's; only that a file
+is no reply, 3, is this program's own finding.
 
 With --json one JSON object is printed, for a refusal too. Stamps and versions
 are one number in it; values of registers are text, since they may have 64 bits.

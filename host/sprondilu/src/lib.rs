@@ -3,7 +3,7 @@
 //! Every number, table, reply and count comes from the proved library; this program reads files, lends their bytes, writes
 //! what came of it and says it in words. What it reads by itself, in order to show it, is read only after the library has
 //! found it good; and where the library refuses, [`wrong`] and [`reasons`] look for what a person would want to know, and
-//! never decide anything.
+//! decide nothing, but for [`wrong::reply`]: no call judges whether a file is a reply.
 //!
 //! - [`commands`]: one file for each command, [`help`] their help texts
 //! - [`words`]: the words of a command line, [`stamps`]: stamps in words

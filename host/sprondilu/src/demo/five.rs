@@ -35,8 +35,8 @@ fn told_to_nobody(group: &mut Group) -> Result<(), Stop> {
     let replies = group.send(&propose, &[0, 1, 2, 3], &[4]);
     group.count(&replies, fast(OK))?;
     group.say(
-        "OK is declared final, and client 3 writes that down. Then its battery is empty: no box learns that the result is \
-         final, and no commit is sent. Four boxes have a tentative OK, and that is all.",
+        "OK is declared final, and client 3 writes down that 1:3 is to be committed. Then its battery is empty: no box learns \
+         that the result is final, and no commit is sent. Four boxes have a tentative OK, and that is all.",
     );
     Ok(())
 }
@@ -140,7 +140,7 @@ fn view_change(group: &mut Group) -> Result<(), Stop> {
 }
 
 fn last_commit(group: &mut Group) -> Result<(), Stop> {
-    group.say("Client 3 has a new battery, and has it in writing that 1:3 was declared OK. Its commit is told to the boxes, in view 1.");
+    group.say("Client 3 has a new battery, and finds it written down that 1:3 is to be committed. It tells the boxes, in view 1.");
     group.settle(at(1, 3), COMMIT, &body(10, None, 4), 1, &ALL, &[])?;
     group.read(4, at(9, 9), 10, at(1, 3), 4)?;
     group.read(3, at(9, 9), 12, at(5, 1), 8)?;

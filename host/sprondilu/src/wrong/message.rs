@@ -6,7 +6,7 @@ use crate::image::{number_at, u32_at, Header, Table, ACCESS_BYTES, HEADER_BYTES,
 use crate::message::IMAGE_PLACE;
 use crate::names;
 
-/// The first place at which the bytes are no message. For message 6 the box's own n counts: none stands for a group as large as
+/// A place at which the bytes are no message. For message 6 the box's own n counts: none stands for a group as large as
 /// the image's.
 pub fn message(bytes: &[u8], n: Option<u8>) -> Good {
     ensure(!bytes.is_empty(), 0, || {

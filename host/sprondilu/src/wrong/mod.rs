@@ -1,15 +1,15 @@
 //! What is wrong with bytes that the library refuses, and at which byte, for people.
 //!
-//! The library alone decides whether bytes are a table or a message. What is here reads the same bytes once more, from the
-//! front, and stops at the first place that breaks a rule of document 01. That it finds one exactly where the library refuses
-//! is tested; if it ever finds none, the refusal says so.
+//! The library alone decides whether bytes are a table or a message. What is here reads the same bytes once more, rule by rule,
+//! and stops at a place that breaks one; where several do, it need not be the first of them. That it finds one exactly where the
+//! library refuses is tested; if it ever finds none, the refusal says so.
 
 pub mod body;
 pub mod message;
 pub mod reply;
 pub mod table;
 
-/// The first place that breaks a rule: the byte, the first of a file being byte 0, and what is wrong there.
+/// A place that breaks a rule: the byte, the first of a file being byte 0, and what is wrong there.
 #[derive(Clone, Debug, PartialEq, Eq)]
 pub struct Wrong {
     pub byte: usize,

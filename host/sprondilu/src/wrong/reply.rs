@@ -6,7 +6,7 @@ use crate::calls::REPLY_BYTES;
 use crate::names;
 use crate::reply::Reply;
 
-/// The first place at which the bytes are no reply that a box gives.
+/// A place at which the bytes are no reply that a box gives.
 pub fn reply(bytes: &[u8]) -> Good {
     let end = bytes.len();
     ensure(end >= REPLY_BYTES, end, || {

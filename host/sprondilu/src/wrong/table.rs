@@ -6,7 +6,7 @@ use crate::names;
 
 const MOST_ROWS: u32 = 512;
 
-/// The first place at which the bytes do not begin with an image by the rules.
+/// A place at which the bytes do not begin with an image by the rules.
 pub fn image(bytes: &[u8]) -> Good {
     header(bytes)?;
     let rows = Header::at(bytes).rows as usize;
