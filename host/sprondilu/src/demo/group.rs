@@ -76,14 +76,14 @@ impl Group {
         }
     }
 
-    /// Words of explanation, set in below the heading, in lines that fit on a screen.
+    /// Words of explanation below the heading, with an empty line on either side.
     pub fn say(&mut self, words: &str) {
         self.blank_line();
         self.say_in(words, "");
         self.blank_line();
     }
 
-    /// Words that stand further in, and further still from their second line on.
+    /// Words in lines that fit on a screen, each of them so much further in.
     fn say_in(&mut self, words: &str, further: &str) {
         let mut line = format!("{}{}", INDENT, further);
         let empty = line.len();
