@@ -1,5 +1,5 @@
 //! Finds a static library of the proved crates for a build script, so that it is linked: in the folder that SPRONDILU_LIB
-//! names, or where `rt staticlib` writes it.
+//! names, or where `tools/library` writes it.
 
 use std::path::{Path, PathBuf};
 use std::{env, process};
@@ -12,7 +12,7 @@ pub fn link(name: &str) -> PathBuf {
     println!("cargo:rerun-if-changed={}", archive.display());
     if !archive.is_file() {
         eprintln!(
-            "There is no {}. `rt staticlib {}`, at the top of the repository, proves the library and writes it to \
+            "There is no {}. `tools/library {}`, at the top of the repository, proves the library and writes it to \
              target/staticlib; SPRONDILU_LIB, if set, names another folder to take it from, by its whole path.",
             archive.display(),
             name

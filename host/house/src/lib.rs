@@ -62,7 +62,7 @@ pub fn cited(paper: &str) -> Vec<String> {
 /// Whether what a citation names is there. `None` for words that name nothing of the tree.
 ///
 /// `wire::u32_at` is a function of a crate, `table::header::read` one of a module of it, `wire/proofs/Numbers.read-back`
-/// a definition or a theorem, `wire/must-fail/..` an edit, and a path that begins with one of the repository's folders is
+/// a definition or a theorem, `wire/must-fail/..` and `rows/more-must-fail/..` edits, and a path that begins with one of the repository's folders is
 /// that file.
 pub fn stands(citation: &str) -> Option<bool> {
     let crates = crates();
@@ -106,9 +106,9 @@ fn declares_function(name: &str, path: &str) -> bool {
 }
 
 fn stands_in_crate(name: &str, rest: &str) -> bool {
-    if let Some(label) = rest.strip_prefix("must-fail/") {
+    if let Some((folder @ ("must-fail" | "more-must-fail"), label)) = rest.split_once('/') {
         return top()
-            .join(format!("crates/{}/must-fail/{}.edit", name, label))
+            .join(format!("crates/{}/{}/{}.edit", name, folder, label))
             .is_file();
     }
     let (file, item) = match rest.rsplit_once('.') {

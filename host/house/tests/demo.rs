@@ -31,13 +31,16 @@ impl Clone {
         for sub in ["bin", "tools", "crates", "host"] {
             fs::create_dir_all(folder.join(sub)).unwrap();
         }
-        fs::copy(house::top().join("demo"), folder.join("demo")).unwrap();
+        for file in ["demo", "tools/library"] {
+            fs::copy(house::top().join(file), folder.join(file)).unwrap();
+        }
         fs::write(folder.join("crates.txt"), "wire:\n").unwrap();
         fs::write(folder.join("crates/lib.rt"), "").unwrap();
         let clone = Clone { folder };
         clone.script("tools/install", "exit 0\n");
         clone.script("bin/rt", PROVES);
         clone.script("bin/cargo", BUILDS);
+        clone.script("bin/uname", "echo x86_64\n");
         clone
     }
 
@@ -127,7 +130,7 @@ fn a_changed_source_is_proved_anew() {
 fn what_cannot_be_proved_or_built_is_said_and_not_played() {
     let fails = "echo 'what went wrong'\nexit 1\n";
     for (tool, step) in [
-        ("bin/rt", "rt staticlib sprondilu"),
+        ("bin/rt", "tools/library sprondilu"),
         ("bin/cargo", "cargo build"),
     ] {
         let clone = Clone::new("fails");

@@ -37,19 +37,21 @@ impl Gate {
         for sub in [".ci", "tools", "bin", "host"] {
             fs::create_dir_all(folder.join(sub)).unwrap();
         }
-        for file in [".ci/run", "test", "tools/install"] {
+        for file in [".ci/run", "test", "tools/install", "tools/library"] {
             fs::copy(house::top().join(file), folder.join(file)).unwrap();
         }
         let gate = Gate { folder };
         // Nothing of this machine is on the gate's PATH but these, so that a tool can be missing there.
         for tool in [
-            "bash", "env", "dirname", "grep", "mkdir", "mktemp", "tee", "sed", "tail", "rm",
+            "bash", "cat", "chmod", "dirname", "env", "grep", "ln", "mkdir", "mktemp", "readlink",
+            "rm", "sed", "tail", "tee",
         ] {
             symlink(which(tool), gate.folder.join("bin").join(tool)).unwrap();
         }
         gate.rt("exit 0", WELL);
         gate.tool("cargo", LINKED);
         gate.tool("cc", "exit 0\n");
+        gate.tool("uname", "echo x86_64\n");
         gate.agree("exit 0\n");
         gate.demo("exit 0\n");
         gate
@@ -207,11 +209,35 @@ fn a_library_that_cannot_be_built_is_red() {
     let gate = Gate::new("library");
     for staticlib in ["exit 1", "echo '7 passed, 0 failed'\nexit 3"] {
         gate.rt_with_library("exit 0", WELL, staticlib);
-        gate.is_red_at("rt staticlib sprondilu");
+        gate.is_red_at("tools/library sprondilu");
     }
     let all_but_trial = format!("[ \"$2\" != trial ] || exit 1\n{}", BUILT);
     gate.rt_with_library("exit 0", WELL, &all_but_trial);
-    gate.is_red_at("rt staticlib trial");
+    gate.is_red_at("tools/library trial");
+}
+
+/// A kit beside the stand-ins that has a compiler for an Arm.
+fn kit_for_an_arm(gate: &Gate) {
+    let toolchain = gate.folder.join("on/aarch64/toolchain/bin");
+    fs::create_dir_all(&toolchain).unwrap();
+    gate.script(toolchain.join("clang"), "echo \"compiled: $*\"\n");
+}
+
+/// Compiles as the kit does, for the machine that it always does it for, and writes the library only if it was for an Arm.
+const COMPILES: &str = "clang=$RATTLE_HOME/on/aarch64/toolchain/bin/clang\n\
+    said=$($clang --target=x86_64-unknown-linux-gnu -march=x86-64 -c module.bc)\n\
+    [ \"$said\" = 'compiled: --target=aarch64-unknown-linux-gnu -Wno-override-module -c module.bc' ] || exit 1\n";
+
+#[test]
+fn on_another_machine_the_library_is_compiled_for_it() {
+    let gate = Gate::new("arm");
+    gate.tool("uname", "echo aarch64\n");
+    gate.rt_with_library("exit 0", WELL, &format!("{}{}", COMPILES, BUILT));
+    gate.is_red_at("tools/library sprondilu");
+    kit_for_an_arm(&gate);
+    let (passed, last, all) = gate.run();
+    assert!(passed, "{}", all);
+    assert_eq!(last, "7 passed, 0 failed", "{}", all);
 }
 
 #[test]

@@ -52,6 +52,7 @@ fn a_citation_of_nothing_is_noticed() {
         "wire/proofs/Numbers.no-such-law",
         "wire/proofs/NoSuchFile.read-back",
         "wire/must-fail/no_such_edit",
+        "rows/more-must-fail/no_such_edit",
         "table::header::no_such_function",
         "table::no_such_module::read",
         "host/no/such/file",
@@ -104,6 +105,31 @@ fn every_must_fail_edit_is_cited_by_a_claim() {
             .to_string();
         assert!(cited.contains(&name), "CLAIMS.md does not cite {}", name);
     }
+}
+
+/// What an edit's line says behind this word.
+fn line_of<'a>(edit: &'a str, word: &str) -> &'a str {
+    let said = edit.lines().find_map(|line| line.strip_prefix(word));
+    said.unwrap_or_else(|| panic!("no {} in {}", word, edit))
+}
+
+/// The gate applies the others, and would say so.
+#[test]
+fn an_edit_that_the_gate_does_not_try_still_fits_its_source() {
+    let mut seen = 0;
+    for file in files("crates", ".edit") {
+        let (folder, _) = match file.split_once("/more-must-fail/") {
+            Some(parts) => parts,
+            None => continue,
+        };
+        let edit = text(&file);
+        let (old, new) = (line_of(&edit, "old: "), line_of(&edit, "new: "));
+        let source = text(&format!("{}/{}", folder, line_of(&edit, "file: ")));
+        assert_eq!(source.matches(old).count(), 1, "{}: {}", file, old);
+        assert_ne!(old, new, "{} changes nothing", file);
+        seen += 1;
+    }
+    assert!(seen > 20, "only {} such edits were found", seen);
 }
 
 #[test]
