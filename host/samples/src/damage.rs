@@ -19,6 +19,22 @@ pub const ALWAYS_IMAGES: [&str; 3] = [
 /// The kind of which no sample can be expected to be an image.
 pub const NEVER_IMAGES: &str = "random bytes";
 
+/// All kinds of damage to a table of three rows or more, but for those that take very many samples.
+pub fn all(dice: &mut Dice, table: &Table, judge: &mut Judge) {
+    fields_overwritten(table, &[], judge);
+    some_fields_overwritten(dice, table, 500, judge);
+    counts_about_the_limit(dice, table, 1, judge);
+    for index in 0..3 {
+        gaps(table, index, judge);
+        reads_taken_for_writes(table, index, judge);
+    }
+    shared_bodies(table, 1, judge);
+    bodies_out_of_order(table, 1, judge);
+    (0..200).for_each(|_| one_byte(dice, table, judge));
+    (0..100).for_each(|_| likely_headers(dice, judge));
+    (0..20).for_each(|_| random_bytes(dice, judge));
+}
+
 /// Every field of the header, and of the first, the middle and the last row, with each value worth trying in turn.
 pub fn fields_overwritten(table: &Table, bytes_after: &[u8], judge: &mut Judge) {
     let mut bytes = [&table.image(), bytes_after].concat();

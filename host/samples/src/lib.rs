@@ -11,6 +11,10 @@
 //! - [`transactions`]: transactions that clash often
 //! - [`damage`]: images of many kinds, good and bad
 //! - [`message`]: messages to a box
+//! - [`kinds`]: messages of every kind about a table
+//! - [`next`]: messages that go on from what a box holds
+//! - [`runs`]: tables that one merge may be made of
+//! - [`mixtures`]: such tables with transactions that clash often
 //! - [`replies`]: the replies that a coordinator counts
 //! - [`parts`]: a test in parts that are worked out side by side
 //! - [`tally`]: how many samples of each kind were images
@@ -18,10 +22,14 @@
 pub mod damage;
 pub mod dice;
 pub mod field;
+pub mod kinds;
 pub mod message;
+pub mod mixtures;
+pub mod next;
 pub mod parts;
 pub mod random;
 pub mod replies;
+pub mod runs;
 pub mod table;
 pub mod tally;
 pub mod transactions;

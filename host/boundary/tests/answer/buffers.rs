@@ -1,7 +1,7 @@
 //! Buffers of every length about the limits, for messages of every kind.
 
 use crate::lent::{Lent, REPLIES_TOO_SHORT, TABLES_LONG_ENOUGH, TABLES_TOO_SHORT};
-use crate::messages as make;
+use samples::message as make;
 use samples::{random, TABLE_BYTES};
 
 /// Messages of every kind to one table. They change it, so that most of them are refused when they come again.

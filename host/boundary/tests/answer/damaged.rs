@@ -1,80 +1,25 @@
 //! Tables and messages that break a rule, and those that come near to it.
 
 use crate::lent::Lent;
-use crate::messages as make;
-use samples::damage;
-use samples::{random, Dice, Row, Table, GREATEST_STAMP};
-
-/// A message of every kind, about a row of the table or about a stamp that it hardly holds; then one of an unknown kind, and
-/// none at all.
-fn messages(dice: &mut Dice, table: &Table) -> Vec<Vec<u8>> {
-    let held = &table.rows[dice.index(table.rows.len())];
-    let any_stamp = 1 + dice.below(GREATEST_STAMP);
-    let new = random::row(dice, any_stamp, (2, 2));
-    let row = if dice.in_a_hundred(60) { held } else { &new };
-    let result = match held.prepare % 4 {
-        0 => (4, held.retry.max(1)),
-        code => (code, 0),
-    };
-    let view = table.view;
-    let image = make::settled(&table.image(), table.promised.wrapping_add(1));
-    vec![
-        make::propose_prepare(row),
-        make::finalise_prepare(row.stamp, view, result),
-        make::propose_outcome(row, 2 - held.outcome % 2),
-        make::finalise_outcome(row.stamp, view, 2 - held.outcome % 2),
-        make::change_view(table.promised.wrapping_add(1)),
-        make::start_view(table.promised.wrapping_add(1), &image),
-        make::read(row.stamp, register(row)),
-        unknown(dice, row),
-        Vec::new(),
-    ]
-}
-
-fn register(row: &Row) -> u8 {
-    row.writes.last().map_or(0, |write| write.register)
-}
-
-/// A message by the rules but for its kind, 0 or 8 to 255.
-fn unknown(dice: &mut Dice, row: &Row) -> Vec<u8> {
-    let made: [fn(&Row) -> Vec<u8>; 3] = [
-        make::propose_prepare,
-        |row| make::read(row.stamp, 0),
-        |row| make::change_view(row.stamp as u32),
-    ];
-    let mut message = dice.one_of(&made)(row);
-    message[0] = (dice.below(249) as u8).wrapping_add(8);
-    message
-}
+use samples::{damage, kinds, random, Dice};
 
 /// Tables of every kind, good and damaged; each is asked one message.
 pub fn tables(lent: &mut Lent) {
     for turn in 0..16 {
         let table = random::table(&mut lent.dice, 3 + turn % 5);
         let mut dice = Dice::seeded(turn as u64);
-        let messages = messages(&mut dice, &table);
+        let messages = kinds::messages(&mut dice, &table);
         let mut which = 0;
         let mut ask = |_: &str, bytes: &[u8]| {
             lent.hold(bytes);
             which = (which + 1) % messages.len();
             lent.ask(&messages[which]);
         };
-        damage::fields_overwritten(&table, &[], &mut ask);
-        damage::some_fields_overwritten(&mut dice, &table, 500, &mut ask);
-        damage::counts_about_the_limit(&mut dice, &table, 1, &mut ask);
-        for index in 0..3 {
-            damage::gaps(&table, index, &mut ask);
-            damage::reads_taken_for_writes(&table, index, &mut ask);
-        }
-        damage::shared_bodies(&table, 1, &mut ask);
-        damage::bodies_out_of_order(&table, 1, &mut ask);
-        (0..200).for_each(|_| damage::one_byte(&mut dice, &table, &mut ask));
-        (0..100).for_each(|_| damage::likely_headers(&mut dice, &mut ask));
-        (0..20).for_each(|_| damage::random_bytes(&mut dice, &mut ask));
+        damage::all(&mut dice, &table, &mut ask);
     }
     let mut dice = Dice::seeded(99);
     let one = random::table(&mut dice, 1);
-    let messages = messages(&mut dice, &one);
+    let messages = kinds::messages(&mut dice, &one);
     damage::rows_about_the_limit(&mut dice, &mut |_, bytes| {
         lent.hold(bytes);
         lent.ask(&messages[6]);
@@ -86,7 +31,7 @@ pub fn messages_spoiled(lent: &mut Lent) {
     for turn in 0..40 {
         let table = random::table(&mut lent.dice, 2 + turn % 4);
         let image = table.image();
-        for message in messages(&mut lent.dice, &table) {
+        for message in kinds::messages(&mut lent.dice, &table) {
             every_kind(lent, &image, &message);
             cut_and_followed(lent, &image, &message);
             // An image is damaged apart from this, so that few of its bytes are enough here.

@@ -1,7 +1,7 @@
 //! Tables of 511 and 512 rows: new stamps in every place, and held ones.
 
 use crate::lent::Lent;
-use crate::messages as make;
+use samples::message as make;
 use samples::{random, Dice, Row, Table, GREATEST_STAMP, MOST_ROWS};
 
 /// Tables of 511 rows, to which a row more can be added, and of 512.

@@ -5,7 +5,6 @@ mod damaged;
 mod histories;
 mod large;
 mod lent;
-mod messages;
 mod refusals;
 mod shares;
 mod starts;

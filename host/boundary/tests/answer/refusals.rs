@@ -3,7 +3,7 @@
 use crate::lent::{
     Lent, REPLIES_LONG_ENOUGH, REPLIES_TOO_SHORT, TABLES_LONG_ENOUGH, TABLES_TOO_SHORT,
 };
-use crate::messages as make;
+use samples::message as make;
 use samples::{damage, random, Dice, Row, Table, MOST_ROWS};
 
 /// "The first that applies wins, in this order".

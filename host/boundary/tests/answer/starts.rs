@@ -1,8 +1,8 @@
 //! Message 6: images that keep 01's further conditions and images that break some of them, to tables of other lengths.
 
 use crate::lent::Lent;
-use crate::messages as make;
 use samples::damage;
+use samples::message as make;
 use samples::{random, Dice, Table, MOST_ROWS};
 
 /// A way to break a condition. It says whether it did: some are not to be broken without rows.

@@ -1,9 +1,8 @@
 //! Outputs of every length about the limit, for runs that are merged and for runs that are refused.
 
 use crate::lent::{Lent, LONG_ENOUGH, TOO_SHORT};
-use crate::mixtures;
 use crate::refusals;
-use samples::TABLE_BYTES;
+use samples::{mixtures, TABLE_BYTES};
 
 pub fn lengths(lent: &mut Lent) {
     for _ in 0..300 {

@@ -1,9 +1,8 @@
 //! Runs that break a rule, and those that come near to it: in a table that is used and in one that is not.
 
 use crate::lent::Lent;
-use crate::mixtures;
-use crate::runs::Run;
-use samples::{damage, random, Dice};
+use samples::runs::Run;
+use samples::{damage, mixtures, random, Dice};
 
 /// A run, and the place of a table in it that is to be damaged and has three rows at least.
 fn run(dice: &mut Dice) -> (Run, usize) {
@@ -27,19 +26,8 @@ pub fn images(lent: &mut Lent) {
             images[place] = bytes.to_vec();
             lent.ask(&images.concat(), run.view);
         };
-        damage::fields_overwritten(damaged, &[], &mut ask);
-        damage::some_fields_overwritten(&mut dice, damaged, 500, &mut ask);
-        damage::counts_about_the_limit(&mut dice, damaged, 1, &mut ask);
-        for index in 0..3 {
-            damage::gaps(damaged, index, &mut ask);
-            damage::reads_taken_for_writes(damaged, index, &mut ask);
-        }
-        damage::shared_bodies(damaged, 1, &mut ask);
-        damage::bodies_out_of_order(damaged, 1, &mut ask);
+        damage::all(&mut dice, damaged, &mut ask);
         damage::cut_and_followed(&mut dice, damaged, &mut ask);
-        (0..200).for_each(|_| damage::one_byte(&mut dice, damaged, &mut ask));
-        (0..100).for_each(|_| damage::likely_headers(&mut dice, &mut ask));
-        (0..20).for_each(|_| damage::random_bytes(&mut dice, &mut ask));
     }
 }
 

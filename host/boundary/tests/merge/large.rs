@@ -1,7 +1,7 @@
 //! Merges at and over 512 stamps.
 
 use crate::lent::Lent;
-use crate::runs::{self, Run};
+use samples::runs::{self, Run};
 use samples::{random, Dice, Row, MOST_ROWS, TABLE_BYTES};
 
 /// Merges of so many stamps, up to as many as f+1 full tables of different stamps have.

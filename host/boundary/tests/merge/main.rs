@@ -7,7 +7,6 @@ mod large;
 mod lent;
 mod mixtures;
 mod refusals;
-mod runs;
 mod shares;
 mod started;
 mod worked;

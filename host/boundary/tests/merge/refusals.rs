@@ -1,7 +1,7 @@
 //! None, one, two or three refusals at once. Which number wins is worked out here as well, from the paper's order alone.
 
 use crate::lent::{Lent, LONG_ENOUGH, TOO_SHORT};
-use crate::runs::{self, Run};
+use samples::runs::{self, Run};
 use samples::{damage, message, random, transactions, Dice, Row, MOST_ROWS};
 
 /// "The first that applies wins, in this order", of those that a merge can meet.

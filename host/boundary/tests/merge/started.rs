@@ -1,7 +1,7 @@
 //! A done merge's image, sent as message 6 for its view to boxes of the group that have not gone further.
 
 use crate::lent::Lent;
-use crate::runs::Run;
+use samples::runs::Run;
 use samples::{message, random, TABLE_BYTES};
 
 /// Has a box with any table, normal in an earlier view or changing to at most this one, start the view of the last merge.

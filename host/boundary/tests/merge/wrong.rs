@@ -1,7 +1,7 @@
 //! Runs of images by the rules that are not the tables of a merge, and those that just are.
 
 use crate::lent::Lent;
-use crate::runs::{self, Run};
+use samples::runs::{self, Run};
 use samples::{random, Table};
 
 /// No to eight images, in every group.

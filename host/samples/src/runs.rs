@@ -1,6 +1,6 @@
 //! Runs of tables that one merge may be made of.
 
-use samples::{Dice, Row, Table};
+use crate::{Dice, Row, Table};
 
 /// Tables laid end to end, and the view that their merge is for.
 #[derive(Clone, Debug)]

@@ -1,0 +1,121 @@
+//! One box and what it is told.
+
+use super::alterations::altered;
+use super::{ask, buffer, dirt, image, table_length};
+use crate::both::{Both, Difference};
+use samples::{kinds, message, next, random, transactions, Dice, Row, GREATEST_STAMP, MOST_ROWS};
+
+/// Any n and any box, in buffers of any length.
+pub fn fresh(both: &mut Both, dice: &mut Dice) -> Result<(), Difference> {
+    for _ in 0..100 {
+        let length = table_length(dice);
+        let mut table = dirt(dice, length);
+        let (any, other) = (dice.byte(), dice.byte());
+        let n = dice.one_of(&[3, 5, 7, 0, 1, 2, 4, 6, 8, 9, any]);
+        let box_number = dice.one_of(&[0, 1, n.wrapping_sub(1), n, other]);
+        both.fresh(dice, &mut table, (n, box_number))?;
+    }
+    Ok(())
+}
+
+/// A buffer with the fresh table of a box of a group; nothing but dirt in one that is too short.
+fn fresh_box(both: &mut Both, dice: &mut Dice) -> Result<Vec<u8>, Difference> {
+    let length = table_length(dice);
+    let mut table = dirt(dice, length);
+    let n = dice.one_of(&[3, 5, 7]);
+    let box_number = dice.below(u64::from(n)) as u8;
+    both.fresh(dice, &mut table, (n, box_number))?;
+    Ok(table)
+}
+
+/// A message that goes on from what the buffer holds; any message if it holds no table.
+fn next_message(dice: &mut Dice, table: &[u8], transactions: &[Row]) -> Vec<u8> {
+    match image(table) {
+        Some(image) => next::message(dice, image, transactions),
+        None => any_message(dice),
+    }
+}
+
+/// A message of any kind about some table.
+fn any_message(dice: &mut Dice) -> Vec<u8> {
+    let rows = 1 + dice.index(5);
+    let table = random::table(dice, rows);
+    let mut messages = kinds::messages(dice, &table);
+    messages.swap_remove(dice.index(messages.len()))
+}
+
+/// A long sequence of messages over few transactions, from a fresh table on.
+pub fn history(both: &mut Both, dice: &mut Dice) -> Result<(), Difference> {
+    let mut table = fresh_box(both, dice)?;
+    let transactions = transactions::some(dice);
+    for _ in 0..200 {
+        let message = next_message(dice, &table, &transactions);
+        ask(both, dice, &mut table, &message)?;
+    }
+    both.valid(dice, &table).map(drop)
+}
+
+/// The same, but that most messages are altered, and now and then the table is.
+pub fn spoilt_history(both: &mut Both, dice: &mut Dice) -> Result<(), Difference> {
+    let mut table = fresh_box(both, dice)?;
+    let transactions = transactions::some(dice);
+    for _ in 0..200 {
+        let message = next_message(dice, &table, &transactions);
+        match dice.index(4) {
+            0 => ask(both, dice, &mut table, &message)?,
+            1 => ask_an_altered_table(both, dice, &table, &message)?,
+            _ => {
+                let spoilt = altered(dice, &message);
+                ask(both, dice, &mut table, &spoilt)?
+            }
+        };
+    }
+    Ok(())
+}
+
+/// One message to what a table became by alterations; the table itself goes on as it was.
+fn ask_an_altered_table(
+    both: &mut Both,
+    dice: &mut Dice,
+    table: &[u8],
+    message: &[u8],
+) -> Result<u64, Difference> {
+    let held = image(table).unwrap_or(&table[..table.len().min(24)]);
+    let spoilt = altered(dice, held);
+    let mut lent = buffer(dice, &spoilt, table.len());
+    ask(both, dice, &mut lent, message)
+}
+
+/// A table of very many rows, and messages about those and about new stamps, of which there is room for few or none.
+pub fn full(both: &mut Both, dice: &mut Dice) -> Result<(), Difference> {
+    let missing = dice.one_of(&[0, 0, 1, 2, 10, 400]);
+    let rows = MOST_ROWS - dice.index(missing + 1);
+    let mut held = random::table(dice, rows);
+    if dice.in_a_hundred(80) {
+        (held.mode, held.promised) = (0, held.view);
+    }
+    let mut table = held.image();
+    table.resize(table_length(dice).max(table.len()), 0xee);
+    for _ in 0..8 {
+        for message in kinds::messages(dice, &held) {
+            ask(both, dice, &mut table, &message)?;
+        }
+        let new = new_transaction(dice);
+        ask(both, dice, &mut table, &message::propose_prepare(&new))?;
+        let verdict = dice.one_of(&[1, 2]);
+        ask(
+            both,
+            dice,
+            &mut table,
+            &message::propose_outcome(&new, verdict),
+        )?;
+    }
+    both.valid(dice, &table).map(drop)
+}
+
+/// A transaction that a random table hardly holds.
+fn new_transaction(dice: &mut Dice) -> Row {
+    let stamp = 1 + dice.below(GREATEST_STAMP);
+    let counts = (dice.index(5), 1 + dice.index(4));
+    random::row(dice, stamp, counts)
+}

@@ -1,0 +1,102 @@
+//! How often each call ended with each number, so that an attack without a difference is no empty one.
+
+use std::fmt::{self, Display, Formatter};
+
+const NUMBERS: usize = 12;
+
+/// A call, and for the answer the kind of message; 0 for kinds that there are not, and for no bytes at all.
+#[derive(Clone, Copy, Debug, PartialEq, Eq)]
+pub enum Call {
+    Fresh,
+    Valid,
+    Answer(u8),
+    Merge,
+    Count,
+    CountRecords,
+}
+
+/// Each call, its name, and the numbers that the paper has for it.
+const CALLS: [(Call, &str, &[usize]); 13] = [
+    (Call::Fresh, "fresh", &[0, 1, 3]),
+    (Call::Valid, "valid", &[0, 2]),
+    (Call::Answer(0), "answer to no kind", &[1, 2, 3]),
+    (Call::Answer(1), "answer to 1", &[0, 1, 2, 3, 4, 5, 7]),
+    (Call::Answer(2), "answer to 2", &[0, 1, 2, 3, 4, 6, 8, 9]),
+    (Call::Answer(3), "answer to 3", &[0, 1, 2, 3, 4, 5, 6, 7]),
+    (Call::Answer(4), "answer to 4", &[0, 1, 2, 3, 4, 6, 8, 9]),
+    (Call::Answer(5), "answer to 5", &[0, 1, 2, 3, 10]),
+    (Call::Answer(6), "answer to 6", &[0, 1, 2, 3, 10]),
+    (Call::Answer(7), "answer to 7", &[0, 1, 2, 3, 4]),
+    (Call::Merge, "merge", &[0, 1, 2, 5, 6, 7, 11]),
+    (Call::Count, "count", &[0, 3, 6]),
+    (Call::CountRecords, "count of records", &[0, 3, 6]),
+];
+
+impl Call {
+    /// The answer to these bytes.
+    pub fn answering(message: &[u8]) -> Call {
+        match message.first() {
+            Some(kind @ 1..=7) => Call::Answer(*kind),
+            _ => Call::Answer(0),
+        }
+    }
+}
+
+#[derive(Clone, Debug, Default, PartialEq, Eq)]
+pub struct Met {
+    numbers: [[u64; NUMBERS]; CALLS.len()],
+}
+
+impl Met {
+    pub fn count(&mut self, call: Call, number: u8) {
+        let place = CALLS.iter().position(|(other, _, _)| *other == call);
+        self.numbers[place.expect("a call of the list")][usize::from(number)] += 1;
+    }
+
+    pub fn add(&mut self, other: &Met) {
+        let here = self.numbers.iter_mut().flatten();
+        let there = other.numbers.iter().flatten();
+        here.zip(there).for_each(|(count, more)| *count += more);
+    }
+
+    pub fn calls(&self) -> u64 {
+        self.numbers.iter().flatten().sum()
+    }
+
+    /// What was met more seldom than so often, though the paper has it, and what was met though it has it not.
+    pub fn missing(&self, least: u64) -> Vec<String> {
+        let mut missing = Vec::new();
+        for ((_, name, possible), counts) in CALLS.iter().zip(&self.numbers) {
+            for (number, count) in counts.iter().enumerate() {
+                let right = match possible.contains(&number) {
+                    true => *count >= least,
+                    false => *count == 0,
+                };
+                if !right {
+                    missing.push(format!("{}, number {}: {} times", name, number, count));
+                }
+            }
+        }
+        missing
+    }
+}
+
+/// A line for each call, a column for each number.
+impl Display for Met {
+    fn fmt(&self, f: &mut Formatter) -> fmt::Result {
+        write!(f, "| call | calls |")?;
+        (0..NUMBERS).try_for_each(|number| write!(f, " {} |", number))?;
+        write!(f, "\n|---|---|")?;
+        (0..NUMBERS).try_for_each(|_| write!(f, "---|"))?;
+        for ((_, name, possible), counts) in CALLS.iter().zip(&self.numbers) {
+            write!(f, "\n| {} | {} |", name, counts.iter().sum::<u64>())?;
+            for (number, count) in counts.iter().enumerate() {
+                match possible.contains(&number) || *count > 0 {
+                    true => write!(f, " {} |", count)?,
+                    false => write!(f, " |")?,
+                }
+            }
+        }
+        Ok(())
+    }
+}

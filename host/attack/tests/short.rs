@@ -1,0 +1,163 @@
+//! A short attack for the gate, and that it has teeth: programs with one fault each, put in the place of the library.
+
+use attack::calls::LIBRARY;
+use attack::rounds::{attack, Found, Plan};
+use attack::{Calls, Memory};
+use samples::TABLE_BYTES;
+
+/// So many rounds, each kind in its turn.
+const ROUNDS: u64 = 1_200;
+/// So often at least each call ends with each number that it can end with.
+const LEAST: u64 = 10;
+/// Within so many rounds a fault has to be found.
+const ROUNDS_FOR_A_FAULT: u64 = 240;
+
+fn plan(calls: Calls, rounds: u64) -> Plan {
+    Plan {
+        calls,
+        memory: Memory::Fenced,
+        from: 1,
+        until: 1 + rounds,
+        most_time: None,
+        threads: 2,
+    }
+}
+
+#[test]
+fn a_short_attack_finds_no_difference_and_meets_every_number() {
+    let result = attack(&plan(LIBRARY, ROUNDS), &|_| ());
+    assert_eq!(result.found, None);
+    assert_eq!(result.rounds, ROUNDS);
+    let missing = result.met.missing(LEAST);
+    assert!(missing.is_empty(), "{:?}\n{}", missing, result.met);
+}
+
+#[test]
+fn a_round_is_the_same_whenever_and_wherever_it_is_played() {
+    let alone = |memory| {
+        let plan = Plan {
+            memory,
+            from: 500,
+            until: 524,
+            threads: 1,
+            ..plan(LIBRARY, 0)
+        };
+        attack(&plan, &|_| ())
+    };
+    let (fenced, again) = (alone(Memory::Fenced), alone(Memory::Fenced));
+    assert_eq!(fenced, again);
+    assert_eq!(fenced, alone(Memory::Allocated));
+    assert!(fenced.met.calls() > 1_000);
+}
+
+/// What the attack finds with this in the place of the library.
+fn found(calls: Calls) -> Option<Found> {
+    attack(&plan(calls, ROUNDS_FOR_A_FAULT), &|_| ()).found
+}
+
+/// That a fault is found, in the buffer that it is in, if it is in one.
+fn assert_found(fault: &str, calls: Calls, buffer: Option<&str>) {
+    let found = found(calls).unwrap_or_else(|| panic!("not found: {}", fault));
+    let place = found.difference.place.map(|(buffer, _)| buffer);
+    assert_eq!(place, buffer, "{}: {}", fault, found.difference);
+}
+
+/// Writes a byte behind the image that a buffer begins with, where there is one and a byte behind it.
+fn touch_behind(buffer: &mut [u8]) {
+    if let Ok(length) = boundary::valid(buffer) {
+        if length < buffer.len() {
+            buffer[length] ^= 1;
+        }
+    }
+}
+
+#[test]
+fn a_byte_too_many_is_found_in_every_buffer() {
+    let fresh = Calls {
+        fresh: |table, n, box_number| {
+            let number = boundary::fresh(table, n, box_number);
+            table.get_mut(24).into_iter().for_each(|byte| *byte = 0);
+            number
+        },
+        ..LIBRARY
+    };
+    assert_found("a 25th byte", fresh, Some("table"));
+    let table = Calls {
+        answer: |table, message, reply| {
+            let number = boundary::answer(table, message, reply);
+            touch_behind(table);
+            number
+        },
+        ..LIBRARY
+    };
+    assert_found("a byte behind the table", table, Some("table"));
+    let reply = Calls {
+        answer: |table, message, reply| {
+            let number = boundary::answer(table, message, reply);
+            reply.get_mut(24).into_iter().for_each(|byte| *byte = 0);
+            number
+        },
+        ..LIBRARY
+    };
+    assert_found("a byte behind the reply", reply, Some("reply"));
+    let output = Calls {
+        merge: |run, view, out| {
+            let number = boundary::merge(run, view, out);
+            touch_behind(out);
+            number
+        },
+        ..LIBRARY
+    };
+    assert_found("a byte behind the merge", output, Some("output"));
+}
+
+/// A number given for another, and nothing else.
+#[test]
+fn a_refusal_that_is_another_is_found() {
+    let seven = Calls {
+        answer: |table, message, reply| match boundary::answer(table, message, reply) {
+            7 => 8,
+            number => number,
+        },
+        ..LIBRARY
+    };
+    assert_found("8 for 7", seven, None);
+    let six = Calls {
+        merge: |run, view, out| match boundary::merge(run, view, out) {
+            6 => 5,
+            number => number,
+        },
+        ..LIBRARY
+    };
+    assert_found("5 for 6", six, None);
+    let short = Calls {
+        answer: |table, message, reply| match table.len() == TABLE_BYTES - 1 {
+            true => boundary::answer(&mut [&table[..], &[0]].concat(), message, reply),
+            false => boundary::answer(table, message, reply),
+        },
+        ..LIBRARY
+    };
+    assert!(found(short).is_some(), "a buffer that is a byte too short");
+}
+
+#[test]
+fn faults_of_a_judgement_and_of_a_count_are_found() {
+    let valid = Calls {
+        valid: |bytes| boundary::valid_answer(bytes) & !(1 << 16),
+        ..LIBRARY
+    };
+    assert_found("lengths that are even", valid, None);
+    let count = Calls {
+        count: |n, replies| match boundary::count(n, replies) {
+            6 => 3,
+            word => word,
+        },
+        ..LIBRARY
+    };
+    assert_found("3 for 6", count, None);
+    let records = Calls {
+        count_records: |n, records| boundary::count_records(n, &records[records.len().min(1)..]),
+        ..LIBRARY
+    };
+    assert_found("the first record left out", records, None);
+}
