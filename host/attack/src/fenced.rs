@@ -105,14 +105,13 @@ impl Room {
             return &self.allocated;
         }
         let lead = self.lead(bytes.len(), touching);
-        // Whole pages, which a fence is long enough for.
-        let first = lead / FENCE * FENCE;
-        let part = (
-            first,
-            (lead + bytes.len() - first + FENCE - 1) / FENCE * FENCE,
-        );
-        self.allow(part, READ);
-        self.only_read = Some(part);
+        if !bytes.is_empty() {
+            // Whole pages, which a fence is long enough for.
+            let first = lead / FENCE * FENCE;
+            let pages = (lead + bytes.len() - first + FENCE - 1) / FENCE;
+            self.allow((first, pages * FENCE), READ);
+            self.only_read = Some((first, pages * FENCE));
+        }
         // The room may be read, and is borrowed for as long as the slice lives.
         unsafe { std::slice::from_raw_parts(self.begin().add(lead), bytes.len()) }
     }
