@@ -134,9 +134,9 @@ pub enum Trespass {
     WriteWhatIsRead,
 }
 
-/// Goes a step too far. The machine ends the program; if it does not, this returns.
-pub fn trespass(how: Trespass) {
-    let mut room = Room::for_bytes(Memory::Fenced, 24);
+/// Goes a step too far. In fenced memory the machine ends the program; if it does not, this returns what was found there.
+pub fn trespass(memory: Memory, how: Trespass) -> u8 {
+    let mut room = Room::for_bytes(memory, 24);
     let touching = match how {
         Trespass::ReadBefore | Trespass::WriteBefore => Touching::Before,
         _ => Touching::Behind,
@@ -148,11 +148,12 @@ pub fn trespass(how: Trespass) {
     // Not sound, and meant so: one byte beside what was lent, or a write to what is for reading.
     unsafe {
         match how {
-            Trespass::ReadBefore => drop(lent.sub(1).read_volatile()),
-            Trespass::ReadBehind => drop(lent.add(24).read_volatile()),
+            Trespass::ReadBefore => return lent.sub(1).read_volatile(),
+            Trespass::ReadBehind => return lent.add(24).read_volatile(),
             Trespass::WriteBefore => (lent as *mut u8).sub(1).write_volatile(9),
             Trespass::WriteBehind => (lent as *mut u8).add(24).write_volatile(9),
             Trespass::WriteWhatIsRead => (lent as *mut u8).write_volatile(9),
         }
     }
+    9
 }

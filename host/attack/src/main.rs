@@ -14,8 +14,8 @@ attack [--minutes M | --rounds N] [--from ROUND] [--threads T] [--allocated]
   --from ROUND   begins with this round, 1 if nothing is said; a round is the same whenever it is played
   --threads T    on so many threads, 1 if nothing is said
   --allocated    lends memory of just the needed length from the heap, with no fences, for a tool that watches allocations
-attack --trespass read-before | read-behind | write-before | write-behind | write-what-is-read
-                 goes a step too far on purpose: the machine has to end the program";
+attack [--allocated] --trespass read-before | read-behind | write-before | write-behind | write-what-is-read
+                 goes a step too far on purpose: the machine has to end the program, or the tool that watches has to say so";
 
 fn refuse(why: &str) -> ! {
     eprintln!("attack: {}\n\n{}", why, USAGE);
@@ -50,7 +50,7 @@ fn plan() -> Plan {
             "--from" => plan.from = number(words.next(), &word),
             "--threads" => plan.threads = number(words.next(), &word).max(1) as usize,
             "--allocated" => plan.memory = Memory::Allocated,
-            "--trespass" => go_too_far(words.next()),
+            "--trespass" => go_too_far(plan.memory, words.next()),
             _ => refuse(&format!("no such word: {}", word)),
         }
     }
@@ -61,7 +61,7 @@ fn plan() -> Plan {
     plan
 }
 
-fn go_too_far(how: Option<String>) -> ! {
+fn go_too_far(memory: Memory, how: Option<String>) -> ! {
     let how = match how.as_deref() {
         Some("read-before") => Trespass::ReadBefore,
         Some("read-behind") => Trespass::ReadBehind,
@@ -70,8 +70,8 @@ fn go_too_far(how: Option<String>) -> ! {
         Some("write-what-is-read") => Trespass::WriteWhatIsRead,
         _ => refuse("--trespass wants one of its words"),
     };
-    trespass(how);
-    println!("nothing stopped it");
+    let found = trespass(memory, how);
+    println!("nothing stopped it at a byte {}", found);
     process::exit(0);
 }
 
