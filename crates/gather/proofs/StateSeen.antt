@@ -334,44 +334,38 @@ state-seen rs =
 
 -- ---- what is told by it
 
--- of a commit and an abort
-opposite-are : (p q : Outcome) → oppositeOutcomes p q ≡ true → ((holdsVerdict commit p ≡ true) × (holdsVerdict abort q ≡ true)) ⊎ ((holdsVerdict abort p ≡ true) × (holdsVerdict commit q ≡ true))
-opposite-are noOutcome q h = impossible h refl
-opposite-are (noted commit) noOutcome h = impossible h refl
-opposite-are (noted commit) (noted commit) h = impossible h refl
-opposite-are (noted commit) (noted abort) h = inl (refl, refl)
-opposite-are (noted commit) (done commit) h = impossible h refl
-opposite-are (noted commit) (done abort) h = inl (refl, refl)
-opposite-are (noted abort) noOutcome h = impossible h refl
-opposite-are (noted abort) (noted commit) h = inr (refl, refl)
-opposite-are (noted abort) (noted abort) h = impossible h refl
-opposite-are (noted abort) (done commit) h = inr (refl, refl)
-opposite-are (noted abort) (done abort) h = impossible h refl
-opposite-are (done commit) noOutcome h = impossible h refl
-opposite-are (done commit) (noted commit) h = impossible h refl
-opposite-are (done commit) (noted abort) h = inl (refl, refl)
-opposite-are (done commit) (done commit) h = impossible h refl
-opposite-are (done commit) (done abort) h = inl (refl, refl)
-opposite-are (done abort) noOutcome h = impossible h refl
-opposite-are (done abort) (noted commit) h = inr (refl, refl)
-opposite-are (done abort) (noted abort) h = impossible h refl
-opposite-are (done abort) (done commit) h = inr (refl, refl)
-opposite-are (done abort) (done abort) h = impossible h refl
+-- of a commit and an abort, whether they are noted or done
+abbrev CommitAndAbort : Outcome → Outcome → Type 0
+CommitAndAbort p q = (holdsVerdict commit p ≡ true) × (holdsVerdict abort q ≡ true)
 
-are-opposite : (p q : Outcome) → holdsVerdict commit p ≡ true → holdsVerdict abort q ≡ true → oppositeOutcomes p q ≡ true
-are-opposite noOutcome q h k = impossible h refl
-are-opposite (noted abort) q h k = impossible h refl
-are-opposite (done abort) q h k = impossible h refl
-are-opposite (noted commit) noOutcome h k = impossible k refl
-are-opposite (noted commit) (noted commit) h k = impossible k refl
-are-opposite (noted commit) (noted abort) h k = refl
-are-opposite (noted commit) (done commit) h k = impossible k refl
-are-opposite (noted commit) (done abort) h k = refl
-are-opposite (done commit) noOutcome h k = impossible k refl
-are-opposite (done commit) (noted commit) h k = impossible k refl
-are-opposite (done commit) (noted abort) h k = refl
-are-opposite (done commit) (done commit) h k = impossible k refl
-are-opposite (done commit) (done abort) h k = refl
+opposite-verdicts : (v u : Verdict) → oppositeOutcomes (done v) (done u) ≡ true → CommitAndAbort (done v) (done u) ⊎ CommitAndAbort (done u) (done v)
+opposite-verdicts commit commit h = impossible h refl
+opposite-verdicts commit abort h = inl (refl, refl)
+opposite-verdicts abort commit h = inr (refl, refl)
+opposite-verdicts abort abort h = impossible h refl
+
+opposite-are : (p q : Outcome) → oppositeOutcomes p q ≡ true → CommitAndAbort p q ⊎ CommitAndAbort q p
+opposite-are noOutcome q h = impossible h refl
+opposite-are (noted v) noOutcome h = impossible h refl
+opposite-are (noted v) (noted u) h = opposite-verdicts v u h
+opposite-are (noted v) (done u) h = opposite-verdicts v u h
+opposite-are (done v) noOutcome h = impossible h refl
+opposite-are (done v) (noted u) h = opposite-verdicts v u h
+opposite-are (done v) (done u) h = opposite-verdicts v u h
+
+verdicts-opposite : (v u : Verdict) → CommitAndAbort (done v) (done u) → oppositeOutcomes (done v) (done u) ≡ true
+verdicts-opposite commit commit (h, k) = impossible k refl
+verdicts-opposite commit abort (h, k) = refl
+verdicts-opposite abort u (h, k) = impossible h refl
+
+are-opposite : (p q : Outcome) → CommitAndAbort p q → oppositeOutcomes p q ≡ true
+are-opposite noOutcome q (h, k) = impossible h refl
+are-opposite (noted v) noOutcome (h, k) = impossible k refl
+are-opposite (noted v) (noted u) h = verdicts-opposite v u h
+are-opposite (noted v) (done u) h = verdicts-opposite v u h
+are-opposite (done v) noOutcome (h, k) = impossible k refl
+are-opposite (done v) (noted u) h = verdicts-opposite v u h
+are-opposite (done v) (done u) h = verdicts-opposite v u h
 
 abbrev oppositePair : Row → Row → Bool
 oppositePair r q = oppositeOutcomes (r .outcome) (q .outcome)
@@ -384,7 +378,7 @@ opposite-pair rs = same-test _ _ there back
     there h =
         let (x, m, k) = any-some rowCommit rs (both-left _ _ h) in
         let (y, n, l) = any-some rowAbort rs (both-right _ _ h) in
-        some-any (λ x. any (oppositePair x) rs) rs x m (some-any (oppositePair x) rs y n (are-opposite (x .outcome) (y .outcome) k l))
+        some-any (λ x. any (oppositePair x) rs) rs x m (some-any (oppositePair x) rs y n (are-opposite (x .outcome) (y .outcome) (k, l)))
 
     back : any (λ x. any (oppositePair x) rs) rs ≡ true → both (any rowCommit rs) (any rowAbort rs) ≡ true
     back h =
@@ -392,9 +386,9 @@ opposite-pair rs = same-test _ _ there back
         let (y, n, l) = any-some (oppositePair x) rs k in
         go x y m n (opposite-are (x .outcome) (y .outcome) l)
       where
-        go : (x y : Row) → x ∈ rs → y ∈ rs → ((holdsVerdict commit (x .outcome) ≡ true) × (holdsVerdict abort (y .outcome) ≡ true)) ⊎ ((holdsVerdict abort (x .outcome) ≡ true) × (holdsVerdict commit (y .outcome) ≡ true)) → both (any rowCommit rs) (any rowAbort rs) ≡ true
+        go : (x y : Row) → x ∈ rs → y ∈ rs → CommitAndAbort (x .outcome) (y .outcome) ⊎ CommitAndAbort (y .outcome) (x .outcome) → both (any rowCommit rs) (any rowAbort rs) ≡ true
         go x y m n (inl (c, a)) = both-true (some-any rowCommit rs x m c) (some-any rowAbort rs y n a)
-        go x y m n (inr (a, c)) = both-true (some-any rowCommit rs y n c) (some-any rowAbort rs x m a)
+        go x y m n (inr (c, a)) = both-true (some-any rowCommit rs y n c) (some-any rowAbort rs x m a)
 
 pub state-contradicts : (rs : List Row) → contradicts (stateOf rs) ≡ contradictory rs
 unfolding stateOf contradictory
