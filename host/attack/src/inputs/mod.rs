@@ -9,7 +9,7 @@ mod runs;
 mod tables;
 
 use crate::both::{Both, Difference};
-use samples::{Dice, TABLE_BYTES};
+use samples::{damage, Dice, Table, TABLE_BYTES};
 
 /// A round of one kind.
 pub type Kind = fn(&mut Both, &mut Dice) -> Result<(), Difference>;
@@ -74,6 +74,19 @@ fn ask(
     let length = reply_length(dice);
     let mut reply = dirt(dice, length);
     both.answer(dice, table, message, &mut reply)
+}
+
+/// Every kind of damage to a table of three rows or more, of which one sample in so many is taken.
+fn damaged(dice: &mut Dice, table: &Table, one_in: usize) -> Vec<Vec<u8>> {
+    let mut taken = Vec::new();
+    let mut place = dice.index(one_in);
+    damage::all(dice, table, &mut |_, bytes| {
+        place += 1;
+        if place % one_in == 0 {
+            taken.push(bytes.to_vec());
+        }
+    });
+    taken
 }
 
 /// The image that a buffer begins with, if it is one.

@@ -4,7 +4,7 @@ use super::alterations::altered;
 use super::{buffer, table_length};
 use crate::both::{Both, Difference};
 use samples::runs::{self, Run};
-use samples::{damage, message, mixtures, random, Dice, Row};
+use samples::{message, mixtures, random, Dice, Row};
 
 /// A merge with any output.
 fn merge(both: &mut Both, dice: &mut Dice, run: &[u8], view: u32) -> Result<u64, Difference> {
@@ -47,25 +47,16 @@ fn wrong(dice: &mut Dice, mut run: Run) -> Run {
     run
 }
 
-/// Every kind of damage to one image of a run, of which one sample in some is taken.
+/// One image of a run with every kind of damage.
 pub fn damaged(both: &mut Both, dice: &mut Dice) -> Result<(), Difference> {
     let run = mixtures::run(dice);
     let place = dice.index(run.tables.len());
-    let table = &run.tables[place];
-    if table.rows.len() < 3 {
+    if run.tables[place].rows.len() < 3 {
         return merge(both, dice, &run.bytes(), run.view).map(drop);
     }
     let one_in = dice.one_of(&[31, 97]);
-    let mut samples = Vec::new();
-    let mut sample = dice.index(one_in);
-    damage::all(dice, table, &mut |_, bytes| {
-        sample += 1;
-        if sample % one_in == 0 {
-            samples.push(bytes.to_vec());
-        }
-    });
     let mut images: Vec<Vec<u8>> = run.tables.iter().map(|table| table.image()).collect();
-    for bytes in samples {
+    for bytes in super::damaged(dice, &run.tables[place], one_in) {
         images[place] = bytes;
         merge(both, dice, &images.concat(), run.view)?;
     }

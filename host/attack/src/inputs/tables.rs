@@ -19,20 +19,12 @@ fn any_message(dice: &mut Dice, table: &Table) -> Vec<u8> {
     messages.swap_remove(dice.index(messages.len()))
 }
 
-/// Every kind of damage to a table, of which one sample in some is taken.
+/// A table with every kind of damage.
 pub fn damaged(both: &mut Both, dice: &mut Dice) -> Result<(), Difference> {
     let rows = dice.one_of(&[3, 3, 4, 5, 8, 30]);
     let table = random::table(dice, rows);
     let one_in = dice.one_of(&[7, 31, 97]);
-    let mut samples = Vec::new();
-    let mut place = dice.index(one_in);
-    damage::all(dice, &table, &mut |_, bytes| {
-        place += 1;
-        if place % one_in == 0 {
-            samples.push(bytes.to_vec());
-        }
-    });
-    for bytes in samples {
+    for bytes in super::damaged(dice, &table, one_in) {
         let message = any_message(dice, &table);
         judge(both, dice, &bytes, &message)?;
     }
