@@ -1,4 +1,4 @@
-//! A box's answer to a message of each kind: what both sides do to a full table.
+//! A box's answer to a message of each kind: what all sides do to a full table.
 
 use crate::{Side, Work};
 use samples::{random, Dice, Table, GREATEST_STAMP, TABLE_BYTES};
@@ -22,7 +22,7 @@ pub struct Answering<const KIND: u8> {
 
 impl<const KIND: u8> Work for Answering<KIND> {
     const NAME: &'static str = name(KIND);
-    const SIZES: [usize; 3] = [64, 256, 512];
+    const CALL: Option<&'static str> = Some("sprondilu_answer");
     const ABOUT: &'static str = about(KIND);
 
     fn of(rows: usize) -> Answering<KIND> {
@@ -88,10 +88,11 @@ const fn about(kind: u8) -> &'static str {
     match kind {
         1 => {
             "\
-Message 1 with a new stamp, 'sprondilu_answer' of the library against the same walks and moves in safe Rust. Input: a table
+Message 1 with a new stamp, `sprondilu_answer` of the library against the same walks and moves in safe Rust. Input: a table
 by the rules whose rows are all committed and have 4 reads and 4 writes each, but for one row in the middle, which the
 message proposes: half of the rows are passed by the search, half of them move, and the check looks at all. The rows are
-counted with the new one. Each side answers in its own copies of the table, which are made before the clock runs."
+counted with the new one. Each side answers in its own copies of the table, which are made before the clock runs. The second
+program parses the table into one of its own, and writes the image out anew."
         }
         2 => "Message 2, which makes the prepare of the last row of such a table final.",
         3 => "Message 3, which notes an outcome in the last row of such a table.",
@@ -157,32 +158,4 @@ fn started(rows: usize, view: u32) -> Table {
     let mut image = committed(2, rows);
     (image.view, image.promised) = (view, view);
     image
-}
-
-#[cfg(test)]
-mod tests {
-    use super::Answering;
-    use crate::{Work, LIBRARY, TWIN};
-
-    fn both_sides<const KIND: u8>() {
-        for rows in Answering::<KIND>::SIZES {
-            let mut work = Answering::<KIND>::of(rows);
-            for side in [LIBRARY, TWIN] {
-                work.get_ready(2);
-                work.done_by(side, 2);
-                work.assert_done(side);
-            }
-        }
-    }
-
-    #[test]
-    fn both_sides_answer_what_is_measured_as_the_second_program() {
-        both_sides::<1>();
-        both_sides::<2>();
-        both_sides::<3>();
-        both_sides::<4>();
-        both_sides::<5>();
-        both_sides::<6>();
-        both_sides::<7>();
-    }
 }

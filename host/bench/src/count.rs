@@ -1,6 +1,6 @@
 //! The coordinator's count: what all sides make of the replies of a whole group.
 
-use crate::{Side, Work, BYTES, SECOND};
+use crate::{Side, Work, BYTES, LIBRARY, SECOND, TWIN};
 use samples::replies::{laid, Record};
 
 /// Replies of all boxes of a group. Either all agree, or each is RETRY with a stamp of its own.
@@ -33,25 +33,33 @@ impl<const SAME: bool, const RECORDS: bool> Work for Counting<SAME, RECORDS> {
     };
     const SIZES: [usize; 3] = [3, 5, 7];
     const UNIT: &'static str = "boxes";
-    const BESIDE: Option<Side> = if RECORDS { Some(BYTES) } else { Some(SECOND) };
+    const CALL: Option<&'static str> = Some(if RECORDS {
+        "sprondilu_count_records"
+    } else {
+        "sprondilu_count"
+    });
+    const SIDES: &'static [Side] = if RECORDS {
+        &[LIBRARY, TWIN, SECOND, BYTES]
+    } else {
+        &[LIBRARY, TWIN, SECOND]
+    };
     const ABOUT: &'static str = match (SAME, RECORDS) {
         (true, false) => {
             "\
-The count of replies that all agree, 'sprondilu_count' of the library against the same walks in safe Rust. Input: a tentative
-OK of each box of the group in one view, so that the answer is fast OK. No buffer was cleared: the call writes nothing.
-Beside it the time of the second program."
+The count of replies that all agree, `sprondilu_count` of the library against the same walks in safe Rust. Input: a tentative
+OK of each box of the group in one view, so that the answer is fast OK. No buffer was cleared: the call writes nothing."
         }
         (false, false) => {
             "The count of replies of which no two agree: RETRY of each box with a stamp of its own, so that it is slow RETRY."
         }
         (true, true) => {
             "\
-The count of the replies that all agree, lent as records: 'sprondilu_count_records' of the library against the twin of
-'sprondilu_count', which reads the same replies from their bytes. The bytes printed are those of the records. Beside it the
-time of 'sprondilu_count' of the library."
+The count of the replies that all agree, lent as records: `sprondilu_count_records` of the library against the twin of
+`sprondilu_count`, which reads the same replies from their bytes, and against the second program, which makes each record
+into a reply of its own. The bytes printed are those of the records. Beside it, as bytes, `sprondilu_count` of the library."
         }
         (false, true) => {
-            "The count of the replies of which no two agree, lent as records, against the same twin."
+            "The count of the replies of which no two agree, lent as records, against the same sides."
         }
     };
 
@@ -108,7 +116,7 @@ time of 'sprondilu_count' of the library."
 #[cfg(test)]
 mod tests {
     use super::Counting;
-    use crate::{sides, Work};
+    use crate::Work;
 
     #[test]
     fn what_is_measured_is_fast_ok_and_slow_retry() {
@@ -118,22 +126,5 @@ mod tests {
             let apart = Counting::<false, true>::of(boxes).answer;
             assert_eq!(apart, 0x1200 | greatest << 16);
         }
-    }
-
-    fn all_sides<const SAME: bool, const RECORDS: bool>() {
-        for boxes in Counting::<SAME, RECORDS>::SIZES {
-            let mut work = Counting::<SAME, RECORDS>::of(boxes);
-            for side in sides::<Counting<SAME, RECORDS>>() {
-                work.done_by(side, 2);
-            }
-        }
-    }
-
-    #[test]
-    fn all_sides_count_what_is_measured_as_the_second_program() {
-        all_sides::<true, false>();
-        all_sides::<false, false>();
-        all_sides::<true, true>();
-        all_sides::<false, true>();
     }
 }

@@ -1,6 +1,6 @@
 //! A row added at the front of a table: what both sides move.
 
-use crate::{Side, Work};
+use crate::{Side, Work, LIBRARY, TWIN};
 use samples::table::{HEADER_LENGTH, ROW_LENGTH};
 use samples::{random, Dice};
 
@@ -18,9 +18,11 @@ pub struct Inserting {
 impl Work for Inserting {
     const NAME: &'static str = "insert";
     const SIZES: [usize; 3] = [64, 256, 511];
+    const CALL: Option<&'static str> = None;
+    const SIDES: &'static [Side] = &[LIBRARY, TWIN];
     const ABOUT: &'static str = "\
-A row added at the front of a table, the change that moves most: 'trial_add_row' of the library against the same moves in
-safe Rust. Input: a table by the rules whose rows have 4 reads and 4 writes each, and one row more. Each side adds the
+A row added at the front of a table, the change that moves most: `trial_add_row`, which is no public call, against the same
+moves in safe Rust. The second program changes no table in its place. Input: a table by the rules whose rows have 4 reads and 4 writes each, and one row more. Each side adds the
 row to its own copies of the table, which are made before the clock runs, in the same buffers and in turns.";
 
     fn of(rows: usize) -> Inserting {
@@ -51,9 +53,10 @@ row to its own copies of the table, which are made before the clock runs, in the
     }
 
     fn done_by(&mut self, side: Side, times: usize) {
+        let add_row = side.add_row.expect("a side that adds rows");
         for table in &mut self.tables[..times] {
             // The buffer begins with an image that lacks this row, all of whose stamps are higher, and has room for it.
-            unsafe { (side.add_row)(table, 0, &self.row) };
+            unsafe { add_row(table, 0, &self.row) };
         }
     }
 

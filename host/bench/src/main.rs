@@ -1,14 +1,21 @@
-//! The proved library and its twin in plain safe Rust, side by side in one run: validity of an image, a row added to a
-//! table, a box's answer to a message of each kind, the merge, and the coordinator's count. What matters are ratios: both
-//! sides are built for release and work on the same bytes on the same machine, in turns.
+//! The proved library beside its twin in plain safe Rust and beside the second program, in one run: validity of an image, a
+//! box's answer to a message of each kind, the merge, the coordinator's count, and a row added to a table. What matters are
+//! ratios: all sides are built for release and work on the same bytes on the same machine, in turns.
 //!
-//! `bench` measures times and prints tables. `bench WORK SIDE SIZE TIMES`, as `bench insert library 511 50`, only does
-//! that work so many times, on one side, for a tool that counts its instructions; `tools/bench` does both.
+//! `bench` measures times, has valgrind count instructions, looks how deep the library's calls go on the stack, and prints
+//! tables in Markdown. `bench WORK SIDE SIZE TIMES`, as `bench insert library 511 50`, only does that work so many times, on
+//! one side, for whoever counts its instructions. `bench gate LOG` prints the times that a log of the gate has. `tools/bench`
+//! does all of it.
 
 mod answer;
 mod count;
+mod gate;
 mod insert;
+mod instructions;
 mod merge;
+mod second;
+mod stack;
+mod tables;
 mod times;
 mod twin;
 mod valid;
@@ -18,19 +25,22 @@ use count::Counting;
 use insert::Inserting;
 use merge::Merging;
 use std::{env, process};
+use times::Medians;
 use valid::Judging;
 
-/// Work that both sides do on the same bytes.
+/// Work that all sides do on the same bytes.
 pub trait Work {
     /// The word for it on the command line.
     const NAME: &'static str;
     /// The sizes with which it is measured, and what they are numbers of.
-    const SIZES: [usize; 3];
+    const SIZES: [usize; 3] = [64, 256, 512];
     const UNIT: &'static str = "rows";
     /// What is measured, for whoever reads the figures.
     const ABOUT: &'static str;
-    /// A side that is measured beside the two, if there is one.
-    const BESIDE: Option<Side> = None;
+    /// The public call that it is for the library, if it is one.
+    const CALL: Option<&'static str>;
+    /// The sides that do it, the library first.
+    const SIDES: &'static [Side] = &[LIBRARY, TWIN, SECOND];
 
     /// The work of this size.
     fn of(size: usize) -> Self;
@@ -48,50 +58,53 @@ pub trait Work {
     fn assert_done(&self, side: Side);
 }
 
-/// A side of the comparison: its name, and its ways to judge lent bytes, to add a row to a table, to answer a message, to
-/// merge tables, and to count replies, in bytes and, if it has one for them, as records.
+/// A side of the comparison: its name, and its ways to judge lent bytes, to answer a message, to merge tables, to count
+/// replies in bytes, and, if it has them, to count replies as records and to add a row to a table.
 #[derive(Clone, Copy)]
 pub struct Side {
     name: &'static str,
     valid_answer: fn(&[u8]) -> u64,
-    add_row: unsafe fn(&mut [u8], usize, &[u8]),
     answer: fn(&mut [u8], &[u8], &mut [u8]) -> u8,
     merge: fn(&[u8], u32, &mut [u8]) -> u8,
     count: fn(u8, &[u8]) -> u64,
     count_records: Option<fn(u8, &[boundary::Record]) -> u64>,
+    add_row: Option<unsafe fn(&mut [u8], usize, &[u8])>,
 }
 
 pub const LIBRARY: Side = Side {
     name: "library",
     valid_answer: boundary::valid_answer,
-    add_row: trial::add_row,
     answer: boundary::answer,
     merge: boundary::merge,
     count: boundary::count,
     count_records: Some(boundary::count_records),
+    add_row: Some(trial::add_row),
 };
 
 pub const TWIN: Side = Side {
     name: "twin",
     valid_answer: twin::valid::valid_answer,
-    add_row: twin::insert::add_row,
     answer: twin::answer::answer,
     merge: twin::merge::merge,
     count: twin::count::count,
     count_records: None,
+    add_row: Some(twin::insert::add_row),
+};
+
+pub const SECOND: Side = Side {
+    name: "second",
+    valid_answer: second::valid_answer,
+    answer: reference::answer,
+    merge: reference::merge,
+    count: reference::count,
+    count_records: Some(second::count_records),
+    add_row: None,
 };
 
 /// The twin, but for a merge by another algorithm.
 pub const CURSORS: Side = Side {
     name: "cursors",
     merge: twin::cursors::merge,
-    ..TWIN
-};
-
-/// The twin, but for the count, which is that of the second program.
-pub const SECOND: Side = Side {
-    name: "second",
-    count: reference::count,
     ..TWIN
 };
 
@@ -103,67 +116,123 @@ pub const BYTES: Side = Side {
 };
 
 /// A work by its name, and what can be had of it.
-struct Named {
+pub struct Named {
     name: &'static str,
-    print: fn(),
+    sizes: [usize; 3],
+    unit: &'static str,
+    about: &'static str,
+    call: Option<&'static str>,
+    sides: &'static [Side],
+    times_counted: fn(usize) -> usize,
+    medians: fn(usize, usize) -> Medians,
     one_side: fn(&str, &str, &str),
+    deepest: fn() -> usize,
 }
 
 const fn named<W: Work>() -> Named {
     Named {
         name: W::NAME,
-        print: times::print::<W>,
+        sizes: W::SIZES,
+        unit: W::UNIT,
+        about: W::ABOUT,
+        call: W::CALL,
+        sides: W::SIDES,
+        times_counted: times_counted::<W>,
+        medians: times::medians::<W>,
         one_side: one_side::<W>,
+        deepest: stack::deepest::<W>,
     }
 }
 
-const WORKS: [Named; 15] = [
-    named::<Judging>(),
-    named::<Inserting>(),
-    named::<Answering<1>>(),
-    named::<Answering<2>>(),
-    named::<Answering<3>>(),
-    named::<Answering<4>>(),
-    named::<Answering<5>>(),
-    named::<Answering<6>>(),
-    named::<Answering<7>>(),
-    named::<Merging<true>>(),
-    named::<Merging<false>>(),
-    named::<Counting<true, false>>(),
-    named::<Counting<false, false>>(),
-    named::<Counting<true, true>>(),
-    named::<Counting<false, true>>(),
+/// Works whose figures stand in one table: of one unit, and done by the same sides.
+pub struct Section {
+    heading: &'static str,
+    works: &'static [Named],
+}
+
+const SECTIONS: [Section; 7] = [
+    Section {
+        heading: "Validity",
+        works: &[named::<Judging>()],
+    },
+    Section {
+        heading: "Messages",
+        works: &[
+            named::<Answering<1>>(),
+            named::<Answering<2>>(),
+            named::<Answering<3>>(),
+            named::<Answering<4>>(),
+            named::<Answering<5>>(),
+            named::<Answering<6>>(),
+            named::<Answering<7>>(),
+        ],
+    },
+    Section {
+        heading: "Merge of the same stamps",
+        works: &[
+            named::<Merging<true, 3>>(),
+            named::<Merging<true, 5>>(),
+            named::<Merging<true, 7>>(),
+        ],
+    },
+    Section {
+        heading: "Merge of disjoint stamps",
+        works: &[
+            named::<Merging<false, 3>>(),
+            named::<Merging<false, 5>>(),
+            named::<Merging<false, 7>>(),
+        ],
+    },
+    Section {
+        heading: "Count of bytes",
+        works: &[
+            named::<Counting<true, false>>(),
+            named::<Counting<false, false>>(),
+        ],
+    },
+    Section {
+        heading: "Count of records",
+        works: &[
+            named::<Counting<true, true>>(),
+            named::<Counting<false, true>>(),
+        ],
+    },
+    Section {
+        heading: "A row added at the front",
+        works: &[named::<Inserting>()],
+    },
 ];
+
+fn works() -> impl Iterator<Item = &'static Named> {
+    const ALL: &[Section] = &SECTIONS;
+    ALL.iter().flat_map(|section| section.works)
+}
 
 fn main() {
     let words: Vec<String> = env::args().skip(1).collect();
     let words: Vec<&str> = words.iter().map(String::as_str).collect();
-    let work = |name: &str| WORKS.iter().find(|work| work.name == name);
-    match (&words[..], words.first().and_then(|name| work(name))) {
-        ([], _) => print_all(),
+    let named = |name: &str| works().find(|work| work.name == name);
+    match (&words[..], words.first().and_then(|name| named(name))) {
+        ([], _) => tables::print_all(&SECTIONS),
+        (["gate", log], _) => gate::print(log),
         ([_, side, size, times], Some(work)) => (work.one_side)(side, size, times),
         _ => {
-            let names: Vec<&str> = WORKS.iter().map(|work| work.name).collect();
-            let names = names.join(", ");
+            let names: Vec<&str> = works().map(|work| work.name).collect();
             refuse(&format!(
-                "give no word, or one of {}, a side, a size and how often",
-                names
+                "give no word; or 'gate' and a file; or one of {}, a side, a size and how often",
+                names.join(", ")
             ))
         }
     }
 }
 
-fn print_all() {
-    for (place, work) in WORKS.iter().enumerate() {
-        if place > 0 {
-            println!();
-        }
-        (work.print)();
-    }
-}
-
 /// All is got ready for so many times, however often the work is then done.
-const MOST_TIMES: usize = 100;
+const MOST_TIMES: usize = 50;
+
+/// How often a work is done for its instructions to be counted.
+fn times_counted<W: Work>(size: usize) -> usize {
+    W::times_a_round(size).min(MOST_TIMES)
+}
 
 /// Does the work so many times and nothing else that depends on how many.
 fn one_side<W: Work>(name: &str, size: &str, times: &str) {
@@ -171,15 +240,10 @@ fn one_side<W: Work>(name: &str, size: &str, times: &str) {
     let times = number(times, &(0..=MOST_TIMES).collect::<Vec<usize>>());
     let mut work = W::of(size);
     work.get_ready(MOST_TIMES);
-    match sides::<W>().into_iter().find(|side| side.name == name) {
-        Some(side) => work.done_by(side, times),
+    match W::SIDES.iter().find(|side| side.name == name) {
+        Some(side) => work.done_by(*side, times),
         None => refuse("no such side does this work"),
     }
-}
-
-/// The sides that do a work.
-fn sides<W: Work>() -> Vec<Side> {
-    [LIBRARY, TWIN].into_iter().chain(W::BESIDE).collect()
 }
 
 fn number(word: &str, possible: &[usize]) -> usize {
@@ -192,4 +256,41 @@ fn number(word: &str, possible: &[usize]) -> usize {
 fn refuse(why: &str) -> ! {
     eprintln!("bench: {}", why);
     process::exit(2);
+}
+
+#[cfg(test)]
+mod tests {
+    use super::{works, SECTIONS};
+
+    #[test]
+    fn all_sides_do_what_is_measured_as_the_second_program() {
+        for work in works() {
+            for size in work.sizes {
+                let medians = (work.medians)(size, 1);
+                assert_eq!(medians.nanoseconds.len(), work.sides.len());
+            }
+        }
+    }
+
+    #[test]
+    fn works_of_one_table_have_its_columns() {
+        for section in &SECTIONS {
+            for work in section.works {
+                let names = |sides: &[super::Side]| -> Vec<&str> {
+                    sides.iter().map(|side| side.name).collect()
+                };
+                assert_eq!(work.unit, section.works[0].unit, "{}", work.name);
+                assert_eq!(names(work.sides), names(section.works[0].sides));
+                assert_eq!(work.sides[0].name, "library");
+            }
+        }
+    }
+
+    #[test]
+    fn a_work_has_its_own_name() {
+        let mut names: Vec<&str> = works().map(|work| work.name).collect();
+        names.sort_unstable();
+        names.dedup();
+        assert_eq!(names.len(), works().count());
+    }
 }

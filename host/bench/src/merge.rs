@@ -1,13 +1,13 @@
-//! The merge: what all sides make of tables with 512 stamps.
+//! The merge: what all sides make of the tables of f+1 boxes.
 
-use crate::{Side, Work, CURSORS};
-use samples::{Access, Dice, Row, Table, MOST_ROWS, TABLE_BYTES};
+use crate::{Side, Work, CURSORS, LIBRARY, SECOND, TWIN};
+use samples::{Access, Dice, Row, Table, TABLE_BYTES};
 
 const OK: u8 = 1;
 const VIEW: u32 = 1;
 
-/// Tables of f+1 boxes that are merged. Either all of them hold the same 512 stamps, or each holds its part of these.
-pub struct Merging<const SAME: bool> {
+/// Tables of f+1 boxes of so many that are merged. Either all of them hold the same rows, or each holds its part of them.
+pub struct Merging<const SAME: bool, const BOXES: u8> {
     run: Vec<u8>,
     /// The output as the second program writes it, over zeros.
     merged: Vec<u8>,
@@ -15,30 +15,20 @@ pub struct Merging<const SAME: bool> {
     outputs: Vec<Vec<u8>>,
 }
 
-impl<const SAME: bool> Work for Merging<SAME> {
-    const NAME: &'static str = if SAME { "merge-same" } else { "merge-apart" };
-    const SIZES: [usize; 3] = [3, 5, 7];
-    const UNIT: &'static str = "boxes";
-    const BESIDE: Option<Side> = Some(CURSORS);
-    const ABOUT: &'static str = if SAME {
-        "\
-The merge of f+1 full tables with the same 512 stamps, 'sprondilu_merge' of the library against the same walks in safe Rust.
-Input: one table by the rules, which f+1 boxes of the group hold: every row tentative OK and without an outcome, so that it
-is agreed and checked; half of the rows have 4 reads and 4 writes, half one of each; nearly all read what was written last,
-so that nearly all checks find OK. Each side writes its own outputs. Beside it the time of a merge in safe Rust that goes up
-all tables with a cursor in each, once to decide and once to write."
-    } else {
-        "The merge of f+1 tables whose stamps are disjoint and together 512, with the same rows: all are open and checked."
-    };
+impl<const SAME: bool, const BOXES: u8> Work for Merging<SAME, BOXES> {
+    const NAME: &'static str = name(SAME, BOXES);
+    const CALL: Option<&'static str> = Some("sprondilu_merge");
+    const SIDES: &'static [Side] = &[LIBRARY, TWIN, SECOND, CURSORS];
+    const ABOUT: &'static str = about(SAME, BOXES);
 
-    fn of(boxes: usize) -> Merging<SAME> {
-        let tables = boxes / 2 + 1;
-        let rows = serial(&mut Dice::seeded(1));
+    fn of(rows: usize) -> Merging<SAME, BOXES> {
+        let tables = usize::from(BOXES / 2 + 1);
+        let rows = serial(&mut Dice::seeded(1), rows);
         let run: Vec<u8> = (0..tables)
             .flat_map(|place| {
                 let step = if SAME { (0, 1) } else { (place, tables) };
                 let own = rows.iter().skip(step.0).step_by(step.1).cloned();
-                table(place as u8, boxes as u8, own.collect()).image()
+                table(place as u8, BOXES, own.collect()).image()
             })
             .collect();
         let mut merged = vec![0; TABLE_BYTES];
@@ -52,8 +42,8 @@ all tables with a cursor in each, once to decide and once to write."
     }
 
     /// A merge is some thousand times as long as what else is measured.
-    fn times_a_round(_boxes: usize) -> usize {
-        1
+    fn times_a_round(rows: usize) -> usize {
+        512 / rows
     }
 
     fn bytes(&self) -> usize {
@@ -79,6 +69,38 @@ all tables with a cursor in each, once to decide and once to write."
     }
 }
 
+const fn name(same: bool, boxes: u8) -> &'static str {
+    match (same, boxes) {
+        (true, 3) => "merge-same-3",
+        (true, 5) => "merge-same-5",
+        (true, _) => "merge-same-7",
+        (false, 3) => "merge-apart-3",
+        (false, 5) => "merge-apart-5",
+        (false, _) => "merge-apart-7",
+    }
+}
+
+const fn about(same: bool, boxes: u8) -> &'static str {
+    match (same, boxes) {
+        (true, 3) => {
+            "\
+The merge of f+1 tables with the same stamps in a group of 3 boxes, `sprondilu_merge` of the library against the same walks in
+safe Rust. Input: one table by the rules, which f+1 boxes of the group hold: every row tentative OK and without an outcome, so
+that it is agreed and checked; half of the rows have 4 reads and 4 writes, half one of each; nearly all read what was written
+last, so that nearly all checks find OK. The rows are those of one table, the bytes those of all. Each side writes its own
+outputs. The second program parses the tables into some of its own. Beside it, as cursors, a merge in safe Rust that goes up
+all tables with a cursor in each, once to decide and once to write."
+        }
+        (false, 3) => {
+            "\
+The merge of f+1 tables of a group of 3 boxes whose stamps are disjoint, with the same rows dealt out in turn: all are open
+and checked. The rows are those of all tables together."
+        }
+        (_, 5) => "The same in a group of 5 boxes, of which 3 tables are merged.",
+        _ => "The same in a group of 7 boxes, of which 4 tables are merged.",
+    }
+}
+
 fn table(box_number: u8, n: u8, rows: Vec<Row>) -> Table {
     Table {
         box_number,
@@ -91,8 +113,8 @@ fn table(box_number: u8, n: u8, rows: Vec<Row>) -> Table {
     }
 }
 
-/// Rows of 512 transactions that ran one after the other, but for one in sixteen, which read what was long overwritten.
-fn serial(dice: &mut Dice) -> Vec<Row> {
+/// Rows of transactions that ran one after the other, but for one in sixteen, which read what was long overwritten.
+fn serial(dice: &mut Dice, rows: usize) -> Vec<Row> {
     let mut newest = [0; 64];
     let row = |place: u64| {
         let count = if place % 2 == 0 { 4 } else { 1 };
@@ -112,7 +134,7 @@ fn serial(dice: &mut Dice) -> Vec<Row> {
             outcome: 0,
         }
     };
-    (0..MOST_ROWS as u64).map(row).collect()
+    (0..rows as u64).map(row).collect()
 }
 
 /// Accesses of so many registers, rising, with the number that each register is given.
@@ -130,41 +152,27 @@ fn accesses(dice: &mut Dice, count: usize, number: impl Fn(usize) -> u64) -> Vec
 
 #[cfg(test)]
 mod tests {
-    use super::{Merging, MOST_ROWS};
-    use crate::{sides, Work};
+    use super::Merging;
+    use crate::Work;
 
-    fn all_sides<const SAME: bool>() {
-        for boxes in Merging::<SAME>::SIZES {
-            let mut work = Merging::<SAME>::of(boxes);
-            for side in sides::<Merging<SAME>>() {
-                work.get_ready(2);
-                work.done_by(side, 2);
-                work.assert_done(side);
-            }
-        }
-    }
-
-    #[test]
-    fn all_sides_merge_what_is_measured_as_the_second_program() {
-        all_sides::<true>();
-        all_sides::<false>();
-    }
-
-    /// How many rows of an image have this prepare byte.
-    fn settled(image: &[u8], prepare: u8) -> usize {
-        let rows = image[24..].chunks_exact(24).take(MOST_ROWS);
+    /// How many of the rows of an image have this prepare byte.
+    fn settled(image: &[u8], rows: usize, prepare: u8) -> usize {
+        let rows = image[24..].chunks_exact(24).take(rows);
         rows.filter(|row| row[22] == prepare).count()
     }
 
     #[test]
     fn nearly_all_checks_that_are_measured_find_ok() {
-        for merged in [
-            Merging::<true>::of(3).merged,
-            Merging::<false>::of(7).merged,
-        ] {
-            let (ok, abstain) = (settled(&merged, 5), settled(&merged, 7));
-            assert_eq!(ok + abstain, MOST_ROWS);
-            assert!(ok > 450 && abstain > 10, "{} OK, {} ABSTAIN", ok, abstain);
+        for rows in Merging::<true, 3>::SIZES {
+            for merged in [
+                Merging::<true, 3>::of(rows).merged,
+                Merging::<false, 7>::of(rows).merged,
+            ] {
+                let (ok, abstain) = (settled(&merged, rows, 5), settled(&merged, rows, 7));
+                assert_eq!(ok + abstain, rows);
+                assert!(8 * ok > 7 * rows, "{} of {} are OK", ok, rows);
+                assert!(abstain > 0, "none of {} is ABSTAIN", rows);
+            }
         }
     }
 }

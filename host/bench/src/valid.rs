@@ -1,4 +1,4 @@
-//! Validity of an image: what both sides judge.
+//! Validity of an image: what all sides judge.
 
 use crate::{Side, Work};
 use samples::{random, Dice};
@@ -12,11 +12,12 @@ pub struct Judging {
 
 impl Work for Judging {
     const NAME: &'static str = "valid";
-    const SIZES: [usize; 3] = [64, 256, 512];
+    const CALL: Option<&'static str> = Some("sprondilu_valid");
     const ABOUT: &'static str = "\
-Validity of an image, 'sprondilu_valid' of the library against the same walk in safe Rust.
-Input: a table by the rules whose rows have 4 reads and 4 writes each, lent whole; both sides judge the same bytes, in
-turns. No buffer was cleared: the call writes nothing.";
+Validity of an image, `sprondilu_valid` of the library against the same walk in safe Rust.
+Input: a table by the rules whose rows have 4 reads and 4 writes each, lent whole; all sides judge the same bytes, in
+turns. No buffer was cleared: the call writes nothing. The second program parses the image into a table of its own, and
+gives that up again.";
 
     fn of(rows: usize) -> Judging {
         let image = random::full_table(&mut Dice::seeded(1), rows).image();
@@ -31,7 +32,7 @@ turns. No buffer was cleared: the call writes nothing.";
     fn get_ready(&mut self, _times: usize) {}
 
     /// The last write gets another value each time, as it may have any: so the compiler cannot take one answer for all,
-    /// and both sides find the same bytes as warm as each other.
+    /// and all sides find the same bytes as warm as each other.
     fn done_by(&mut self, side: Side, times: usize) {
         let expected = (self.image.len() as u64) << 16;
         let last_value = self.image.len() - 8;

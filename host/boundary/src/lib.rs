@@ -2,7 +2,8 @@
 //! source, so there is one for each call of `include/sprondilu.h`; beside them only the header's struct, and words seen as
 //! such structs.
 
-mod library {
+/// The calls as they are declared in C. They are called by the functions below, and by whoever needs their addresses.
+pub mod library {
     use super::Record;
 
     extern "C" {

@@ -1,0 +1,135 @@
+//! All that is measured, printed as tables in Markdown.
+
+use crate::{instructions, stack, works, Named, Section};
+
+const ROUNDS: usize = 101;
+
+pub fn print_all(sections: &[Section]) {
+    for section in sections {
+        println!("### {}\n", section.heading);
+        for work in section.works {
+            println!("- {}: {}", work.name, work.about.replace('\n', " "));
+        }
+        println!();
+        print_row(&headings(&section.works[0]));
+        print_rule(&headings(&section.works[0]));
+        section.works.iter().for_each(print_figures);
+        println!();
+    }
+    print_stack();
+}
+
+/// A measure is followed by its ratios.
+fn headings(work: &Named) -> Vec<String> {
+    let mut cells = vec!["work".into(), work.unit.into(), "bytes".into()];
+    for measure in ["ns", "instructions"] {
+        let own = |side: &crate::Side| format!("{} {}", side.name, measure);
+        let ratio = |side: &crate::Side| format!("{}: library / {}", measure, side.name);
+        cells.extend(work.sides.iter().map(own));
+        cells.extend(work.sides[1..].iter().map(ratio));
+    }
+    cells
+}
+
+fn print_figures(work: &Named) {
+    for size in work.sizes {
+        eprintln!("bench: {} of {} {}", work.name, size, work.unit);
+        print_row(&figures(work, size));
+    }
+}
+
+fn figures(work: &Named, size: usize) -> Vec<String> {
+    let medians = (work.medians)(size, ROUNDS);
+    let counted = |side| instructions::for_one(work, side, size) as f64;
+    let counted: Vec<f64> = work.sides.iter().map(counted).collect();
+    let mut cells = vec![work.name.into(), size.to_string(), grouped(medians.bytes)];
+    for measured in [medians.nanoseconds, counted] {
+        let ratio = |other: &f64| format!("{:.2}", measured[0] / other);
+        cells.extend(
+            measured
+                .iter()
+                .map(|figure| grouped(figure.round() as usize)),
+        );
+        cells.extend(measured[1..].iter().map(ratio));
+    }
+    cells
+}
+
+fn print_stack() {
+    eprintln!("bench: the stack");
+    println!("### Stack\n");
+    let headings = ["call", "bytes of stack", "deepest in"].map(String::from);
+    print_row(&headings);
+    print_rule(&headings);
+    for (call, deepest, work) in deepest_of_calls() {
+        print_row(&[format!("`{}`", call), grouped(deepest), work.into()]);
+    }
+    println!();
+}
+
+/// Each public call, how many bytes of stack it writes at most, and the work in which it does so first.
+fn deepest_of_calls() -> Vec<(&'static str, usize, &'static str)> {
+    let mut calls = vec![("sprondilu_fresh", stack::deepest_of_fresh(), "fresh")];
+    for work in works() {
+        let call = match work.call {
+            Some(call) => (call, (work.deepest)(), work.name),
+            None => continue,
+        };
+        match calls.iter_mut().find(|other| other.0 == call.0) {
+            Some(other) if other.1 >= call.1 => {}
+            Some(other) => *other = call,
+            None => calls.push(call),
+        }
+    }
+    calls
+}
+
+pub fn print_row(cells: &[String]) {
+    println!("| {} |", cells.join(" | "));
+}
+
+/// The line below the headings: numbers stand at the right.
+pub fn print_rule(headings: &[String]) {
+    println!("|---|{}", "---:|".repeat(headings.len() - 1));
+}
+
+/// A number as people read it, with a comma before every three digits.
+pub fn grouped(number: usize) -> String {
+    let digits = number.to_string();
+    let mut grouped = String::new();
+    for (place, digit) in digits.chars().enumerate() {
+        if place > 0 && (digits.len() - place) % 3 == 0 {
+            grouped.push(',');
+        }
+        grouped.push(digit);
+    }
+    grouped
+}
+
+#[cfg(test)]
+mod tests {
+    use super::{grouped, headings};
+    use crate::works;
+
+    #[test]
+    fn numbers_are_grouped_by_three_digits() {
+        for (number, expected) in [
+            (0, "0"),
+            (999, "999"),
+            (1_000, "1,000"),
+            (49_176, "49,176"),
+            (148_722_856, "148,722,856"),
+        ] {
+            assert_eq!(grouped(number), expected);
+        }
+    }
+
+    #[test]
+    fn each_ratio_names_its_baseline() {
+        let valid = works().next().expect("a work");
+        let expected = "work, rows, bytes, library ns, twin ns, second ns, ns: library / twin, ns: library / second, \
+            library instructions, twin instructions, second instructions, instructions: library / twin, \
+            instructions: library / second";
+        assert_eq!(headings(valid).join(", "), expected);
+    }
+}
