@@ -1,7 +1,8 @@
 //! The gate's time, crate by crate, as a log of it has it: what `./test` printed, both of its outputs.
 //!
 //! `rt` says of a crate `rt: NAME proved (22 s)`, and of an edit that must fail `rt: must-fail NAME/LABEL: refused, .. 30 s)`.
-//! cargo says which tests it runs, and they say `test result: ok. .. finished in 3.54s`.
+//! cargo says which tests it runs, and they say `test result: ok. .. finished in 3.54s`. If the shell's `time` stood before the
+//! gate, then `real 15m7.120s` is there too.
 
 use crate::refuse;
 use crate::tables::{print_row, print_rule};
@@ -25,6 +26,14 @@ struct Tested {
     seconds: f64,
 }
 
+/// All that a log says.
+#[derive(Debug, Default)]
+struct Gate<'a> {
+    proved: Vec<Proved>,
+    tested: Vec<Tested>,
+    whole: Option<&'a str>,
+}
+
 /// What a line of the log tells, if it is one of these.
 #[derive(Debug, PartialEq)]
 enum Line<'a> {
@@ -32,19 +41,23 @@ enum Line<'a> {
     Edit(&'a str, u64),
     Tests(&'a str),
     Passed(u64, f64),
+    Whole(&'a str),
 }
 
 pub fn print(path: &str) {
     let bytes = fs::read(path).unwrap_or_else(|error| refuse(&format!("{}: {}", path, error)));
     let log = String::from_utf8_lossy(&bytes);
-    let (proved, tested) = read(&log);
-    if proved.is_empty() {
-        refuse(&format!("{} says of no crate that it is proved", path));
+    let gate = read(&log);
+    if gate.proved.is_empty() || log.contains("test: not passed") {
+        refuse(&format!("{} is no log of a gate that passed", path));
     }
-    print_proved(&proved);
-    if !tested.is_empty() {
+    print_proved(&gate.proved);
+    if !gate.tested.is_empty() {
         println!();
-        print_tested(&tested);
+        print_tested(&gate.tested);
+    }
+    if let Some(whole) = gate.whole {
+        println!("\nThe whole gate took {}.", whole);
     }
 }
 
@@ -85,28 +98,35 @@ fn print_tested(crates: &[Tested]) {
     row("all", passed, crates.iter().map(|of| of.seconds).sum());
 }
 
-/// The crates of a log, in its order.
-fn read(log: &str) -> (Vec<Proved>, Vec<Tested>) {
-    let (mut proved, mut tested) = (Vec::new(), Vec::new());
-    for line in log.lines().filter_map(told) {
+/// What the log says, with its crates in its order.
+fn read(log: &str) -> Gate<'_> {
+    let mut gate = Gate::default();
+    log.lines()
+        .filter_map(told)
+        .for_each(|line| gate.hear(line));
+    gate.tested.retain(|of| of.passed > 0);
+    gate
+}
+
+impl<'a> Gate<'a> {
+    fn hear(&mut self, line: Line<'a>) {
         match line {
-            Line::Crate(name, seconds) => proved_of(&mut proved, name).seconds = seconds,
+            Line::Crate(name, seconds) => proved_of(&mut self.proved, name).seconds = seconds,
             Line::Edit(name, seconds) => {
-                let of = proved_of(&mut proved, name);
+                let of = proved_of(&mut self.proved, name);
                 of.edits += 1;
                 of.edits_seconds += seconds;
             }
-            Line::Tests(name) => begin(&mut tested, name),
+            Line::Tests(name) => begin(&mut self.tested, name),
             Line::Passed(passed, seconds) => {
-                if let Some(of) = tested.last_mut() {
+                if let Some(of) = self.tested.last_mut() {
                     of.passed += passed;
                     of.seconds += seconds;
                 }
             }
+            Line::Whole(time) => self.whole = Some(time),
         }
     }
-    tested.retain(|of| of.passed > 0);
-    (proved, tested)
 }
 
 fn proved_of<'a>(crates: &'a mut Vec<Proved>, name: &str) -> &'a mut Proved {
@@ -137,6 +157,9 @@ fn begin(crates: &mut Vec<Tested>, name: &str) {
 /// What a line tells. Something may stand before it, as the time of day.
 fn told(line: &str) -> Option<Line<'_>> {
     let words: Vec<&str> = line.split_whitespace().collect();
+    if let ["real", time] = words[..] {
+        return Some(Line::Whole(time));
+    }
     let from = |first: &str| words.iter().position(|word| *word == first);
     if let Some(place) = from("rt:") {
         return told_by_rt(&words[place + 1..]);
@@ -205,6 +228,8 @@ test result: ok. 5 passed; 0 failed; 0 ignored; 0 measured; 0 filtered out; fini
      Running unittests src/main.rs (target/host/release/deps/bench-2e12607addee7163)
 test result: ok. 12 passed; 0 failed; 0 ignored; 0 measured; 0 filtered out; finished in 3.50s
 150 passed, 0 failed
+
+real\t15m7.120s
 ";
 
     fn proved(name: &str, seconds: Option<u64>, edits: u64, edits_seconds: u64) -> Proved {
@@ -226,17 +251,16 @@ test result: ok. 12 passed; 0 failed; 0 ignored; 0 measured; 0 filtered out; fin
 
     #[test]
     fn a_log_is_read_crate_by_crate() {
-        let (crates, host) = read(LOG);
+        let gate = read(LOG);
         let expected = [
             proved("wire", Some(9), 0, 0),
             proved("rows", Some(22), 2, 49),
             proved("rules", None, 0, 0),
         ];
-        assert_eq!(crates, expected);
-        assert_eq!(
-            host,
-            [tested("boundary", 7, 3.79), tested("bench", 12, 3.5)]
-        );
+        assert_eq!(gate.proved, expected);
+        let expected = [tested("boundary", 7, 3.79), tested("bench", 12, 3.5)];
+        assert_eq!(gate.tested, expected);
+        assert_eq!(gate.whole, Some("15m7.120s"));
     }
 
     #[test]

@@ -58,6 +58,9 @@ pub trait Work {
     fn assert_done(&self, side: Side);
 }
 
+/// Adds a row to a table in its buffer, at an index.
+type AddRow = unsafe fn(&mut [u8], usize, &[u8]);
+
 /// A side of the comparison: its name, and its ways to judge lent bytes, to answer a message, to merge tables, to count
 /// replies in bytes, and, if it has them, to count replies as records and to add a row to a table.
 #[derive(Clone, Copy)]
@@ -68,7 +71,7 @@ pub struct Side {
     merge: fn(&[u8], u32, &mut [u8]) -> u8,
     count: fn(u8, &[u8]) -> u64,
     count_records: Option<fn(u8, &[boundary::Record]) -> u64>,
-    add_row: Option<unsafe fn(&mut [u8], usize, &[u8])>,
+    add_row: Option<AddRow>,
 }
 
 pub const LIBRARY: Side = Side {

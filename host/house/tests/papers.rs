@@ -3,9 +3,10 @@
 use house::{cited, crates, files, stands, text, top};
 use std::process::Command;
 
-const PAPERS: [&str; 7] = [
+const PAPERS: [&str; 8] = [
     "README.md",
     "docs/ARCHITECTURE.md",
+    "docs/BENCHMARKS.md",
     "docs/CLAIMS.md",
     "docs/DECISIONS.md",
     "docs/FIRMWARE.md",
