@@ -1,8 +1,11 @@
 //! All that is measured, printed as tables in Markdown.
 
-use crate::{instructions, stack, works, Named, Section};
+use crate::{instructions, stack, works, Named, Section, Side};
 
 const ROUNDS: usize = 101;
+
+/// On a machine that does nothing else it is less.
+const STEADY_SPREAD: f64 = 1.25;
 
 pub fn print_all(sections: &[Section]) {
     for section in sections {
@@ -23,8 +26,8 @@ pub fn print_all(sections: &[Section]) {
 fn headings(work: &Named) -> Vec<String> {
     let mut cells = vec!["work".into(), work.unit.into(), "bytes".into()];
     for measure in ["ns", "instructions"] {
-        let own = |side: &crate::Side| format!("{} {}", side.name, measure);
-        let ratio = |side: &crate::Side| format!("{}: library / {}", measure, side.name);
+        let own = |side: &Side| format!("{} {}", side.name, measure);
+        let ratio = |side: &Side| format!("{}: library / {}", measure, side.name);
         cells.extend(work.sides.iter().map(own));
         cells.extend(work.sides[1..].iter().map(ratio));
     }
@@ -40,6 +43,10 @@ fn print_figures(work: &Named) {
 
 fn figures(work: &Named, size: usize) -> Vec<String> {
     let medians = (work.medians)(size, ROUNDS);
+    if medians.spread > STEADY_SPREAD {
+        let spread = medians.spread;
+        eprintln!("bench: unsteady times: a median is {:.2} times the least; does something else run here?", spread);
+    }
     let counted = |side| instructions::for_one(work, side, size) as f64;
     let counted: Vec<f64> = work.sides.iter().map(counted).collect();
     let mut cells = vec![work.name.into(), size.to_string(), grouped(medians.bytes)];

@@ -9,6 +9,9 @@ pub struct Medians {
     pub bytes: usize,
     /// Nanoseconds for the work once, in the middle of all rounds, of each side.
     pub nanoseconds: Vec<f64>,
+    /// How many times as long as its shortest round the middle one took, of the side for which that is most. Where it is far
+    /// above 1, something else ran on the machine, and the ratios are not to be trusted.
+    pub spread: f64,
 }
 
 pub fn medians<W: Work>(size: usize, rounds: usize) -> Medians {
@@ -20,9 +23,14 @@ pub fn medians<W: Work>(size: usize, rounds: usize) -> Medians {
             taken.push(nanoseconds(&mut work, *side, times));
         }
     }
+    taken
+        .iter_mut()
+        .for_each(|times| times.sort_by(f64::total_cmp));
+    let spreads = taken.iter().map(|times| median(times) / times[0]);
     Medians {
         bytes: work.bytes(),
-        nanoseconds: taken.into_iter().map(median).collect(),
+        nanoseconds: taken.iter().map(|times| median(times)).collect(),
+        spread: spreads.fold(1.0, f64::max),
     }
 }
 
@@ -35,7 +43,7 @@ fn nanoseconds<W: Work>(work: &mut W, side: Side, times: usize) -> f64 {
     passed.as_nanos() as f64 / times as f64
 }
 
-fn median(mut times: Vec<f64>) -> f64 {
-    times.sort_by(|one, other| one.total_cmp(other));
-    times[times.len() / 2]
+/// The one in the middle of what is sorted.
+fn median(sorted: &[f64]) -> f64 {
+    sorted[sorted.len() / 2]
 }
