@@ -43,13 +43,10 @@ fn print_figures(work: &Named) {
 
 fn figures(work: &Named, size: usize) -> Vec<String> {
     let medians = (work.medians)(size, ROUNDS);
-    if medians.spread > STEADY_SPREAD {
-        let spread = medians.spread;
-        eprintln!("bench: unsteady times: a median is {:.2} times the least; does something else run here?", spread);
-    }
     let counted = |side| instructions::for_one(work, side, size) as f64;
     let counted: Vec<f64> = work.sides.iter().map(counted).collect();
-    let mut cells = vec![work.name.into(), size.to_string(), grouped(medians.bytes)];
+    let name = name_with_spread(work.name, medians.spread);
+    let mut cells = vec![name, size.to_string(), grouped(medians.bytes)];
     for measured in [medians.nanoseconds, counted] {
         let ratio = |other: &f64| format!("{:.2}", measured[0] / other);
         cells.extend(
@@ -60,6 +57,18 @@ fn figures(work: &Named, size: usize) -> Vec<String> {
         cells.extend(measured[1..].iter().map(ratio));
     }
     cells
+}
+
+/// Whoever reads the figures, as they come or on the page, is told of times that are not to be trusted.
+fn name_with_spread(name: &str, spread: f64) -> String {
+    if spread <= STEADY_SPREAD {
+        return name.into();
+    }
+    eprintln!(
+        "bench: unsteady times: a median is {:.2} times the least; does something else run here?",
+        spread
+    );
+    format!("{}, unsteady", name)
 }
 
 fn print_stack() {
@@ -115,7 +124,7 @@ pub fn grouped(number: usize) -> String {
 
 #[cfg(test)]
 mod tests {
-    use super::{grouped, headings};
+    use super::{grouped, headings, name_with_spread};
     use crate::works;
 
     #[test]
@@ -129,6 +138,12 @@ mod tests {
         ] {
             assert_eq!(grouped(number), expected);
         }
+    }
+
+    #[test]
+    fn times_that_are_not_to_be_trusted_are_marked() {
+        assert_eq!(name_with_spread("valid", 1.1), "valid");
+        assert_eq!(name_with_spread("valid", 1.6), "valid, unsteady");
     }
 
     #[test]
