@@ -10,7 +10,7 @@ ghost use Rattle.replies.specs.Held.{noneHeld, withReplies};
 ghost use Rattle.count.specs.Answers.{answerAs};
 ghost use Rattle.count.specs.Calls.{replyAt, repliesOf, countBytes};
 
-// The length of a reply.
+// The length of a reply as it is counted; the one that a box sends has 24 bytes.
 const LENGTH: usize = 15;
 
 fn reply_at(bytes: &[u8], at: usize) -> Reply

@@ -126,7 +126,7 @@ pub record Model : Type 0 where
   pub rowLimit : ℕ
   pub leastBuffer : ℕ
 
--- "At most 512 rows." "A table buffer has at least 49,176 bytes."
+-- the box of 01, named so beside other models: "At most 512 rows." "A table buffer has at least 49,176 bytes."
 abbrev pub valley : Model
 valley = record { rowLimit = 512; leastBuffer = 49176 }
 

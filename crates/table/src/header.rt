@@ -124,6 +124,7 @@ pub fn write(s: &mut [u8], h: Header)
     write_four_byte_fields(s, h);
 }
 
+// 3, 5 or 7 boxes.
 pub fn group_valid(n: u8) -> bool
     ensures { λ r. ⌜ r ≡ isGroup n ⌝ }
 {
@@ -146,6 +147,7 @@ pub fn box_valid(n: u8, boxnumber: u8) -> bool
     false
 }
 
+// Normal: the promised view is the view. Changing: it is above.
 fn mode_valid(mode: u8, view: u32, promised: u32) -> bool
     ensures { λ r. ⌜ r ≡ modeByRule mode view promised ⌝ }
 {
@@ -176,6 +178,7 @@ fn sizes_valid(h: Header, begin: usize, limit: u16, lent: usize) -> bool
     begin + 24 * (rows as usize) <= h.length as usize
 }
 
+// The format, the group and the box.
 fn format_valid(h: Header, format: u8) -> bool
     ensures { λ r. ⌜ r ≡ both (eqb (h .format) format) (both (isGroup (h .n)) (ltb (h .boxnumber) (h .n))) ⌝ }
 {
@@ -185,6 +188,7 @@ fn format_valid(h: Header, format: u8) -> bool
     false
 }
 
+// The mode with its views, and the sizes.
 fn state_valid(h: Header, begin: usize, limit: u16, lent: usize) -> bool
     requires { ⌜ begin ≤ 65536 ⌝ }
     ensures { λ r. ⌜ r ≡ both (modeByRule (h .mode) (h .view) (h .promised)) (sizesByRule h begin limit lent) ⌝ }

@@ -2,9 +2,10 @@
 //! right behind them, memory that can be neither read nor written; or the bytes are an allocation of their own, of just this
 //! length, for a tool that watches allocations.
 
-/// Longer than a page and a whole number of pages on every machine that is common.
+/// A page or more, and a whole number of pages, on every machine that is common.
 const FENCE: usize = 65_536;
 
+// As Linux numbers them, on x86-64 and Arm alike.
 const NO_ACCESS: i32 = 0;
 const READ: i32 = 1;
 const READ_AND_WRITE: i32 = 3;

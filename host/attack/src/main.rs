@@ -1,7 +1,7 @@
 //! `attack`: the library against the second program until the time is over or something differs.
 
 use attack::fenced::{trespass, Trespass};
-use attack::rounds::{attack, Plan, Result};
+use attack::rounds::{attack, Ended, Plan};
 use attack::{calls, Memory};
 use std::sync::atomic::{AtomicU64, Ordering};
 use std::time::{Duration, Instant};
@@ -71,7 +71,7 @@ fn go_too_far(memory: Memory, how: Option<String>) -> ! {
         _ => refuse("--trespass wants one of its words"),
     };
     let found = trespass(memory, how);
-    println!("nothing stopped it at a byte {}", found);
+    println!("nothing stopped it; the byte there is {}", found);
     process::exit(0);
 }
 
@@ -86,22 +86,22 @@ fn watch(begun: Instant) -> impl Fn(u64) + Sync {
     }
 }
 
-fn tell(result: &Result, seconds: f64) {
-    println!("{}\n", result.met);
-    let calls = result.met.calls();
+fn tell(ended: &Ended, seconds: f64) {
+    println!("{}\n", ended.met);
+    let calls = ended.met.calls();
     let speed = calls as f64 / seconds;
     println!(
         "{} rounds, {} calls in {:.0} s, {:.0} a second",
-        result.rounds, calls, seconds, speed
+        ended.rounds, calls, seconds, speed
     );
 }
 
 fn main() {
     let begun = Instant::now();
     let plan = plan();
-    let result = attack(&plan, &watch(begun));
-    tell(&result, begun.elapsed().as_secs_f64());
-    match &result.found {
+    let ended = attack(&plan, &watch(begun));
+    tell(&ended, begun.elapsed().as_secs_f64());
+    match &ended.found {
         None => println!("no difference"),
         Some(found) => {
             println!(

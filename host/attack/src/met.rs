@@ -1,5 +1,6 @@
 //! How often each call ended with each number, so that an attack without a difference is no empty one.
 
+use samples::kinds::NUMBERS as NUMBERS_OF_KINDS;
 use std::fmt::{self, Display, Formatter};
 
 const NUMBERS: usize = 12;
@@ -16,17 +17,17 @@ pub enum Call {
 }
 
 /// Each call, its name, and the numbers that the paper has for it.
-const CALLS: [(Call, &str, &[usize]); 13] = [
+const CALLS: [(Call, &str, &[u8]); 13] = [
     (Call::Fresh, "fresh", &[0, 1, 3]),
     (Call::Valid, "valid", &[0, 2]),
-    (Call::Answer(0), "answer to no kind", &[1, 2, 3]),
-    (Call::Answer(1), "answer to 1", &[0, 1, 2, 3, 4, 5, 7]),
-    (Call::Answer(2), "answer to 2", &[0, 1, 2, 3, 4, 6, 8, 9]),
-    (Call::Answer(3), "answer to 3", &[0, 1, 2, 3, 4, 5, 6, 7]),
-    (Call::Answer(4), "answer to 4", &[0, 1, 2, 3, 4, 6, 8, 9]),
-    (Call::Answer(5), "answer to 5", &[0, 1, 2, 3, 10]),
-    (Call::Answer(6), "answer to 6", &[0, 1, 2, 3, 10]),
-    (Call::Answer(7), "answer to 7", &[0, 1, 2, 3, 4]),
+    (Call::Answer(0), "answer to no kind", NUMBERS_OF_KINDS[0]),
+    (Call::Answer(1), "answer to 1", NUMBERS_OF_KINDS[1]),
+    (Call::Answer(2), "answer to 2", NUMBERS_OF_KINDS[2]),
+    (Call::Answer(3), "answer to 3", NUMBERS_OF_KINDS[3]),
+    (Call::Answer(4), "answer to 4", NUMBERS_OF_KINDS[4]),
+    (Call::Answer(5), "answer to 5", NUMBERS_OF_KINDS[5]),
+    (Call::Answer(6), "answer to 6", NUMBERS_OF_KINDS[6]),
+    (Call::Answer(7), "answer to 7", NUMBERS_OF_KINDS[7]),
     (Call::Merge, "merge", &[0, 1, 2, 5, 6, 7, 11]),
     (Call::Count, "count", &[0, 3, 6]),
     (Call::CountRecords, "count of records", &[0, 3, 6]),
@@ -68,7 +69,7 @@ impl Met {
         let mut missing = Vec::new();
         for ((_, name, possible), counts) in CALLS.iter().zip(&self.numbers) {
             for (number, count) in counts.iter().enumerate() {
-                let right = match possible.contains(&number) {
+                let right = match possible.contains(&(number as u8)) {
                     true => *count >= least,
                     false => *count == 0,
                 };
@@ -91,7 +92,7 @@ impl Display for Met {
         for ((_, name, possible), counts) in CALLS.iter().zip(&self.numbers) {
             write!(f, "\n| {} | {} |", name, counts.iter().sum::<u64>())?;
             for (number, count) in counts.iter().enumerate() {
-                match possible.contains(&number) || *count > 0 {
+                match possible.contains(&(number as u8)) || *count > 0 {
                     true => write!(f, " {} |", count)?,
                     false => write!(f, " |")?,
                 }

@@ -32,7 +32,7 @@ pub struct Found {
 
 /// What came of an attack.
 #[derive(Clone, Debug, Default, PartialEq, Eq)]
-pub struct Result {
+pub struct Ended {
     pub rounds: u64,
     pub met: Met,
     pub found: Option<Found>,
@@ -72,30 +72,30 @@ impl Shared {
 }
 
 /// Rounds as one thread plays them, each told to whoever watches.
-fn played(plan: &Plan, shared: &Shared, watch: &(dyn Fn(u64) + Sync)) -> Result {
+fn played(plan: &Plan, shared: &Shared, watch: &(dyn Fn(u64) + Sync)) -> Ended {
     let mut both = Both::new(plan.calls, plan.memory);
-    let mut result = Result::default();
+    let mut ended = Ended::default();
     while let Some(round) = shared.take(plan) {
         watch(round);
-        result.rounds += 1;
+        ended.rounds += 1;
         if let Some(found) = play(&mut both, round) {
             shared.stop.store(true, Ordering::Relaxed);
-            result.found = Some(found);
+            ended.found = Some(found);
         }
     }
-    result.met = both.met;
-    result
+    ended.met = both.met;
+    ended
 }
 
 /// All rounds of a plan, or those until the first difference.
-pub fn attack(plan: &Plan, watch: &(dyn Fn(u64) + Sync)) -> Result {
+pub fn attack(plan: &Plan, watch: &(dyn Fn(u64) + Sync)) -> Ended {
     let shared = Shared {
         next: AtomicU64::new(plan.from),
         stop: AtomicBool::new(false),
         begun: Instant::now(),
     };
     let shared = &shared;
-    let results: Vec<Result> = thread::scope(|scope| {
+    let all_ended: Vec<Ended> = thread::scope(|scope| {
         let one = |_| scope.spawn(move || played(plan, shared, watch));
         let running: Vec<_> = (0..plan.threads).map(one).collect();
         let ended = running.into_iter().map(|thread| thread.join());
@@ -103,8 +103,8 @@ pub fn attack(plan: &Plan, watch: &(dyn Fn(u64) + Sync)) -> Result {
             .map(|ended| ended.expect("a thread that ends"))
             .collect()
     });
-    let mut all = Result::default();
-    for one in results {
+    let mut all = Ended::default();
+    for one in all_ended {
         all.rounds += one.rounds;
         all.met.add(&one.met);
         all.found = all.found.or(one.found);

@@ -4,7 +4,8 @@
 //!
 //! `bench` measures times, has valgrind count instructions, looks how deep the library's calls go on the stack, and prints
 //! tables in Markdown. `bench WORK SIDE SIZE TIMES`, as `bench insert library 511 50`, only does that work so many times, on
-//! one side, for whoever counts its instructions. `bench gate LOG` prints the times that a log of the gate has. `tools/bench`
+//! one side, for whoever counts its instructions. `bench stack` looks at the stack alone, and `bench gate LOG` prints the
+//! times that a log of the gate has. `tools/bench`
 //! does all of it.
 
 mod answer;
@@ -218,11 +219,12 @@ fn main() {
     match (&words[..], words.first().and_then(|name| named(name))) {
         ([], _) => tables::print_all(&SECTIONS),
         (["gate", log], _) => gate::print(log),
+        (["stack"], _) => tables::print_stack(),
         ([_, side, size, times], Some(work)) => (work.one_side)(side, size, times),
         _ => {
             let names: Vec<&str> = works().map(|work| work.name).collect();
             refuse(&format!(
-                "give no word; or 'gate' and a file; or one of {}, a side, a size and how often",
+                "give no word; or 'stack'; or 'gate' and a file; or one of {}, a side, a size and how often",
                 names.join(", ")
             ))
         }

@@ -71,7 +71,7 @@ fn name_with_spread(name: &str, spread: f64) -> String {
     format!("{}, unsteady", name)
 }
 
-fn print_stack() {
+pub fn print_stack() {
     eprintln!("bench: the stack");
     println!("### Stack\n");
     let headings = ["call", "bytes of stack", "deepest in"].map(String::from);

@@ -3,6 +3,19 @@
 use crate::message as make;
 use crate::{random, Dice, Row, Table, GREATEST_STAMP};
 
+/// The numbers that the paper has for an answer to each kind; at 0 those for a kind that there is not, and for no bytes at
+/// all: a bad message is all that is known of those.
+pub const NUMBERS: [&[u8]; 8] = [
+    &[1, 2, 3],
+    &[0, 1, 2, 3, 4, 5, 7],
+    &[0, 1, 2, 3, 4, 6, 8, 9],
+    &[0, 1, 2, 3, 4, 5, 6, 7],
+    &[0, 1, 2, 3, 4, 6, 8, 9],
+    &[0, 1, 2, 3, 10],
+    &[0, 1, 2, 3, 10],
+    &[0, 1, 2, 3, 4],
+];
+
 /// A message of every kind, about a row of the table or about a stamp that it hardly holds; then one of an unknown kind, and
 /// none at all.
 pub fn messages(dice: &mut Dice, table: &Table) -> Vec<Vec<u8>> {

@@ -1,6 +1,7 @@
 //! One box and what it is told.
 
 use super::alterations::altered;
+use super::tables::message_about;
 use super::{ask, buffer, dirt, image, table_length};
 use crate::both::{Both, Difference};
 use samples::{kinds, message, next, random, transactions, Dice, Row, GREATEST_STAMP, MOST_ROWS};
@@ -40,8 +41,7 @@ fn next_message(dice: &mut Dice, table: &[u8], transactions: &[Row]) -> Vec<u8> 
 fn any_message(dice: &mut Dice) -> Vec<u8> {
     let rows = 1 + dice.index(5);
     let table = random::table(dice, rows);
-    let mut messages = kinds::messages(dice, &table);
-    messages.swap_remove(dice.index(messages.len()))
+    message_about(dice, &table)
 }
 
 /// A long sequence of messages over few transactions, from a fresh table on.

@@ -14,7 +14,7 @@ fn judge(both: &mut Both, dice: &mut Dice, bytes: &[u8], message: &[u8]) -> Resu
 }
 
 /// A message of any kind about a table that has rows.
-fn any_message(dice: &mut Dice, table: &Table) -> Vec<u8> {
+pub fn message_about(dice: &mut Dice, table: &Table) -> Vec<u8> {
     let mut messages = kinds::messages(dice, table);
     messages.swap_remove(dice.index(messages.len()))
 }
@@ -25,7 +25,7 @@ pub fn damaged(both: &mut Both, dice: &mut Dice) -> Result<(), Difference> {
     let table = random::table(dice, rows);
     let one_in = dice.one_of(&[7, 31, 97]);
     for bytes in super::damaged(dice, &table, one_in) {
-        let message = any_message(dice, &table);
+        let message = message_about(dice, &table);
         judge(both, dice, &bytes, &message)?;
     }
     Ok(())
@@ -46,7 +46,7 @@ pub fn spliced(both: &mut Both, dice: &mut Dice) -> Result<(), Difference> {
         if dice.in_a_hundred(50) {
             bytes = altered(dice, &bytes);
         }
-        let message = any_message(dice, &one);
+        let message = message_about(dice, &one);
         judge(both, dice, &bytes, &message)?;
     }
     Ok(())
@@ -57,7 +57,7 @@ fn cut(dice: &mut Dice, length: usize) -> usize {
     dice.one_of(&[any, any / 24 * 24])
 }
 
-/// Bytes that nobody wrote, and headers of likely numbers with anything behind them, lent to every call.
+/// Bytes that nobody wrote, and headers of likely numbers with anything behind them, lent to every call but fresh.
 pub fn anything(both: &mut Both, dice: &mut Dice) -> Result<(), Difference> {
     for _ in 0..60 {
         let mut bytes = Vec::new();

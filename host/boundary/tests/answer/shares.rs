@@ -1,25 +1,25 @@
 //! How often each kind of message was answered with each number, so that no comparison holds for want of a case.
 
+use samples::kinds::NUMBERS as NUMBERS_OF_KINDS;
 use std::fmt::{self, Display, Formatter};
 
-/// The kinds, and the numbers that the paper has for each: a bad message is all that is known of an unknown kind, and of no
-/// bytes at all.
-const POSSIBLE: [(&str, &[usize]); KINDS] = [
-    ("unknown", &[1, 2, 3]),
-    ("1", &[0, 1, 2, 3, 4, 5, 7]),
-    ("2", &[0, 1, 2, 3, 4, 6, 8, 9]),
-    ("3", &[0, 1, 2, 3, 4, 5, 6, 7]),
-    ("4", &[0, 1, 2, 3, 4, 6, 8, 9]),
-    ("5", &[0, 1, 2, 3, 10]),
-    ("6", &[0, 1, 2, 3, 10]),
-    ("7", &[0, 1, 2, 3, 4]),
-    ("empty", &[1, 2, 3]),
+/// The kinds, and the numbers that the paper has for each.
+const POSSIBLE: [(&str, &[u8]); KINDS] = [
+    ("unknown", NUMBERS_OF_KINDS[0]),
+    ("1", NUMBERS_OF_KINDS[1]),
+    ("2", NUMBERS_OF_KINDS[2]),
+    ("3", NUMBERS_OF_KINDS[3]),
+    ("4", NUMBERS_OF_KINDS[4]),
+    ("5", NUMBERS_OF_KINDS[5]),
+    ("6", NUMBERS_OF_KINDS[6]),
+    ("7", NUMBERS_OF_KINDS[7]),
+    ("empty", NUMBERS_OF_KINDS[0]),
 ];
 const KINDS: usize = 9;
 const NUMBERS: usize = 12;
 
 /// The state bytes that the paper has in the reply to each kind that was done.
-const STATES: [&[usize]; KINDS] = [
+const STATES: [&[u8]; KINDS] = [
     &[],
     &[1, 2, 3, 4, 5, 6, 7, 8],
     &[5, 6, 7, 8],
@@ -87,9 +87,9 @@ fn add_all(here: &mut [u64], there: &[u64]) {
     }
 }
 
-fn assert_met(name: &str, what: &str, counts: &[u64], possible: &[usize], least: u64) {
+fn assert_met(name: &str, what: &str, counts: &[u64], possible: &[u8], least: u64) {
     for (which, count) in counts.iter().enumerate() {
-        let right = if possible.contains(&which) {
+        let right = if possible.contains(&(which as u8)) {
             *count >= least
         } else {
             *count == 0

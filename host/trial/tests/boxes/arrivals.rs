@@ -3,6 +3,7 @@
 use crate::calls::{number_at, Calls, Lengths};
 use crate::met::Met;
 use crate::{in_every_group, messages};
+use samples::kinds::NUMBERS;
 use samples::{damage, message as make, random, transactions, Row, MOST_ROWS, TABLE_BYTES};
 
 const LEAST_CALLS: u64 = 50_000;
@@ -14,15 +15,15 @@ const SHORT_REPLIES: [usize; 3] = [0, 1, 23];
 /// The kinds of messages with the numbers that the paper has for each, and what was answered; then where a message arrived;
 /// the merges.
 const CASES: [(&str, &[u8]); 20] = [
-    ("message 1", &[0, 1, 2, 3, 4, 5, 7]),
-    ("message 2", &[0, 1, 2, 3, 4, 6, 8, 9]),
-    ("message 3", &[0, 1, 2, 3, 4, 5, 6, 7]),
-    ("message 4", &[0, 1, 2, 3, 4, 6, 8, 9]),
-    ("message 5", &[0, 1, 2, 3, 10]),
-    ("message 6", &[0, 1, 2, 3, 10]),
-    ("message 7", &[0, 1, 2, 3, 4]),
-    ("no kind", &[1, 2, 3]),
-    ("no bytes", &[1, 2, 3]),
+    ("message 1", NUMBERS[1]),
+    ("message 2", NUMBERS[2]),
+    ("message 3", NUMBERS[3]),
+    ("message 4", NUMBERS[4]),
+    ("message 5", NUMBERS[5]),
+    ("message 6", NUMBERS[6]),
+    ("message 7", NUMBERS[7]),
+    ("no kind", NUMBERS[0]),
+    ("no bytes", NUMBERS[0]),
     ("the state after message 1", &[1, 2, 3, 4, 5, 6, 7, 8]),
     ("a write that is read", &[0]),
     ("a box beyond the lent buffer", &[1]),
