@@ -12,6 +12,8 @@
  * - Nobody else touches a lent buffer during a call: one call at a time for each buffer. Calls on other buffers may run
  *   at the same time.
  * - Whoever links supplies memset, memcpy and memmove, with C's meaning. Nothing else is needed.
+ * - The caller's stack has room for a call. No proof says how much that is: docs/BENCHMARKS.md has what was measured, less
+ *   than 1 KiB for each.
  *
  * Where one of them does not hold, nothing is promised.
  */
