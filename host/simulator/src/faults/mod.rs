@@ -1,0 +1,144 @@
+//! The second program with one fault put in: what demand 3 must not let pass. Most are the "Shortcuts that look right" of
+//! document 01.
+
+mod answers;
+mod counts;
+mod merges;
+
+use crate::machine::{Machine, SECOND};
+
+/// "Keeping every agreed OK unchecked lets it clash with a slow final OK."
+pub const AGREED_UNCHECKED: Machine = Machine {
+    name: "every agreed OK kept unchecked",
+    merge: |run, view, out| merges::merge(merges::agreed_made_final, run, view, out),
+    ..SECOND
+};
+
+/// "Dropping a prepared row when abort is only noted: the abort may be lost and both clash."
+pub const NOTED_ABORT_FREES: Machine = Machine {
+    name: "a prepared row dropped when abort is only noted",
+    answer: |table, message, reply| {
+        answers::answer(answers::noted_abort_frees, table, message, reply)
+    },
+    ..SECOND
+};
+
+/// "Finishing an abort in a box whose view is older than the one that noted it: the freed row lets a late fast count
+/// contradict a merge."
+pub const OUTCOME_OF_ANY_VIEW: Machine = Machine {
+    name: "number 9 left out for message 4",
+    answer: |table, message, reply| {
+        answers::answer(answers::outcome_of_any_view, table, message, reply)
+    },
+    ..SECOND
+};
+
+/// Message 2 taken by a box of another view.
+pub const RESULT_OF_ANY_VIEW: Machine = Machine {
+    name: "number 9 left out for message 2",
+    answer: |table, message, reply| {
+        answers::answer(answers::result_of_any_view, table, message, reply)
+    },
+    ..SECOND
+};
+
+/// "Taking tables of older views into the merge brings back results a later view replaced." Where they contradict each
+/// other the first one is believed, so that the merge is not refused.
+pub const OLDER_VIEWS_MERGED: Machine = Machine {
+    name: "tables of older views taken into the merge",
+    merge: |run, view, out| merges::merge(merges::older_views_used, run, view, out),
+    ..SECOND
+};
+
+/// "Counting one box twice among the f+1."
+pub const BOX_COUNTED_TWICE: Machine = Machine {
+    name: "one box counted twice among the f+1",
+    merge: |run, view, out| merges::merge(merges::boxes_renumbered, run, view, out),
+    ..SECOND
+};
+
+/// "Cutting a merge at 512 rows."
+pub const CUT_AT_512: Machine = Machine {
+    name: "a merge cut at 512 rows",
+    merge: |run, view, out| merges::merge(merges::cut_at_512, run, view, out),
+    ..SECOND
+};
+
+/// A fast count of one box less.
+pub const FAST_WITH_ONE_LESS: Machine = Machine {
+    name: "a fast count of one less",
+    count: counts::fast_with_one_less,
+    ..SECOND
+};
+
+/// An agreement count of one table more.
+pub const AGREED_BY_ONE_MORE: Machine = Machine {
+    name: "an agreement count of one more",
+    merge: |run, view, out| merges::merge(merges::barely_agreed_opened, run, view, out),
+    ..SECOND
+};
+
+/// "Outcome: any commit or abort held becomes done", but for those that are only noted.
+pub const NOTED_OUTCOME_FORGOTTEN: Machine = Machine {
+    name: "a noted outcome forgotten by the merge",
+    merge: |run, view, out| merges::merge(merges::noted_forgotten, run, view, out),
+    ..SECOND
+};
+
+/// "The box takes it whole", but for the rows that it has itself.
+pub const OWN_ROWS_KEPT: Machine = Machine {
+    name: "a start view that keeps the box's own rows",
+    answer: |table, message, reply| answers::answer(answers::own_rows_kept, table, message, reply),
+    ..SECOND
+};
+
+/// "Demand 3 excludes an empty merge."
+pub const EMPTY_MERGE: Machine = Machine {
+    name: "an empty merge",
+    merge: |run, view, out| merges::merge(merges::emptied, run, view, out),
+    ..SECOND
+};
+
+/// "a box that answers OK to all"
+pub const OK_TO_ALL: Machine = Machine {
+    name: "a box that answers OK to all",
+    answer: |table, message, reply| answers::answer(answers::ok_to_all, table, message, reply),
+    ..SECOND
+};
+
+/// "one that replies but never stores"
+pub const NEVER_STORES: Machine = Machine {
+    name: "a box that replies but never stores",
+    answer: |table, message, reply| reference::answer(&mut table.to_vec(), message, reply),
+    ..SECOND
+};
+
+/// Never stores a message of kinds 1 to 4; views it changes and starts.
+pub const STORES_NO_ROW: Machine = Machine {
+    name: "a box that stores no row",
+    answer: |table, message, reply| answers::answer(answers::no_row_stored, table, message, reply),
+    ..SECOND
+};
+
+/// A merge that writes a value of its own into a body.
+pub const BODY_CHANGED: Machine = Machine {
+    name: "a merge that changes a value written",
+    merge: |run, view, out| merges::merge(merges::values_changed, run, view, out),
+    ..SECOND
+};
+
+/// A merge that takes a final ABORT for an abort.
+pub const OUTCOME_INVENTED: Machine = Machine {
+    name: "a merge that makes an abort of a final ABORT",
+    merge: |run, view, out| merges::merge(merges::aborts_invented, run, view, out),
+    ..SECOND
+};
+
+/// Message 6 refused by a box that has not promised its view.
+pub const START_ONLY_IF_PROMISED: Machine = Machine {
+    name: "a view started only by a box that has promised it",
+    answer: |table, message, reply| {
+        answers::answer(answers::start_only_if_promised, table, message, reply)
+    },
+    ..SECOND
+};

@@ -1,0 +1,107 @@
+//! Random lawful histories on the library: demand 3 holds in each, and each thing that makes a history hard was met often.
+
+use simulator::law::Law;
+use simulator::machine::{Machine, LIBRARY, SECOND};
+use simulator::met::Met;
+use simulator::run::Run;
+use std::io::{self, Write};
+
+const HISTORIES: u64 = 18_000;
+/// So often at least each thing was met in all.
+const LEAST: u64 = 100;
+
+/// All that a run must meet.
+const ALL_KINDS: [&str; 48] = [
+    "abort proposed of a declared OK",
+    "accepted by f+1 after a merge of a later view",
+    "accepted by f+1: abort",
+    "accepted by f+1: commit",
+    "commit proposed after a merge of a later view",
+    "counts that are fast",
+    "counts that are slow",
+    "counts that wait",
+    "declared after a merge of a later view",
+    "declared confirmed ABORT",
+    "declared confirmed ABSTAIN",
+    "declared confirmed OK",
+    "declared confirmed RETRY",
+    "declared fast ABORT",
+    "declared fast ABSTAIN",
+    "declared fast OK",
+    "declared fast RETRY",
+    "deliveries behind a later message",
+    "deliveries lost",
+    "deliveries repeated",
+    "different merges",
+    "different merges with ABORT",
+    "different merges with ABSTAIN",
+    "different merges with OK",
+    "different merges with RETRY",
+    "different merges with a commit",
+    "different merges with an abort",
+    "different merges with an outcome alone",
+    "events",
+    "forbidden by rule 1: one stamp, one body",
+    "forbidden by rule 2: one result per stamp and view",
+    "forbidden by rule 3: message 2 only on a fast or slow answer",
+    "forbidden by rule 4: declared only on the fast count or confirmations",
+    "forbidden by rule 5: commit only after OK was declared",
+    "forbidden by rule 5: commit to no box of an older view",
+    "forbidden by rule 5: never both outcomes",
+    "forbidden by rule 6: message 4 only on f+1 acceptances",
+    "forbidden by rule 7: nothing finalised or declared after an outcome",
+    "histories",
+    "merges after their view was started",
+    "merges judged",
+    "merges that settle an agreed row",
+    "merges that settle an open row",
+    "merges with a table of an older view",
+    "strange merges refused",
+    "views started",
+    "views started by a box that had not promised them",
+    "views started by a box that missed some before",
+];
+
+/// What a run may meet besides: replies that contradict each other, as they do when message 2 overtook a fast count.
+const RARE: &str = "counts refused";
+
+fn played(machine: Machine, histories: u64) -> Met {
+    let run = Run {
+        machine,
+        law: Law::whole(),
+        seed: 1,
+        n: None,
+    };
+    let mut met = Met::default();
+    match run.play(&mut met, |played| played < histories) {
+        Ok(played) => assert_eq!(played, histories),
+        Err(found) => panic!("{}", found),
+    }
+    met
+}
+
+#[test]
+fn demand_3_holds_in_every_history() {
+    let met = played(LIBRARY, HISTORIES);
+    // Written past the test harness, which would keep it to itself: the counts are for whoever reads the gate's output.
+    writeln!(io::stdout(), "\n{}", met).expect("a place to print to");
+    let unknown = met
+        .kinds()
+        .find(|kind| *kind != RARE && !ALL_KINDS.contains(kind));
+    assert_eq!(unknown, None);
+    for kind in ALL_KINDS {
+        assert!(met.all(kind) >= LEAST, "{}: {} times", kind, met.all(kind));
+        assert!(
+            !met.by_size(kind).contains(&0),
+            "{}: {:?}",
+            kind,
+            met.by_size(kind)
+        );
+    }
+}
+
+/// The same seeds lead the second program through the same histories, to the last count.
+#[test]
+fn the_second_program_is_played_alike() {
+    assert_eq!(played(SECOND, 300), played(LIBRARY, 300));
+}

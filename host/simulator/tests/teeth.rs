@@ -1,0 +1,121 @@
+//! Faults that random play finds: in a box, in a merge, in a count, in a coordinator. Each violates the part that is named.
+//! What takes a longer chain of steps is told step by step in `fixed`.
+
+use simulator::faults;
+use simulator::law::{Law, Rule};
+use simulator::machine::{Machine, LIBRARY};
+use simulator::run::Run;
+use simulator::watch::Part;
+use std::io::{self, Write};
+
+/// Plays groups of n boxes until the part is violated, for so many histories at most.
+fn found(what: &str, machine: Machine, law: Law, n: u8, part: Part, within: u64) {
+    let run = Run {
+        machine,
+        law,
+        seed: 1,
+        n: Some(n),
+    };
+    let found = run.find(part, within);
+    let found = found.unwrap_or_else(|| panic!("{}: not found in {} histories", what, within));
+    let first = &found.play.violations[0];
+    writeln!(
+        io::stdout(),
+        "{}: history {} of {} boxes: {}",
+        what,
+        found.after,
+        n,
+        first
+    )
+    .expect("a place to print to");
+    // Whoever reads of it can play that history alone.
+    let seed = found.seed;
+    let again = format!("--seed {} --histories 1 --n {}", seed, n);
+    assert!(found.to_string().contains(&again), "{}", found);
+    let alone = Run { seed, ..run }.find(part, 1);
+    let words = alone.map(|alone| alone.play.words());
+    assert_eq!(words, Some(found.play.words()));
+}
+
+/// A fault of the boxes, merges or counts under coordinators that keep every rule.
+fn fault_found(machine: Machine, n: u8, part: Part, within: u64) {
+    found(machine.name, machine, Law::whole(), n, part, within);
+}
+
+/// Coordinators that do not keep a rule, over the library.
+fn bent_rule_found(rule: Rule, n: u8, part: Part, within: u64) {
+    let what = format!("without {}", rule);
+    found(&what, LIBRARY, Law::without(rule), n, part, within);
+}
+
+/// "Demand 3 excludes an empty merge."
+#[test]
+fn an_empty_merge_is_found() {
+    fault_found(faults::EMPTY_MERGE, 3, Part::Declared, 10);
+    fault_found(faults::EMPTY_MERGE, 5, Part::Declared, 10);
+    fault_found(faults::EMPTY_MERGE, 7, Part::Accepted, 500);
+}
+
+/// "Demand 2 excludes [..] a box that answers OK to all, and one that replies but never stores"; demand 3 does so too.
+#[test]
+fn boxes_that_do_not_work_are_found() {
+    fault_found(faults::OK_TO_ALL, 3, Part::Declared, 500);
+    fault_found(faults::OK_TO_ALL, 5, Part::NoClash, 500);
+    fault_found(faults::NEVER_STORES, 3, Part::NoClash, 500);
+    fault_found(faults::STORES_NO_ROW, 3, Part::Declared, 10);
+    fault_found(faults::STORES_NO_ROW, 7, Part::Accepted, 100);
+}
+
+#[test]
+fn merges_that_take_the_wrong_tables_are_found() {
+    fault_found(faults::OLDER_VIEWS_MERGED, 3, Part::Declared, 6_000);
+    fault_found(faults::BOX_COUNTED_TWICE, 3, Part::Declared, 500);
+    fault_found(faults::BOX_COUNTED_TWICE, 5, Part::Accepted, 500);
+}
+
+#[test]
+fn merges_that_settle_rows_wrongly_are_found() {
+    fault_found(faults::AGREED_UNCHECKED, 5, Part::NoClash, 10_000);
+    fault_found(faults::AGREED_BY_ONE_MORE, 3, Part::Declared, 500);
+    fault_found(faults::AGREED_BY_ONE_MORE, 5, Part::Declared, 500);
+    fault_found(faults::AGREED_BY_ONE_MORE, 7, Part::Declared, 2_000);
+    fault_found(faults::NOTED_OUTCOME_FORGOTTEN, 3, Part::Accepted, 100);
+}
+
+#[test]
+fn a_fast_count_of_one_less_is_found() {
+    fault_found(faults::FAST_WITH_ONE_LESS, 3, Part::Declared, 500);
+    fault_found(faults::FAST_WITH_ONE_LESS, 5, Part::Declared, 500);
+    fault_found(faults::FAST_WITH_ONE_LESS, 7, Part::Declared, 2_000);
+}
+
+#[test]
+fn a_start_that_keeps_rows_is_found() {
+    fault_found(faults::OWN_ROWS_KEPT, 3, Part::Accepted, 100);
+    fault_found(faults::OWN_ROWS_KEPT, 5, Part::Declared, 500);
+    fault_found(faults::OWN_ROWS_KEPT, 5, Part::MergeDone, 500);
+    fault_found(faults::START_ONLY_IF_PROMISED, 3, Part::StartTaken, 10);
+}
+
+/// "nothing in it was not sent by then"
+#[test]
+fn merges_that_invent_something_are_found() {
+    fault_found(faults::BODY_CHANGED, 3, Part::RowsSent, 10);
+    fault_found(faults::OUTCOME_INVENTED, 3, Part::OutcomesSent, 500);
+}
+
+#[test]
+fn a_result_of_another_view_is_found() {
+    fault_found(faults::RESULT_OF_ANY_VIEW, 3, Part::Declared, 20_000);
+}
+
+#[test]
+fn coordinators_that_keep_not_every_rule_are_found() {
+    bent_rule_found(Rule::OneBody, 3, Part::MergeDone, 100);
+    bent_rule_found(Rule::OneResult, 3, Part::MergeDone, 3_000);
+    bent_rule_found(Rule::OnAnAnswer, 3, Part::NoClash, 2_000);
+    bent_rule_found(Rule::OnAnAnswer, 5, Part::Declared, 2_000);
+    bent_rule_found(Rule::OnFastOrConfirmed, 3, Part::Declared, 100);
+    bent_rule_found(Rule::CommitAfterOk, 3, Part::NoClash, 100);
+    bent_rule_found(Rule::NeverBoth, 3, Part::MergeDone, 500);
+}
