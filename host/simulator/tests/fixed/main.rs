@@ -2,6 +2,7 @@
 //! the part that is named; without it, on the library and on the second program, nothing is violated, and the step that
 //! makes the difference is shown.
 
+mod confirmed;
 mod told;
 
 use reference::{Decision, Outcome};
