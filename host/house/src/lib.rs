@@ -62,8 +62,8 @@ pub fn cited(paper: &str) -> Vec<String> {
 /// Whether what a citation names is there. `None` for words that name nothing of the tree.
 ///
 /// `wire::u32_at` is a function of a crate, `table::header::read` one of a module of it, `wire/proofs/Numbers.read-back`
-/// a definition or a theorem, `wire/must-fail/..` and `rows/more-must-fail/..` edits, and a path that begins with one of the repository's folders is
-/// that file.
+/// a definition or a theorem, `wire/must-fail/..` and `rows/more-must-fail/..` edits, and a path that begins with one of
+/// the repository's folders is that file; behind a tool may stand the words that it is given, as in `tools/agree 7`.
 pub fn stands(citation: &str) -> Option<bool> {
     let crates = crates();
     if let Some((name, function)) = citation.split_once("::") {
@@ -80,7 +80,8 @@ pub fn stands(citation: &str) -> Option<bool> {
         ".ci", "crates", "docs", "examples", "host", "include", "tools",
     ];
     if folders.contains(&first) {
-        return Some(top().join(citation).exists());
+        let path = citation.split(' ').next().unwrap_or(citation);
+        return Some(top().join(path).exists());
     }
     None
 }

@@ -3,7 +3,7 @@
 use house::{cited, crates, files, stands, text, top};
 use std::process::Command;
 
-const PAPERS: [&str; 8] = [
+const PAPERS: [&str; 9] = [
     "README.md",
     "docs/ARCHITECTURE.md",
     "docs/BENCHMARKS.md",
@@ -12,6 +12,7 @@ const PAPERS: [&str; 8] = [
     "docs/FIRMWARE.md",
     "docs/PROOF.md",
     "docs/ROADMAP.md",
+    "docs/TESTING.md",
 ];
 
 /// The rows of the tables in a text of claims, without headings and rules.
@@ -57,6 +58,7 @@ fn a_citation_of_nothing_is_noticed() {
         "table::header::no_such_function",
         "table::no_such_module::read",
         "host/no/such/file",
+        "tools/no_such_tool --with words",
     ] {
         assert_eq!(stands(wrong), Some(false), "{}", wrong);
     }
@@ -131,6 +133,35 @@ fn an_edit_that_the_gate_does_not_try_still_fits_its_source() {
         seen += 1;
     }
     assert!(seen > 20, "only {} such edits were found", seen);
+}
+
+/// Whether a cell of a claim says of itself, or of a part of it, that nothing fills it.
+fn says_open(cell: &str) -> bool {
+    let parts = cell.split(&[';', ','][..]);
+    let last_words = parts.map(|part| part.rsplit(": ").next().unwrap_or(part).trim());
+    last_words.into_iter().any(|words| words == "open")
+}
+
+#[test]
+fn no_claim_is_open() {
+    for row in claims() {
+        let open: Vec<&String> = row.iter().filter(|cell| says_open(cell)).collect();
+        assert!(open.is_empty(), "{}: {:?}", row[0], open);
+    }
+}
+
+#[test]
+fn an_open_cell_would_be_noticed() {
+    for cell in [
+        "open",
+        "`a/b`; the code: open",
+        "of the answer: open; of the merge: `c`",
+    ] {
+        assert!(says_open(cell), "{}", cell);
+    }
+    assert!(!says_open(
+        "open rows are checked; opened by `let .. else`: here"
+    ));
 }
 
 #[test]
