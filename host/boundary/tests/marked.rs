@@ -17,22 +17,11 @@ fn of_register(number: u64) -> Vec<Access> {
 
 /// A transaction that read the register at a version, and one that writes it.
 fn reader(stamp: u64, version: u64) -> Row {
-    transaction(stamp, of_register(version), Vec::new())
+    Row::of(stamp, of_register(version), Vec::new())
 }
 
 fn writer(stamp: u64) -> Row {
-    transaction(stamp, Vec::new(), of_register(7))
-}
-
-fn transaction(stamp: u64, reads: Vec<Access>, writes: Vec<Access>) -> Row {
-    Row {
-        stamp,
-        retry: 0,
-        reads,
-        writes,
-        prepare: 0,
-        outcome: 0,
-    }
+    Row::of(stamp, Vec::new(), of_register(7))
 }
 
 /// What a box says to a message that it takes: the state byte and the value.

@@ -33,6 +33,18 @@ pub struct Table {
 }
 
 impl Row {
+    /// A transaction of which nothing is held yet.
+    pub fn of(stamp: u64, reads: Vec<Access>, writes: Vec<Access>) -> Row {
+        Row {
+            stamp,
+            retry: 0,
+            reads,
+            writes,
+            prepare: 0,
+            outcome: 0,
+        }
+    }
+
     pub fn body_length(&self) -> usize {
         ACCESS_LENGTH * (self.reads.len() + self.writes.len())
     }
@@ -104,12 +116,8 @@ pub fn row_of_the_paper(prepare: u8) -> Row {
         number: 7,
     };
     Row {
-        stamp: 65_537,
-        retry: 0,
-        reads: Vec::new(),
-        writes: vec![write],
         prepare,
-        outcome: 0,
+        ..Row::of(65_537, Vec::new(), vec![write])
     }
 }
 

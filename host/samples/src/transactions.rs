@@ -31,14 +31,7 @@ fn transaction(dice: &mut Dice, stamp: u64, stamps: &[u64]) -> Row {
         register,
         number: dice.wide(),
     };
-    Row {
-        stamp,
-        retry: 0,
-        reads,
-        writes: writes.into_iter().map(write).collect(),
-        prepare: 0,
-        outcome: 0,
-    }
+    Row::of(stamp, reads, writes.into_iter().map(write).collect())
 }
 
 /// None, one or some of the few registers.

@@ -28,14 +28,8 @@ fn transaction(dice: &mut Dice, stamp: u64, registers: u8) -> Row {
         register,
         number: 1_000 + stamp,
     };
-    Row {
-        stamp,
-        retry: 0,
-        reads: read,
-        writes: some_of(dice, registers, writes).map(write).collect(),
-        prepare: 0,
-        outcome: 0,
-    }
+    let written = some_of(dice, registers, writes).map(write).collect();
+    Row::of(stamp, read, written)
 }
 
 /// So many registers that lie side by side.

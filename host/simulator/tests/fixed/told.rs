@@ -16,18 +16,6 @@ pub struct Told {
     pub seen: String,
 }
 
-fn row(stamp: u64, reads: &[Access], writes: &[Access]) -> Row {
-    let (reads, writes) = (reads.to_vec(), writes.to_vec());
-    Row {
-        stamp,
-        retry: 0,
-        reads,
-        writes,
-        prepare: 0,
-        outcome: 0,
-    }
-}
-
 const REGISTER_0: Access = Access {
     register: 0,
     number: 0,
@@ -35,24 +23,21 @@ const REGISTER_0: Access = Access {
 
 /// "T, stamp 20, reads register 0 at version 0"
 pub fn t() -> Row {
-    row(20, &[REGISTER_0], &[])
+    Row::of(20, vec![REGISTER_0], Vec::new())
 }
 
 /// "U, stamp 10, writes register 0", so that the two clash.
 pub fn u() -> Row {
-    row(10, &[], &[REGISTER_0])
+    Row::of(10, Vec::new(), vec![REGISTER_0])
 }
 
 /// A transaction that clashes with neither.
 pub fn apart(stamp: u64) -> Row {
-    row(
-        stamp,
-        &[],
-        &[Access {
-            register: 9,
-            number: 0,
-        }],
-    )
+    let register_9 = Access {
+        register: 9,
+        number: 0,
+    };
+    Row::of(stamp, Vec::new(), vec![register_9])
 }
 
 impl Told {
