@@ -111,7 +111,11 @@ fn read(log: &str) -> Gate<'_> {
 impl<'a> Gate<'a> {
     fn hear(&mut self, line: Line<'a>) {
         match line {
-            Line::Crate(name, seconds) => proved_of(&mut self.proved, name).seconds = seconds,
+            // Later steps prove some crates again, or say that they are unchanged.
+            Line::Crate(name, seconds) => {
+                let of = proved_of(&mut self.proved, name);
+                of.seconds = of.seconds.or(seconds);
+            }
             Line::Edit(name, seconds) => {
                 let of = proved_of(&mut self.proved, name);
                 of.edits += 1;
@@ -218,6 +222,8 @@ rt: must-fail rows/five_writes_taken: refused, as it must be (first at proofs/bo
 rt: must-fail rows/stamp_of_49_bits: refused, as it must be (19 s)
 rt: must-fail wire/other: NOT REFUSED: the crate is still proved with this edit (3 s)
 rt: ok, 3 crates
+rt: wire proved (unchanged since it was last proved)
+rt: rows proved (2 s)
    Compiling bench v0.1.0 (/somewhere/host/bench)
      Running unittests src/lib.rs (target/host/release/deps/boundary-2e12607addee7163)
 test result: ok. 0 passed; 0 failed; 0 ignored; 0 measured; 0 filtered out; finished in 0.00s

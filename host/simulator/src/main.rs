@@ -1,4 +1,4 @@
-//! `simulate [--seed S] [--histories N | --minutes M] [--n 3|5|7]`: plays random lawful histories on the library and judges
+//! `simulator [--seed S] [--histories N | --minutes M] [--n 3|5|7]`: plays random lawful histories on the library and judges
 //! demand 3 in each. Ends with 0 if nothing was violated, with 1 and the history in words if something was, with 2 if it was
 //! asked wrongly.
 
@@ -10,7 +10,7 @@ use std::env;
 use std::process::ExitCode;
 use std::time::{Duration, Instant};
 
-const USAGE: &str = "simulate [--seed S] [--histories N | --minutes M] [--n 3|5|7]";
+const USAGE: &str = "simulator [--seed S] [--histories N | --minutes M] [--n 3|5|7]";
 const USUAL_HISTORIES: u64 = 10_000;
 /// Seeds that may be given, so that those after them are seeds too.
 const GREATEST_SEED: u64 = 1 << 48;
@@ -28,7 +28,7 @@ fn main() -> ExitCode {
     match asked(&words) {
         Ok(asked) => simulate(&asked),
         Err(what) => {
-            eprintln!("simulate: {}\nusage: {}", what, USAGE);
+            eprintln!("simulator: {}\nusage: {}", what, USAGE);
             ExitCode::from(2)
         }
     }

@@ -3,7 +3,7 @@
 use std::process::{Command, Output};
 
 fn simulate(words: &[&str]) -> Output {
-    let command = env!("CARGO_BIN_EXE_simulate");
+    let command = env!("CARGO_BIN_EXE_simulator");
     Command::new(command)
         .args(words)
         .output()
@@ -57,7 +57,7 @@ fn what_is_asked_wrongly_is_said() {
         let errors = String::from_utf8_lossy(&output.stderr);
         assert_eq!(output.status.code(), Some(2), "{:?}", words);
         assert!(
-            errors.contains(said) && errors.contains("usage: simulate"),
+            errors.contains(said) && errors.contains("usage: simulator"),
             "{}",
             errors
         );
