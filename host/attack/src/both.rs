@@ -1,7 +1,7 @@
 //! One call by both programs: the library in the memory of its rooms, the second program in what it is given. What they leave
 //! is compared to the byte.
 
-use crate::calls::{valid_by_the_second, Calls};
+use crate::calls::Calls;
 use crate::fenced::{Memory, Room, Touching};
 use crate::met::{Call, Met};
 use boundary::{Record, RECORD_WORDS};
@@ -110,7 +110,7 @@ impl Both {
     pub fn valid(&mut self, dice: &mut Dice, bytes: &[u8]) -> Result<u64, Difference> {
         let lent = self.input.lend_for_reading(bytes, either(dice));
         let found = (self.calls.valid)(lent);
-        self.judged(Call::Valid, found, valid_by_the_second(bytes), None)
+        self.judged(Call::Valid, found, reference::valid(bytes), None)
     }
 
     /// A box's answer to a message, left in the buffers; returns the number.

@@ -20,8 +20,3 @@ pub const LIBRARY: Calls = Calls {
     count: boundary::count,
     count_records: boundary::count_records,
 };
-
-/// What the second program has for `sprondilu_valid`: the length of the image in bits 16 and up, or number 2.
-pub fn valid_by_the_second(bytes: &[u8]) -> u64 {
-    reference::Table::parse(bytes).map_or(2, |(_, length)| (length as u64) << 16)
-}

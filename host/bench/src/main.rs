@@ -97,7 +97,7 @@ pub const TWIN: Side = Side {
 
 pub const SECOND: Side = Side {
     name: "second",
-    valid_answer: second::valid_answer,
+    valid_answer: reference::valid,
     answer: reference::answer,
     merge: reference::merge,
     count: reference::count,

@@ -1,14 +1,8 @@
-//! The second program behind calls that it has in another form.
+//! The second program behind a call that it has in another form.
 
 use boundary::Record;
 use reference::count::coded;
-use reference::{decide, Counted, Number, PrepareResult, Table};
-
-/// Lent bytes judged: they are parsed into a table of its own, which is then given up.
-pub fn valid_answer(bytes: &[u8]) -> u64 {
-    let number = u64::from(Number::BadTable.code());
-    Table::parse(bytes).map_or(number, |(_, length)| (length as u64) << 16)
-}
+use reference::{decide, Counted, Number, PrepareResult};
 
 /// Records counted: each is made into a reply of its own.
 pub fn count_records(n: u8, records: &[Record]) -> u64 {

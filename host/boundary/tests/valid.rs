@@ -3,17 +3,9 @@
 use samples::damage::{self, ALWAYS_IMAGES, NEVER_IMAGES};
 use samples::{random, Dice, Tally, MOST_ROWS, TABLE_BYTES};
 
-/// The answer that the second program's verdict is coded as.
-fn expected(bytes: &[u8]) -> u64 {
-    match reference::Table::parse(bytes) {
-        Some((_, length)) => (length as u64) << 16,
-        None => 2,
-    }
-}
-
 /// Whether the bytes begin with an image, on which both programs have to agree.
 fn judged(kind: &str, bytes: &[u8]) -> bool {
-    let expected = expected(bytes);
+    let expected = reference::valid(bytes);
     let found = boundary::valid_answer(bytes);
     assert!(
         found == expected,

@@ -56,6 +56,12 @@ pub fn fresh(table: &mut [u8], n: u8, box_number: u8) -> u8 {
     table::fresh_for(VALLEY, table, n, box_number).code()
 }
 
+/// Whether the bytes begin with an image, coded as at the C boundary: its length from bit 16 on, or the number.
+pub fn valid(bytes: &[u8]) -> u64 {
+    let refusal = u64::from(Number::BadTable.code());
+    Table::parse(bytes).map_or(refusal, |(_, length)| (length as u64) << 16)
+}
+
 /// A box's answer to one message: the table changed, the reply written; returns the number.
 pub fn answer(table: &mut [u8], message: &[u8], reply: &mut [u8]) -> u8 {
     answer::answer_for(VALLEY, table, message, reply).code()
