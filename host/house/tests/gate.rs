@@ -9,7 +9,9 @@ use std::os::unix::fs::{symlink, PermissionsExt};
 use std::path::{Path, PathBuf};
 use std::process::Command;
 
-const WELL: &str = "mkdir -p target/log\n\
+/// As rt does: from nothing.
+const WELL: &str = "rm -rf target\n\
+    mkdir -p target/log\n\
     echo 'logic=proved functions=16 sum=0' > target/log/wire.out\n\
     echo 'proved: all'\n\
     echo '7 passed, 0 failed'\n";
@@ -37,10 +39,17 @@ impl Gate {
         for sub in [".ci", "tools", "bin", "host"] {
             fs::create_dir_all(folder.join(sub)).unwrap();
         }
-        for file in [".ci/run", "test", "tools/install", "tools/library"] {
+        for file in [
+            ".ci/run",
+            "test",
+            "tools/assumptions",
+            "tools/install",
+            "tools/library",
+        ] {
             fs::copy(house::top().join(file), folder.join(file)).unwrap();
         }
         let gate = Gate { folder };
+        gate.crates("wire:\n");
         // Nothing of this machine is on the gate's PATH but these, so that a tool can be missing there.
         for tool in [
             "bash", "cat", "chmod", "dirname", "env", "grep", "ln", "mkdir", "mktemp", "readlink",
@@ -63,6 +72,10 @@ impl Gate {
 
     fn agree(&self, body: &str) {
         self.script(self.folder.join("tools/agree"), body);
+    }
+
+    fn crates(&self, list: &str) {
+        fs::write(self.folder.join("crates.txt"), list).unwrap();
     }
 
     fn demo(&self, body: &str) {
@@ -197,6 +210,33 @@ fn a_proof_that_assumes_something_is_red() {
     }
 }
 
+/// A check says nothing of contracts that a crate of the kit brings; the library over it does.
+#[test]
+fn a_library_that_reaches_what_is_assumed_is_red() {
+    let gate = Gate::new("reaches");
+    for word in ["axioms=1", "foreign=wire::write axioms=1"] {
+        for name in ["sprondilu", "trial"] {
+            let report = format!(
+                "{}[ \"$2\" != {} ] || echo 'logic=proved functions=1 {}' > \"target/log/$2.say\"\n",
+                BUILT, name, word
+            );
+            gate.rt_with_library("exit 0", WELL, &report);
+            gate.is_red_at("tools/assumptions after the libraries");
+        }
+    }
+}
+
+#[test]
+fn a_crate_that_stands_on_one_of_the_kit_is_red() {
+    let gate = Gate::new("kit-crate");
+    gate.crates("# as rt reads it: a note\nwire:\nrows: wire # another\n");
+    assert!(gate.run().0);
+    for other in ["libc", "io", "os", "wire libc", "check"] {
+        gate.crates(&format!("wire:\nrows: {}\n", other));
+        gate.is_red_at("tools/assumptions after the checks");
+    }
+}
+
 #[test]
 fn a_check_that_left_no_log_is_red() {
     let gate = Gate::new("log");
@@ -249,7 +289,6 @@ fn a_library_that_was_not_written_or_is_another_is_red() {
         all_but("trial"),
         all_but("sprondilu"),
     ] {
-        // What another run left would be found.
         let gate = Gate::new("no-library");
         gate.rt_with_library("exit 0", WELL, &staticlib);
         gate.is_red_at("cargo test");
