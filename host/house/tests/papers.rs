@@ -110,6 +110,35 @@ fn every_must_fail_edit_is_cited_by_a_claim() {
     }
 }
 
+/// The crates whose check takes less than ten seconds, as `docs/BENCHMARKS.md` has it. An edit costs a check of its crate.
+const QUICK: [&str; 6] = ["rules", "history", "histories", "quorums", "cases", "group"];
+
+#[test]
+fn the_gate_has_time_for_two_edits_of_a_crate_that_is_not_quick() {
+    for name in crates() {
+        let tried = files(&format!("crates/{}/must-fail", name), ".edit").len();
+        let quick = QUICK.contains(&name.as_str());
+        assert!(
+            quick || tried <= 2,
+            "{} has {} edits in the gate",
+            name,
+            tried
+        );
+    }
+}
+
+#[test]
+fn an_edit_for_each_public_call_is_tried_in_the_gate() {
+    let calls: Vec<Vec<String>> = claims()
+        .into_iter()
+        .filter(|row| row[0].starts_with("CALL-"))
+        .collect();
+    assert_eq!(calls.len(), 6);
+    for row in calls {
+        assert!(row[5].contains("/must-fail/"), "{}: {}", row[0], row[5]);
+    }
+}
+
 /// What an edit's line says behind this word.
 fn line_of<'a>(edit: &'a str, word: &str) -> &'a str {
     let said = edit.lines().find_map(|line| line.strip_prefix(word));
