@@ -67,6 +67,6 @@ module _ (M : Model) where
   unfoldable pub mergeBoxesOutput : List ℕ → List ℕ → ℕ → List ℕ → List ℕ → List ℕ
   mergeBoxesOutput tables boxes v run out = cond (noRunRoom boxes run) out (merge.callOutput M (runNamed tables boxes) v out)
 
-  -- the images are left where they were laid; number 1 "writes nothing"
+  -- the images are left where they were laid, also by a merge that is refused after that; number 1 "writes nothing", and with number 2 nothing was laid
   unfoldable pub mergeBoxesRun : List ℕ → List ℕ → List ℕ → List ℕ → List ℕ
   mergeBoxesRun tables boxes run out = cond (either (noRunRoom boxes run) (tooSmall M (length out))) run (replaced run 0 (runNamed tables boxes))

@@ -50,6 +50,7 @@ fn lay_images(tables: &[u8], boxes: &[u8], run: &mut [u8]) -> usize
 }
 
 // The merge for a view of the tables that the named boxes hold now: their images are laid end to end in a lent run, and merged from there, with the merge's number. Before that: 1 for want of room in the run or in the output, 2 if a named box has no table.
+// Refused, no byte of the output changes, and tables are lent for reading alone. The run is room to work in: refused with 1 or 2 it is as it was, refused with 11, 5, 6 or 7 it begins with the images, as after a merge that is done.
 pub fn merge_boxes(tables: &[u8], boxes: &[u8], view: u32, run: &mut [u8], out: &mut [u8]) -> u8
     ensures { λ r. ⌜ r ≡ mergeBoxesNumber valley (now (tables .entry)) (now (boxes .entry)) view (now (run .entry)) (now (out .entry)) ⌝ }
     ensures { λ _. ⌜ now (run .exit) ≡ mergeBoxesRun valley (now (tables .entry)) (now (boxes .entry)) (now (run .entry)) (now (out .entry)) ⌝ }

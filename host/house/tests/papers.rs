@@ -3,12 +3,13 @@
 use house::{cited, crates, files, stands, text, top};
 use std::process::Command;
 
-const PAPERS: [&str; 9] = [
+const PAPERS: [&str; 10] = [
     "README.md",
     "docs/ARCHITECTURE.md",
     "docs/BENCHMARKS.md",
     "docs/CLAIMS.md",
     "docs/DECISIONS.md",
+    "docs/DEMANDS.md",
     "docs/FIRMWARE.md",
     "docs/PROOF.md",
     "docs/ROADMAP.md",
@@ -220,14 +221,64 @@ fn quoted(source: &str) -> Vec<String> {
         .collect()
 }
 
-/// Document 01 as the claims have it, sentence after sentence; what the claims say beside it is left out.
-fn sentences_of_01() -> String {
-    let claims = text("docs/CLAIMS.md");
+/// The sentences of the chapters of a text of claims whose headings begin so, one after the other.
+fn sentences(claims: &str, heading: &str) -> String {
     let chapters = claims
         .split("\n## ")
-        .filter(|part| part.starts_with("01, "));
+        .filter(|part| part.starts_with(heading));
     let sentences: Vec<String> = chapters.flat_map(rows).map(|row| row[1].clone()).collect();
     sentences.join(" ")
+}
+
+/// Document 01 as the claims have it, sentence after sentence; what the claims say beside it is left out.
+fn sentences_of_01() -> String {
+    sentences(&text("docs/CLAIMS.md"), "01, ")
+}
+
+/// What a paper quotes, line by line behind `>`, as words with one space between them.
+fn quoted_lines(paper: &str) -> String {
+    let lines = paper.lines().filter_map(|line| line.strip_prefix('>'));
+    let words: Vec<&str> = lines.flat_map(str::split_whitespace).collect();
+    words.join(" ")
+}
+
+/// Some words from where two texts begin to differ, of each of them.
+fn first_difference(came: &str, claimed: &str) -> Option<(String, String)> {
+    let came: Vec<&str> = came.split(' ').collect();
+    let claimed: Vec<&str> = claimed.split(' ').collect();
+    let longest = came.len().max(claimed.len());
+    let place = (0..longest).find(|k| came.get(*k) != claimed.get(*k))?;
+    let from = |words: &[&str]| words[place.min(words.len())..].join(" ");
+    let some = |text: String| text.chars().take(80).collect();
+    Some((some(from(&came)), some(from(&claimed))))
+}
+
+#[test]
+fn the_claims_quote_the_customer_word_for_word() {
+    let came = quoted_lines(&text("docs/DEMANDS.md"));
+    let claimed = sentences(&text("docs/CLAIMS.md"), "What the customer wrote");
+    assert!(came.split(' ').count() > 350, "{}", came);
+    assert_eq!(first_difference(&came, &claimed), None);
+}
+
+#[test]
+fn a_word_of_the_customer_that_was_changed_is_noticed() {
+    let came = quoted_lines(&text("docs/DEMANDS.md"));
+    let claims = text("docs/CLAIMS.md");
+    for (word, other) in [
+        (
+            "A refused call changes no table;",
+            "A refused call changes nothing;",
+        ),
+        ("| a full table says so. |", "| a full table |"),
+        ("| stands unchanged in", "| stands in"),
+    ] {
+        assert_eq!(claims.matches(word).count(), 1, "{}", word);
+        let changed = claims.replace(word, other);
+        let claimed = sentences(&changed, "What the customer wrote");
+        assert!(first_difference(&came, &claimed).is_some(), "{}", other);
+    }
+    assert!(first_difference(&came, &format!("{} more", came)).is_some());
 }
 
 #[test]
