@@ -25,15 +25,19 @@ program.
 
 Files hold the bytes that boxes have and send: a table file begins with a
 table's image, a message file is one message, a reply file is one reply of 24
-bytes. A stamp is written TIME:CLIENT, such as 2:1, or as one number, which is
-time x 65536 + client. Numbers may be written in hexadecimal digits after 0x.
-After -- no word is an option.
+bytes. A stamp is written TIME:CLIENT, such as 2:1, with a time from 0 to
+4294967295 and a client from 0 to 65535. A number alone is refused: it may be
+meant as a time, or as the stamp's own number. Numbers may be written in
+hexadecimal digits after 0x. After -- no word is an option.
 
 Every number, table, reply and count is the proved library's; only that a file
 is no reply, 3, is this program's own finding.
 
-With --json one JSON object is printed, for a refusal too. Stamps and versions
-are one number in it; values of registers are text, since they may have 64 bits.
+With --json one JSON object is printed, for a refusal too. A stamp is one number
+in it, time x 65536 + client, and its time and client stand beside it: stamp,
+time, client; so with version, version_time, version_client, with retry_stamp,
+retry_time, retry_client and with read_stamp, read_time, read_client. Values of
+registers are text, since they may have 64 bits.
 
 exit status
   0  done
@@ -46,10 +50,11 @@ const SHOW: &str = "\
 usage: sprondilu show [--message | --reply] [--json] FILE
 
 Shows a table file for people: the box, its view, and its rows in stamp order,
-with the time and the client of each stamp, result and outcome by name, and what
-the transaction reads and writes. 5@2:1 is register 5, read in the version that
-the transaction 2:1 wrote; 5@0 is register 5, which nobody had written before;
-5=7 is register 5, written with the value 7.
+with each stamp as one number and as time and client, result and outcome by
+name, and what the transaction reads and writes. 5@2:1 is register 5, read in
+the version that the transaction 2:1 wrote; 5@0 is register 5, which nobody had
+written before; 5=7 is register 5, written with the value 7. Commands take a
+stamp as TIME:CLIENT, not as the number.
 
 A result that was declared on a fast count stays tentative in the tables until
 message 2 or a merge makes it final; tentative OK beside a commit is in order.
@@ -108,18 +113,22 @@ hexadecimal digits.
   5 change-view      V
   6 start-view       V FILE      with the table file of the merge for view V
   7 read             STAMP register REGISTER
+                     --at TIME register REGISTER
 
-The kind is the word, without its number. A body has up to 4 reads and up to 4
-writes and at least one of them; they are laid in the order of their registers.
-A version is the stamp of the write that was read, or 0 for never written.
-For example:
+The kind is the word, without its number. A stamp is TIME:CLIENT, and a number
+alone is refused. A body has up to 4 reads and up to 4 writes and at least one
+of them; they are laid in the order of their registers. A version is the stamp
+of the write that was read, or 0 for never written. For example:
   sprondilu message propose-prepare 2:1 read 5@1:1 write 5=9 --out two.message
+  sprondilu message read --at 2 register 5
 
 Whether a message may be sent is not judged here. What was declared final, or
 accepted by f+1 boxes in one view, is not lost, and no two committed
 transactions clash, if whoever sends messages keeps the seven rules, which
 README.md has, and sends one merge for a view.
 
+  --at TIME   for read: the stamp TIME:65535, the last one of that time, which
+              finds what was written up to that time and at it, by any client
   --out FILE  the file to write; one that is there already is not written over
   --replace   it is, if it is a message or empty
   --json      for a program

@@ -114,10 +114,9 @@ impl Body {
 
     pub fn json(&self) -> Vec<(&'static str, Json)> {
         let read = |access: &Access| {
-            Json::Object(vec![
-                ("register", Json::from(access.register)),
-                ("version", Json::from(access.number)),
-            ])
+            let mut fields = vec![("register", Json::from(access.register))];
+            fields.extend(stamps::json(stamps::VERSION, Some(access.number)));
+            Json::Object(fields)
         };
         let write = |access: &Access| {
             Json::Object(vec![
@@ -169,16 +168,10 @@ impl Row {
     }
 
     pub fn json(&self) -> Json {
-        let mut fields = vec![
-            ("stamp", Json::from(self.stamp)),
-            ("time", Json::from(stamps::time(self.stamp))),
-            ("client", Json::from(stamps::client(self.stamp))),
-            (
-                "prepare",
-                names::prepare_json(self.prepare, self.retry_stamp),
-            ),
-            ("outcome", names::outcome_json(self.outcome)),
-        ];
+        let prepare = names::prepare_json(self.prepare, self.retry_stamp);
+        let mut fields = stamps::json(stamps::STAMP, Some(self.stamp));
+        fields.push(("prepare", prepare));
+        fields.push(("outcome", names::outcome_json(self.outcome)));
         fields.extend(self.body.json());
         Json::Object(fields)
     }

@@ -6,7 +6,7 @@
 //! decide nothing, but for [`wrong::reply`]: no call judges whether a file is a reply.
 //!
 //! - [`commands`]: one file for each command, [`help`] their help texts
-//! - [`words`]: the words of a command line, [`stamps`]: stamps in words
+//! - [`words`]: the words of a command line, [`stamps`]: stamps as people type and see them, and as programs are told them
 //! - [`files`]: reading with a limit, writing so that nothing is lost, one run at a time on a table file
 //! - [`image`], [`message`], [`reply`]: the fields of what was found good; [`names`]: the names of the codes
 //! - [`wrong`]: what is wrong with bytes, and at which byte; [`reasons`]: why a call refused

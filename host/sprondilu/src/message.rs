@@ -178,7 +178,7 @@ impl Part<'_> {
 
     fn json(&self) -> Vec<(&'static str, Json)> {
         match self {
-            Part::Stamp(stamp) => vec![("stamp", Json::from(*stamp))],
+            Part::Stamp(stamp) => stamps::json(stamps::STAMP, Some(*stamp)),
             Part::InView(view) | Part::View(view) => vec![("view", Json::from(*view))],
             Part::Result(code, retry_stamp) => names::result_json(*code, *retry_stamp),
             Part::Verdict(code) => vec![("outcome", Json::text(names::verdict(*code)))],

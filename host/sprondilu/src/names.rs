@@ -1,6 +1,7 @@
 //! The names of document 01 for its codes, in words and for programs.
 
 use crate::json::Json;
+use crate::stamps;
 
 const NUMBERS: [&str; 12] = [
     "done",
@@ -71,7 +72,7 @@ pub fn result(code: u8, retry_stamp: u64) -> String {
         .copied()
         .unwrap_or("no result");
     if code == 4 {
-        format!("{} {}", name, crate::stamps::short(retry_stamp))
+        format!("{} {}", name, stamps::short(retry_stamp))
     } else {
         name.to_string()
     }
@@ -81,10 +82,9 @@ pub fn result(code: u8, retry_stamp: u64) -> String {
 pub fn result_json(code: u8, retry_stamp: u64) -> Vec<(&'static str, Json)> {
     let name = RESULTS.get(usize::from(code)).copied();
     let stamp = Some(retry_stamp).filter(|_| code == 4);
-    vec![
-        ("result", name.map_or(Json::Null, Json::text)),
-        ("retry_stamp", stamp.map_or(Json::Null, Json::from)),
-    ]
+    let mut fields = vec![("result", name.map_or(Json::Null, Json::text))];
+    fields.extend(stamps::json(stamps::RETRY, stamp));
+    fields
 }
 
 /// "Prepare: 0 none; 1 to 4 tentative OK, ABORT, ABSTAIN, RETRY; 5 to 8 the same, final."

@@ -106,20 +106,26 @@ impl Reply {
     }
 
     fn said_json(&self) -> Vec<(&'static str, Json)> {
-        let stamp = ("stamp", Json::from(self.stamp));
-        let if_written = |json: Json| if self.stamp == 0 { Json::Null } else { json };
+        let about = |said: (&'static str, Json)| {
+            let mut fields = stamps::json(stamps::STAMP, Some(self.stamp));
+            fields.push(said);
+            fields
+        };
         match self.kind {
-            1 | 2 => vec![
-                stamp,
-                ("prepare", names::prepare_json(self.state, self.value)),
-            ],
-            3 | 4 => vec![stamp, ("outcome", names::outcome_json(self.state))],
+            1 | 2 => about(("prepare", names::prepare_json(self.state, self.value))),
+            3 | 4 => about(("outcome", names::outcome_json(self.state))),
             5 => vec![("promised_view", Json::from(self.stamp))],
             6 => Vec::new(),
-            _ => vec![
-                ("version", if_written(Json::from(self.stamp))),
-                ("value", if_written(Json::text(self.value.to_string()))),
-            ],
+            _ => self.found_json(),
         }
+    }
+
+    /// What a read has found: null if nobody has written the register.
+    fn found_json(&self) -> Vec<(&'static str, Json)> {
+        let version = Some(self.stamp).filter(|stamp| *stamp > 0);
+        let value = version.map(|_| Json::text(self.value.to_string()));
+        let mut fields = stamps::json(stamps::VERSION, version);
+        fields.push(("value", value.unwrap_or(Json::Null)));
+        fields
     }
 }

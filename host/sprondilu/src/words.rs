@@ -2,7 +2,7 @@
 
 use crate::ends::Stop;
 use crate::files::Over;
-use crate::stamps;
+use crate::stamps::{self, Typed};
 use std::ffi::OsString;
 use std::path::{Path, PathBuf};
 
@@ -29,7 +29,7 @@ impl Words {
                 taken.plain.extend(rest.by_ref().cloned());
             } else if !name.starts_with("--") {
                 taken.plain.push(word.clone());
-            } else if taken.has(&name) || taken.value(&name).is_some() {
+            } else if taken.has(&name) || taken.gives(&name) {
                 return Err(usage(format!("{} is given twice", name)));
             } else if flags.contains(&name.as_str()) {
                 taken.flags.push(alone(name, value)?);
@@ -47,6 +47,11 @@ impl Words {
 
     pub fn has(&self, flag: &str) -> bool {
         self.flags.iter().any(|given| given == flag)
+    }
+
+    /// Whether an option that has a value is there.
+    pub fn gives(&self, option: &str) -> bool {
+        self.value(option).is_some()
     }
 
     fn value(&self, option: &str) -> Option<&OsString> {
@@ -77,11 +82,24 @@ impl Words {
 
     /// The number behind an option that has to be there, if it is no greater than this; `what` says which numbers make sense.
     pub fn number(&self, option: &str, greatest: u64, what: &str) -> Result<u64, Stop> {
-        let value = self.value(option);
-        let value = value.ok_or_else(|| usage(format!("{} is missing", option)))?;
-        let value = value.to_string_lossy();
+        let found = self.number_if_given(option, greatest, what)?;
+        found.ok_or_else(|| usage(format!("{} is missing", option)))
+    }
+
+    /// The same of an option that need not be there.
+    pub fn number_if_given(
+        &self,
+        option: &str,
+        greatest: u64,
+        what: &str,
+    ) -> Result<Option<u64>, Stop> {
+        let value = match self.value(option) {
+            None => return Ok(None),
+            Some(value) => value.to_string_lossy(),
+        };
         let found = stamps::number(&value).filter(|number| *number <= greatest);
-        found.ok_or_else(|| usage(format!("{} is {}, not '{}'", option, what, value)))
+        let wrong = || usage(format!("{} is {}, not '{}'", option, what, value));
+        found.map(Some).ok_or_else(wrong)
     }
 
     /// How many boxes the group has. Whether it is a number of boxes that groups have, the library says.
@@ -153,22 +171,10 @@ fn split_value(word: &OsString) -> (String, Option<OsString>) {
 
 /// A number from 0 to the greatest that is allowed, from words; `what` names it.
 pub fn number(words: &str, what: &str, greatest: u64) -> Result<u64, Stop> {
-    match stamps::number(words) {
-        Some(number) if number <= greatest => Ok(number),
-        _ => Err(usage(format!(
-            "{} is a number from 0 to {}, not '{}'",
-            what, greatest, words
-        ))),
-    }
+    stamps::number_up_to(words, what, greatest).map_err(usage)
 }
 
-/// A stamp from words; `what` names it.
-pub fn stamp(words: &str, what: &str) -> Result<u64, Stop> {
-    stamps::from_words(words).ok_or_else(|| {
-        usage(format!(
-            "{} is written TIME:CLIENT, such as 2:1, with a time up to 4294967295 and a client up to 65535, or as one \
-             number; not '{}'",
-            what, words
-        ))
-    })
+/// A stamp from words; `what` says what it is typed for.
+pub fn stamp(words: &str, what: Typed) -> Result<u64, Stop> {
+    stamps::typed(words, what).map_err(usage)
 }

@@ -150,7 +150,7 @@ impl Asked<'_> {
         let mut fields = reply.json();
         if let Message::Read { stamp, register } = message {
             fields.push(("register", Json::from(register)));
-            fields.push(("read_stamp", Json::from(stamp)));
+            fields.extend(stamps::json(stamps::READ, Some(stamp)));
         }
         fields.push((
             "rows_gone",

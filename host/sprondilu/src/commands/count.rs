@@ -132,7 +132,9 @@ impl Heard {
             ("n", Json::from(n)),
             ("quorum", Json::from(quorum(n))),
             ("fast_count", Json::from(fast_count(n))),
-            ("stamp", stamp.map_or(Json::Null, Json::from)),
+        ]);
+        fields.extend(stamps::json(stamps::STAMP, stamp));
+        fields.extend(vec![
             ("view", view.map_or(Json::Null, Json::from)),
             (
                 "replies",

@@ -4,6 +4,7 @@ use crate::ends::Stop;
 use crate::image::{Access, Body};
 use crate::json::Json;
 use crate::message::Message;
+use crate::stamps::{self, Typed};
 use crate::words::{number, stamp, usage, Words};
 use crate::{calls, files, names, wrong};
 use std::path::Path;
@@ -17,7 +18,7 @@ pub fn run(words: &Words) -> Result<(String, Json), Stop> {
         return Err(usage(format!("'{}' is one word too many", word)));
     }
     let bytes = message.bytes();
-    // The words may say anything that fits into the bytes: the library says whether it is a message.
+    // Its stamps are stamps; whether the rest of what the words say is by the rules of a message, the library says.
     if !calls::is_message(&bytes) {
         return Err(against_a_rule(&bytes));
     }
@@ -66,12 +67,14 @@ fn from_words<'a>(
     words: &Words,
 ) -> Result<Message, Stop> {
     let name = next(rest, "the kind of message")?;
-    match names::kind_named(name) {
-        None => Err(usage(no_such_kind(name))),
-        Some(5) => Ok(Message::ChangeView { view: view(rest)? }),
-        Some(6) => start_view(rest, words),
-        Some(3) if words.plain.get(1).map_or(false, |word| word == "like") => like(rest, words),
-        Some(kind) => stamped(kind, rest),
+    let kind = names::kind_named(name).ok_or_else(|| usage(no_such_kind(name)))?;
+    match kind {
+        7 => read(rest, words),
+        _ if words.gives("--at") => Err(usage(format!("--at is for read, and not for {}", name))),
+        5 => Ok(Message::ChangeView { view: view(rest)? }),
+        6 => start_view(rest, words),
+        3 if words.plain.get(1).map_or(false, |word| word == "like") => like(rest, words),
+        _ => stamped(kind, rest),
     }
 }
 
@@ -84,10 +87,10 @@ fn no_such_kind(name: &str) -> String {
     )
 }
 
-/// The messages that begin with a stamp.
+/// The messages about the transaction of a stamp.
 #[rustfmt::skip]
 fn stamped<'a>(kind: u8, rest: &mut impl Iterator<Item = &'a str>) -> Result<Message, Stop> {
-    let stamp = stamp(next(rest, "the stamp")?, "a stamp")?;
+    let stamp = stamp(next(rest, "the stamp")?, Typed::Transaction)?;
     Ok(match kind {
         1 => Message::ProposePrepare { stamp, body: body(rest)? },
         2 => {
@@ -96,9 +99,23 @@ fn stamped<'a>(kind: u8, rest: &mut impl Iterator<Item = &'a str>) -> Result<Mes
             Message::FinalisePrepare { stamp, view, result, retry_stamp }
         }
         3 => Message::ProposeOutcome { stamp, verdict: verdict(rest)?, body: body(rest)? },
-        4 => Message::FinaliseOutcome { stamp, view: named_view(rest)?, verdict: verdict(rest)? },
-        _ => Message::Read { stamp, register: register(rest)? },
+        _ => Message::FinaliseOutcome { stamp, view: named_view(rest)?, verdict: verdict(rest)? },
     })
+}
+
+/// `read STAMP register K`, or `read --at TIME register K`, which is the last stamp of that time.
+fn read<'a>(rest: &mut impl Iterator<Item = &'a str>, words: &Words) -> Result<Message, Stop> {
+    let times = format!("a time from 0 to {}", stamps::GREATEST_TIME);
+    let at = words.number_if_given("--at", stamps::GREATEST_TIME, &times)?;
+    let (stamp, behind) = match at {
+        Some(time) => (
+            stamps::last_at(time),
+            "--at TIME, which takes the stamp's place",
+        ),
+        None => (stamp(next(rest, "the stamp")?, Typed::Read)?, "the stamp"),
+    };
+    let register = register(rest, behind)?;
+    Ok(Message::Read { stamp, register })
 }
 
 fn view<'a>(rest: &mut impl Iterator<Item = &'a str>) -> Result<u32, Stop> {
@@ -117,13 +134,13 @@ fn named_view<'a>(rest: &mut impl Iterator<Item = &'a str>) -> Result<u32, Stop>
     }
 }
 
-/// `register K`
-fn register<'a>(rest: &mut impl Iterator<Item = &'a str>) -> Result<u8, Stop> {
+/// `register K`, behind what says when.
+fn register<'a>(rest: &mut impl Iterator<Item = &'a str>, behind: &str) -> Result<u8, Stop> {
     match next(rest, "the register")? {
         "register" => Ok(number(next(rest, "the register")?, "a register", 255)? as u8),
         other => Err(usage(format!(
-            "the words 'register K' stand behind the stamp, not '{}'",
-            other
+            "the words 'register K' stand behind {}, not '{}'",
+            behind, other
         ))),
     }
 }
@@ -146,7 +163,7 @@ fn result<'a>(rest: &mut impl Iterator<Item = &'a str>) -> Result<(u8, u64), Sto
         "OK" => Ok((1, 0)),
         "ABORT" => Ok((2, 0)),
         "ABSTAIN" => Ok((3, 0)),
-        "RETRY" => Ok((4, stamp(next(rest, "the retry stamp")?, "a retry stamp")?)),
+        "RETRY" => Ok((4, stamp(next(rest, "the retry stamp")?, Typed::Retry)?)),
         _ => Err(usage(format!(
             "a result is OK, ABORT, ABSTAIN or RETRY STAMP, not '{}'",
             word
@@ -225,7 +242,7 @@ fn access(word: &str, between: char) -> Result<Access, Stop> {
     })?;
     let register = number(register, "a register", 255)? as u8;
     let number = match between {
-        '@' => stamp(number_word, "a version")?,
+        '@' => stamp(number_word, Typed::Version)?,
         _ => number(number_word, "a value", u64::MAX)?,
     };
     Ok(Access { register, number })

@@ -29,7 +29,7 @@ const COMMANDS: [Command; 8] = [
     Command { name: "show", flags: &["--json", "--message", "--reply"], valued: &[], run: show::run },
     Command { name: "check", flags: &["--json", "--message", "--reply"], valued: &[], run: check::run },
     Command { name: "fresh", flags: &["--json"], valued: &["--n", "--box"], run: fresh::run },
-    Command { name: "message", flags: &["--json", "--replace"], valued: &["--out"], run: message::run },
+    Command { name: "message", flags: &["--json", "--replace"], valued: &["--out", "--at"], run: message::run },
     Command { name: "answer", flags: &["--json", "--replace"], valued: &["--reply"], run: answer::run },
     Command { name: "merge", flags: &["--json"], valued: &["--view", "--out"], run: merge::run },
     Command { name: "count", flags: &["--json"], valued: &["--n"], run: count::run },

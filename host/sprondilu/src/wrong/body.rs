@@ -89,7 +89,7 @@ pub fn retry_stamp(retry_stamp: u64, is_retry: bool, place: usize) -> Good {
     ensure(is_retry || retry_stamp == 0, place, || {
         format!(
             "the retry stamp is {}, and without RETRY it is 0",
-            retry_stamp
+            stamps::short(retry_stamp)
         )
     })
 }

@@ -2,7 +2,7 @@
 
 use super::{body, ensure, Good};
 use crate::image::{number_at, u32_at, Header, ACCESS_BYTES, HEADER_BYTES, ROW_BYTES};
-use crate::names;
+use crate::{names, stamps};
 
 const MOST_ROWS: u32 = 512;
 
@@ -112,7 +112,9 @@ fn row(bytes: &[u8], place: usize, index: usize, last_stamp: u64, body_place: us
     ensure(stamp > last_stamp, place, || {
         format!(
             "row {} has the stamp {} behind the stamp {}: they rise",
-            index, stamp, last_stamp
+            index,
+            stamps::short(stamp),
+            stamps::short(last_stamp)
         )
     })?;
     let counts = (bytes[place + 20], bytes[place + 21]);

@@ -2,7 +2,7 @@
 
 use super::show::assert_reply;
 use crate::common::boxes::{long_table, settled};
-use crate::common::json::Value;
+use crate::common::json::{Value, READ, STAMP, VERSION};
 use crate::common::ran::{bad_usage, not_tried, refused};
 use crate::common::{answered, fresh, hex, run, Folder, History};
 use samples::{damage, message as make, random, Dice, Row};
@@ -12,7 +12,7 @@ use samples::{damage, message as make, random, Dice, Row};
 fn the_bytes_of_the_paper() {
     let folder = Folder::new();
     run(&folder, "fresh --n 3 --box 0 zero.table").done();
-    run(&folder, "message propose-prepare 65537 write 5=7 --out m").done();
+    run(&folder, "message propose-prepare 1:1 write 5=7 --out m").done();
     let ran = run(&folder, "answer zero.table m --reply r").done();
     assert!(ran
         .out
@@ -95,7 +95,7 @@ fn assert_gone(told: &Value, before: &[u8], after: &[u8]) {
     let (before, after) = (rows(before), rows(after));
     let gone = before.keys().filter(|stamp| !after.contains_key(stamp));
     let told = told.list("rows_gone").iter();
-    let told = told.map(|row| row.number("stamp").expect("a stamp"));
+    let told = told.map(|row| row.stamp(STAMP).expect("a stamp"));
     assert!(told.eq(gone.copied()));
 }
 
@@ -127,15 +127,17 @@ fn rows_that_a_start_takes_away_are_named() {
 fn a_read_names_its_register_and_stamp() {
     let folder = Folder::new();
     folder.put("t", &held().0);
-    for (words, says, version) in [
+    for (words, says, stamp, version) in [
         (
             "read 2:9 register 5",
             "register 5 as of 2:9: 7, written by 2:1",
+            131_081,
             Some(131_073),
         ),
         (
             "read 1:9 register 5",
             "register 5 as of 1:9: never written",
+            65_545,
             None,
         ),
     ] {
@@ -144,8 +146,8 @@ fn a_read_names_its_register_and_stamp() {
         assert!(out.contains(says), "{}", out);
         let told = run(&folder, "answer t m --json").done().json();
         assert_eq!(told.number("register"), Some(5));
-        assert!(told.number("read_stamp").is_some());
-        assert_eq!(told.number("version"), version);
+        assert_eq!(told.stamp(READ), Some(stamp));
+        assert_eq!(told.stamp(VERSION), version);
         assert_eq!(told.text("value"), version.map(|_| "7"));
     }
 }

@@ -61,7 +61,7 @@ fn a_bad_table_is_refused_with_what_is_wrong_and_where() {
         (19, 3, 16, "began"),
         (23, 89, 20, "length"),
         (24, 1, 24, "stamp"),
-        (39, 1, 32, "retry stamp"),
+        (39, 1, 32, "the retry stamp is 0:1, "),
         (43, 71, 40, "offset"),
         (44, 5, 44, "reads"),
         (45, 5, 45, "writes"),
@@ -73,7 +73,7 @@ fn a_bad_table_is_refused_with_what_is_wrong_and_where() {
         (72, 64, 72, "register 64"),
     ];
     // The second row with the first one's stamp.
-    cases.push((53, 1, 48, "rise"));
+    cases.push((53, 1, 48, "the stamp 1:1 behind the stamp 1:1: they rise"));
     for (place, byte, named, words) in cases {
         let mut bytes = good.clone();
         bytes[place] = byte;

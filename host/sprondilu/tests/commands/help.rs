@@ -7,20 +7,21 @@ const COMMANDS: [(&str, &[&str], &[&str]); 7] = [
     ("show", &["--message", "--reply", "--json"], &[]),
     ("check", &["--message", "--reply", "--json"], &[]),
     ("fresh", &["--json"], &["--n", "--box"]),
-    ("message", &["--replace", "--json"], &["--out"]),
+    ("message", &["--replace", "--json"], &["--out", "--at"]),
     ("answer", &["--replace", "--json"], &["--reply"]),
     ("merge", &["--json"], &["--view", "--out"]),
     ("count", &["--json"], &["--n"]),
 ];
 
 /// Every option that any command has, and one that none has.
-const OPTIONS: [&str; 10] = [
+const OPTIONS: [&str; 11] = [
     "--message",
     "--reply",
     "--json",
     "--n",
     "--box",
     "--out",
+    "--at",
     "--replace",
     "--view",
     "--keep",
@@ -162,7 +163,7 @@ fn behind_two_hyphens_all_words_are_names() {
 
 /// Words of all kinds. The first seven are commands.
 const WORDS: &str = "show check fresh message answer merge count t m t m --json --reply --message --n 3 5 --box 0 --view 1 \
-    --out x --replace -- propose-prepare 1:1 write read 5=7 5@0 change-view view OK - . 0x = --n=3 --out=x : EMPTY";
+    --out x --replace -- propose-prepare 1:1 write read 5=7 5@0 change-view view OK - . 0x = --n=3 --out=x --at : EMPTY";
 
 /// Words in any order end with 0, 1 or 2, and say something.
 #[test]

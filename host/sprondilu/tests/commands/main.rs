@@ -11,3 +11,4 @@ mod json;
 mod merge;
 mod message;
 mod show;
+mod stamps;

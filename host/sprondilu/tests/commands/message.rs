@@ -29,12 +29,12 @@ fn prepares() -> Vec<Typed> {
     let prepare = |words, stamp, body| (words, Message::ProposePrepare { stamp, body });
     vec![
         prepare(
-            "propose-prepare 65537 write 5=7",
+            "propose-prepare 1:1 write 5=7",
             65_537,
             body(&[], &[(5, 7)]),
         ),
         prepare(
-            "propose-prepare 0x10001 read 5@0 write 5=0x7",
+            "propose-prepare 0x1:0x1 read 5@0 write 5=0x7",
             65_537,
             body(&[(5, 0)], &[(5, 7)]),
         ),
@@ -109,10 +109,14 @@ fn outcomes() -> Vec<Typed> {
 }
 
 fn views_and_reads() -> Vec<Typed> {
-    let (stamp, register) = (FOUR, 63);
+    let read = |words, stamp, register| (words, Message::Read { stamp, register });
+    let last = |time: u64| time * 65_536 + 65_535;
     vec![
         ("change-view 0x10", Message::ChangeView { view: 16 }),
-        ("read 4:9 register 63", Message::Read { stamp, register }),
+        read("read 4:9 register 63", FOUR, 63),
+        read("read --at 4 register 63", last(4), 63),
+        read("--at=0 read register 0", last(0), 0),
+        read("read register 5 --at 0xffffffff", last(0xffff_ffff), 5),
     ]
 }
 
@@ -250,10 +254,7 @@ fn a_view_is_started_with_the_image_of_a_file() {
 
 /// What the words may say and the rules do not allow, and what is said of it.
 #[rustfmt::skip]
-const AGAINST_THE_RULES: [(&str, &str); 21] = [
-    ("propose-prepare 0 write 5=7", "the stamp is 0"),
-    ("propose-prepare 281474976710656 write 5=7", "281474976710656"),
-    ("propose-prepare 18446744073709551615 write 5=7", "stamps go"),
+const AGAINST_THE_RULES: [(&str, &str); 12] = [
     ("propose-prepare 2:1", "neither a read nor a write"),
     ("propose-prepare 2:1 read", "neither a read nor a write"),
     ("propose-prepare 2:1 read 1@0 2@0 3@0 4@0 5@0", "5 reads"),
@@ -264,13 +265,7 @@ const AGAINST_THE_RULES: [(&str, &str); 21] = [
     ("propose-prepare 2:1 read 5@2:2", "2:2, which is not below"),
     ("propose-prepare 2:1 read 5@0 5@1:1", "two reads of register 5"),
     ("propose-prepare 2:1 write 5=1 5=2", "two writes of register 5"),
-    ("propose-outcome 0:0 commit write 5=7", "the stamp is 0"),
     ("propose-outcome 2:1 commit", "neither a read nor a write"),
-    ("finalise-prepare 0 view 0 OK", "the stamp is 0"),
-    ("finalise-prepare 2:1 view 0 RETRY 0", "retry stamp of RETRY is 0"),
-    ("finalise-prepare 2:1 view 0 RETRY 281474976710656", "retry stamp"),
-    ("finalise-outcome 0 view 0 commit", "the stamp is 0"),
-    ("read 0 register 0", "the stamp is 0"),
     ("read 2:1 register 64", "the register is 64"),
 ];
 
@@ -324,22 +319,13 @@ fn a_file_that_is_there_is_written_over_only_if_asked() {
 }
 
 /// Lines that make no sense, and what is said of each.
-const NONSENSE: [(&str, &str); 34] = [
+const NONSENSE: [(&str, &str); 28] = [
     ("", "the kind of message"),
     (
         "propose",
         "there is no message 'propose'; there are propose-prepare, finalise-prepare,",
     ),
     ("propose-prepare", "the stamp is missing"),
-    ("propose-prepare x write 5=7", "'x'"),
-    ("propose-prepare 4294967296:0 write 5=7", "TIME:CLIENT"),
-    ("propose-prepare 1:65536 write 5=7", "TIME:CLIENT"),
-    ("propose-prepare 1:2:3 write 5=7", "TIME:CLIENT"),
-    (
-        "propose-prepare 18446744073709551616 write 5=7",
-        "TIME:CLIENT",
-    ),
-    ("propose-prepare -1 write 5=7", "'-1'"),
     (
         "propose-prepare 2:1 5=7",
         "read or write stands before '5=7'",

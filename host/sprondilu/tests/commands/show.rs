@@ -1,7 +1,7 @@
 //! `show`
 
 use crate::common::boxes::{settled, spoiled};
-use crate::common::json::Value;
+use crate::common::json::{Value, RETRY, STAMP, VERSION};
 use crate::common::ran::{bad_usage, not_tried, refused};
 use crate::common::{run, Folder, History};
 use samples::{message as make, random, Dice, Row, Table};
@@ -12,9 +12,7 @@ fn number(value: u64) -> Value {
 
 /// What stands in a row, as a program is told it.
 fn assert_row(told: &Value, row: &Row) {
-    assert_eq!(told.number("stamp"), Some(row.stamp));
-    assert_eq!(told.number("time"), Some(row.stamp >> 16));
-    assert_eq!(told.number("client"), Some(row.stamp & 0xffff));
+    assert_eq!(told.stamp(STAMP), Some(row.stamp));
     assert_prepare(told.at(&["prepare"]), row.prepare, row.retry);
     assert_outcome(told.at(&["outcome"]), row.outcome);
     assert_accesses(told, row);
@@ -30,12 +28,7 @@ fn assert_prepare(told: &Value, byte: u8, retry: u64) {
     assert_eq!(told.text("result"), Some(result));
     assert_eq!(told.at(&["final"]), &Value::Bool(byte > 4));
     assert_eq!(told.number("byte"), Some(u64::from(byte)));
-    let stamp = if byte % 4 == 0 {
-        number(retry)
-    } else {
-        Value::Null
-    };
-    assert_eq!(told.at(&["retry_stamp"]), &stamp);
+    assert_eq!(told.stamp(RETRY), Some(retry).filter(|_| byte % 4 == 0));
 }
 
 /// "0 none, 1 commit noted, 2 abort noted, 3 commit done, 4 abort done"
@@ -53,7 +46,7 @@ fn assert_outcome(told: &Value, byte: u8) {
 fn assert_accesses(told: &Value, row: &Row) {
     let reads = told.list("reads").iter();
     let reads: Vec<_> = reads
-        .map(|one| (one.number("register"), one.number("version")))
+        .map(|one| (one.number("register"), one.stamp(VERSION)))
         .collect();
     let held = row.reads.iter();
     let held: Vec<_> = held
@@ -186,12 +179,29 @@ fn messages_of_every_kind_are_shown() {
             let told = ran.done().json();
             let kind = told.at(&["message"]).number("kind").expect("a kind") as usize;
             assert_eq!(kind, usize::from(message[0]));
+            assert_stamps(told.at(&["message"]), &message);
             met[kind] += 1;
             let out = run(&folder, "show --message m").done().out;
             assert!(out.starts_with(&format!("message {}, ", kind)), "{}", out);
         }
     }
     assert!(met.iter().all(|times| *times > 3), "{:?}", met);
+}
+
+/// The stamps of a message, by their places in its bytes.
+fn assert_stamps(told: &Value, message: &[u8]) {
+    let wide = |place: usize| u64::from_be_bytes(message[place..place + 8].try_into().expect("8"));
+    if !matches!(message[0], 5 | 6) {
+        assert_eq!(told.stamp(STAMP), Some(wide(1)));
+    }
+    if message[0] == 2 {
+        let retry = Some(wide(14)).filter(|_| message[13] == 4);
+        assert_eq!(told.stamp(RETRY), retry);
+    }
+    for (place, read) in told.list("reads").iter().enumerate() {
+        let first = if message[0] == 1 { 12 } else { 13 };
+        assert_eq!(read.stamp(VERSION), Some(wide(first + 9 * place)));
+    }
 }
 
 #[test]
@@ -237,7 +247,7 @@ pub fn assert_reply(told: &Value, reply: &[u8]) {
     assert_eq!(told.number("view"), Some(wide(0) & 0xffff_ffff));
     let (stamp, value) = (wide(8), wide(16));
     if reply[1] <= 4 {
-        assert_eq!(told.number("stamp"), Some(stamp));
+        assert_eq!(told.stamp(STAMP), Some(stamp));
     }
     match reply[1] {
         1 | 2 => assert_prepare(told.at(&["prepare"]), reply[3], value),
@@ -245,12 +255,10 @@ pub fn assert_reply(told: &Value, reply: &[u8]) {
         5 => assert_eq!(told.number("promised_view"), Some(stamp)),
         6 => {}
         _ => {
-            let written = |told: Value| if stamp == 0 { Value::Null } else { told };
-            assert_eq!(told.at(&["version"]), &written(number(stamp)));
-            assert_eq!(
-                told.at(&["value"]),
-                &written(Value::Text(value.to_string()))
-            );
+            let version = Some(stamp).filter(|stamp| *stamp > 0);
+            let value = version.map_or(Value::Null, |_| Value::Text(value.to_string()));
+            assert_eq!(told.stamp(VERSION), version);
+            assert_eq!(told.at(&["value"]), &value);
         }
     }
 }

@@ -15,6 +15,13 @@ pub enum Value {
     Object(BTreeMap<String, Value>),
 }
 
+/// The names under which programs are told a stamp: its number, its time and its client.
+pub type StampNames = [&'static str; 3];
+pub const STAMP: StampNames = ["stamp", "time", "client"];
+pub const RETRY: StampNames = ["retry_stamp", "retry_time", "retry_client"];
+pub const VERSION: StampNames = ["version", "version_time", "version_client"];
+pub const READ: StampNames = ["read_stamp", "read_time", "read_client"];
+
 impl Value {
     /// The value under these names, one within the other. What is missing is null.
     pub fn at(&self, names: &[&str]) -> &Value {
@@ -29,6 +36,20 @@ impl Value {
             Value::Number(number) => Some(*number),
             _ => None,
         }
+    }
+
+    /// The number of a stamp under its three names, with its time and its client beside it; all three are null for none. The version
+    /// 0, of what was never written, has neither time nor client.
+    #[track_caller]
+    pub fn stamp(&self, names: StampNames) -> Option<u64> {
+        let is_there =
+            |name: &&str| matches!(self, Value::Object(fields) if fields.contains_key(*name));
+        assert!(names.iter().all(is_there), "{:?} in {:?}", names, self);
+        let [stamp, time, client] = names.map(|name| self.number(name));
+        let written = stamp.filter(|stamp| *stamp > 0);
+        let parts = (written.map(|s| s >> 16), written.map(|s| s & 0xffff));
+        assert_eq!((time, client), parts, "{:?} in {:?}", names, self);
+        stamp
     }
 
     pub fn text(&self, name: &str) -> Option<&str> {
