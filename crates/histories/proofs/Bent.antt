@@ -7,18 +7,18 @@ use native.Mathlib.Omega.{arith}
 use lib.Dec.{ltb}
 use borrow.Author.Tests.{ltb-true}
 use Rattle.rules.specs.Tests.{both, any}
-use Rattle.rules.specs.Tables.{Result.OK, Result.ABORT, Result.ABSTAIN, Prepare.noPrepare, Prepare.tentative, Prepare.final, Verdict.commit, Verdict.abort, Outcome.noOutcome, Outcome.noted, Table, valley}
-use Rattle.rules.specs.Messages.{Message.startView, held, prepareOf}
+use Rattle.rules.specs.Tables.{Result.OK, Result.ABORT, Result.ABSTAIN, Prepare.noPrepare, Prepare.tentative, Prepare.final, Verdict.commit, Verdict.abort, Outcome.noOutcome, Outcome.noted, Outcome.done, Table, valley}
+use Rattle.rules.specs.Messages.{Message.proposeOutcome, Message.startView, held, prepareOf}
 use Rattle.rules.specs.Circumstances.{belowLimit}
 use Rattle.rules.specs.Check.{check, clash}
 use Rattle.rules.specs.Merge.{merge}
 use Rattle.rules.proofs.Logic.{impossible, both-left, both-right}
 use Rattle.rules.proofs.Lists.{places, any-some}
-use Rattle.history.specs.Survival.{Declared, Merged, Group, freshGroup, WasSent, WasDeclared, OneBody, OnFastOrConfirmed, NeverBoth, BeforeOutcome, QuorumOf, Accepted, Lawful}
+use Rattle.history.specs.Survival.{Declared, Merged, Group, freshGroup, WasSent, WasDeclared, OneBody, OnFastOrConfirmed, CommitAfterOK, NeverBoth, OutcomeByRule, BeforeOutcome, QuorumOf, Accepted, Lawful}
 use Rattle.histories.specs.Histories.{row, image, heldIn, heldInMerges}
-use Rattle.histories.specs.Bent.{writer, reader, Bent, until, since, atEnd, LawfulBut, Breaks, twoResults, commitToOldView, twoAcceptances, finishedInOldView, bentCheck, abortFrees, afterAbortFrees, bentMerge, bothOK, agreedUnchecked, gathered, emptied}
+use Rattle.histories.specs.Bent.{writer, reader, Bent, until, since, atEnd, LawfulBut, Breaks, twoBodiesSent, twoResults, commitToOldView, bothOutcomes, twoAcceptances, finishedInOldView, bentCheck, abortFrees, afterAbortFrees, bentMerge, bothOK, agreedUnchecked, gathered, emptied}
 use Rattle.histories.proofs.SameTables.{samePrepare, prepare-same}
-use Rattle.histories.proofs.RuleTests.{one-body, never-both, before-outcome, on-fast-or-confirmed, one-table, accepted-it, on-acceptances, lawful, lawful-is}
+use Rattle.histories.proofs.RuleTests.{one-body, commit-after-ok, never-both, before-outcome, on-fast-or-confirmed, one-table, accepted-it, on-acceptances, lawful, lawful-is}
 use Rattle.histories.proofs.Computing.{computing}
 
 -- a merge of a later view does not hold a declared result
@@ -36,8 +36,30 @@ turned-breaks G h survival =
     let later = ltb-true (d .view) (m .view) (both-left _ _ k) in
     impossible (both-right (ltb (d .view) (m .view)) _ k) (prepare-same _ _ (survival .declared m (d .stamp) (d .view) (d .result) i j later))
 
+-- the commits of stamps 20 and 10 were proposed, and they clash
+clash-breaks : (G : Group) → WasSent G (proposeOutcome 20 commit reader) → WasSent G (proposeOutcome 10 commit writer) → Breaks G
+clash-breaks G read written survival = survival .noClash 20 10 reader writer read written _ _ (List·Memᴰ·head refl) (List·Memᴰ·head refl) refl (omega arith) (omega arith)
+
 lawful-but : (h : Bent) {others : Type 0} → lawful valley belowLimit check (freshGroup (h .n)) (h .before) ≡ true → lawful valley belowLimit check (since h) (h .rest) ≡ true → others → LawfulBut h others
 lawful-but h before rest others = (lawful-is valley belowLimit check (freshGroup (h .n)) (h .before) before, others, lawful-is valley belowLimit check (since h) (h .rest) rest)
+
+-- ---- rule 1 bent
+
+-- box 2 has accepted both commits
+pub two-bodies-sent :
+    (atEnd twoBodiesSent .declared ≡ record { stamp = 20; view = 0; result = OK } ∷ record { stamp = 10; view = 0; result = OK } ∷ [])
+    × (atEnd twoBodiesSent .table 2 .rows ≡ row 10 writer (tentative OK) (noted commit) ∷ row 20 reader noPrepare (noted commit) ∷ [])
+unfolding computing
+two-bodies-sent = (refl, refl)
+
+pub two-bodies-sent-break : Breaks (atEnd twoBodiesSent)
+unfolding computing
+two-bodies-sent-break = clash-breaks (atEnd twoBodiesSent) (2, search places depth 30) (2, search places depth 30)
+
+-- the commit keeps rule 5
+pub two-bodies-sent-lawful-but : LawfulBut twoBodiesSent (OutcomeByRule (until twoBodiesSent) 2 20 commit)
+unfolding computing
+two-bodies-sent-lawful-but = lawful-but twoBodiesSent refl refl (commit-after-ok (until twoBodiesSent) 2 20 commit refl, never-both (until twoBodiesSent) 20 commit refl)
 
 -- ---- rule 2 bent
 
@@ -69,6 +91,25 @@ commit-to-old-view-breaks = turned-breaks (atEnd commitToOldView) refl
 pub commit-to-old-view-lawful-but : LawfulBut commitToOldView (OneBody (until commitToOldView) 10 writer × NeverBoth (until commitToOldView) 10 commit × WasDeclared (until commitToOldView) 10 1 OK)
 unfolding computing
 commit-to-old-view-lawful-but = lawful-but commitToOldView refl refl (one-body (until commitToOldView) 10 writer refl, never-both (until commitToOldView) 10 commit refl, search places)
+
+-- ---- rule 5 bent in its last words
+
+-- box 0 has accepted the commit of stamp 10, which clashes with nothing there, and box 2 that of stamp 20
+pub both-outcomes :
+    (atEnd bothOutcomes .declared ≡ record { stamp = 20; view = 0; result = OK } ∷ record { stamp = 10; view = 0; result = OK } ∷ [])
+    × (atEnd bothOutcomes .table 0 .rows ≡ row 10 writer (final OK) (noted commit) ∷ row 20 reader (tentative OK) (done abort) ∷ [])
+    × (atEnd bothOutcomes .table 2 .rows ≡ row 20 reader (tentative OK) (noted commit) ∷ [])
+unfolding computing
+both-outcomes = (refl, refl, refl)
+
+pub both-outcomes-break : Breaks (atEnd bothOutcomes)
+unfolding computing
+both-outcomes-break = clash-breaks (atEnd bothOutcomes) (2, search places depth 30) (0, search places depth 30)
+
+-- the commit keeps rule 1, comes after OK was declared, and goes to a box that has answered in that view
+pub both-outcomes-lawful-but : LawfulBut bothOutcomes (OneBody (until bothOutcomes) 20 reader × CommitAfterOK (until bothOutcomes) 2 20 commit)
+unfolding computing
+both-outcomes-lawful-but = lawful-but bothOutcomes refl refl (one-body (until bothOutcomes) 20 reader refl, commit-after-ok (until bothOutcomes) 2 20 commit refl)
 
 -- ---- rule 6 bent
 
@@ -139,7 +180,7 @@ agreed-unchecked = refl
 -- both were committed
 pub agreed-unchecked-breaks : Breaks (atEnd agreedUnchecked)
 unfolding computing
-agreed-unchecked-breaks survival = survival .noClash 20 10 reader writer (0, search places depth 30) (0, search places depth 30) _ _ (List·Memᴰ·head refl) (List·Memᴰ·head refl) refl (omega arith) (omega arith)
+agreed-unchecked-breaks = clash-breaks (atEnd agreedUnchecked) (0, search places depth 30) (0, search places depth 30)
 
 -- one table is sent for view 1
 pub agreed-unchecked-lawful-but : LawfulBut agreedUnchecked ((I : Table) → WasSent (since agreedUnchecked) (startView 1 I) → I ≡ bothOK)

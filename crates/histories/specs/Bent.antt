@@ -48,6 +48,28 @@ LawfulBut h others = Lawful valley belowLimit check (freshGroup (h .n)) (h .befo
 abbrev pub Breaks : Group → Type 0
 Breaks G = Survival G → ⊥
 
+-- ---- rule 1 bent: "one stamp, one body"
+
+-- stamp 20 as it was proposed at first: it clashes with nothing
+abbrev pub harmless : Body
+harmless = writes 1 8
+
+unfoldable pub twoBodiesSent : Bent
+twoBodiesSent =
+    record {
+      n = 3;
+      -- boxes 0 and 1 say OK to stamp 20 with its harmless body, and confirm it; all three say OK to stamp 10. Both are declared, and box 2 learns the commit of stamp 10
+      before = told 0 (0 ∷ 1 ∷ []) (proposePrepare 20 harmless)
+          ++ told 2 (0 ∷ 1 ∷ []) (finalisePrepare 20 0 OK)
+          ++ (declares 20 0 OK ∷ [])
+          ++ told 4 (0 ∷ 1 ∷ 2 ∷ []) (proposePrepare 10 writer)
+          ++ (declares 10 0 OK ∷ [])
+          ++ told 7 (2 ∷ []) (proposeOutcome 10 commit writer);
+      -- the commit of stamp 20 has another body. Box 2 does not know the first one, and accepts it
+      bent = told 8 (2 ∷ []) (proposeOutcome 20 commit reader);
+      rest = [];
+    }
+
 -- ---- rule 2 bent: "one result per stamp and view, sent or declared"
 
 unfoldable pub twoResults : Bent
@@ -88,6 +110,26 @@ commitToOldView =
       bent = told 15 (0 ∷ []) (proposeOutcome 10 commit writer);
       -- the late merge: the table that box 1 had after its promise, and now box 0's
       rest = told 16 (0 ∷ []) (changeView 1) ++ (merges 1 (6 ∷ 19 ∷ []) ∷ []);
+    }
+
+-- ---- rule 5 bent: "never both outcomes"
+
+unfoldable pub bothOutcomes : Bent
+bothOutcomes =
+    record {
+      n = 3;
+      -- stamp 20 is declared. Boxes 0 and 1 accept its abort, which is f+1, and finish it: its row is freed there, so both say OK to stamp 10, which they confirm; it is declared and committed
+      before = told 0 (0 ∷ 1 ∷ 2 ∷ []) (proposePrepare 20 reader)
+          ++ (declares 20 0 OK ∷ [])
+          ++ told 3 (0 ∷ 1 ∷ []) (proposeOutcome 20 abort reader)
+          ++ told 5 (0 ∷ 1 ∷ []) (finaliseOutcome 20 0 abort)
+          ++ told 7 (0 ∷ 1 ∷ []) (proposePrepare 10 writer)
+          ++ told 9 (0 ∷ 1 ∷ []) (finalisePrepare 10 0 OK)
+          ++ (declares 10 0 OK ∷ [])
+          ++ told 11 (0 ∷ []) (proposeOutcome 10 commit writer);
+      -- box 2 has not heard of the abort, and accepts the commit of stamp 20
+      bent = told 12 (2 ∷ []) (proposeOutcome 20 commit reader);
+      rest = [];
     }
 
 -- ---- rule 6 bent: "message 4 names a view in which f+1 different boxes have accepted message 3"

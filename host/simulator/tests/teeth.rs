@@ -112,10 +112,12 @@ fn a_result_of_another_view_is_found() {
 #[test]
 fn coordinators_that_keep_not_every_rule_are_found() {
     bent_rule_found(Rule::OneBody, 3, Part::MergeDone, 100);
+    bent_rule_found(Rule::OneBody, 3, Part::NoClash, 3_000);
     bent_rule_found(Rule::OneResult, 3, Part::MergeDone, 3_000);
     bent_rule_found(Rule::OnAnAnswer, 3, Part::NoClash, 2_000);
     bent_rule_found(Rule::OnAnAnswer, 5, Part::Declared, 2_000);
     bent_rule_found(Rule::OnFastOrConfirmed, 3, Part::Declared, 100);
     bent_rule_found(Rule::CommitAfterOk, 3, Part::NoClash, 100);
     bent_rule_found(Rule::NeverBoth, 3, Part::MergeDone, 500);
+    bent_rule_found(Rule::NeverBoth, 3, Part::NoClash, 1_000);
 }

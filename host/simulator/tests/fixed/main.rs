@@ -185,12 +185,18 @@ fn an_abort_is_finished_in_its_own_view() {
     );
 }
 
-/// T is declared OK in view 0 by all three boxes; view 1 starts at 1 and 2, where T is aborted and U declared OK.
-fn replaced_in_view_1(machine: Machine, law: Law) -> Told {
+/// T is declared OK in view 0 by all three boxes.
+fn declared_by_all(machine: Machine, law: Law) -> Told {
     let mut told = Told::of(machine, law, 3);
     told.prepare(&t(), &[0, 1, 2]);
     assert_eq!(told.count(&t(), 0, &[0, 1, 2]), Decision::Fast(OK));
     told.declare(&t(), 0, OK).expect("a lawful declaration");
+    told
+}
+
+/// View 1 starts at 1 and 2, where T is aborted and U declared OK.
+fn replaced_in_view_1(machine: Machine, law: Law) -> Told {
+    let mut told = declared_by_all(machine, law);
     // Box 0 hears of U while T stands there.
     assert_eq!(told.prepare(&u(), &[0]), ["tentative ABSTAIN"]);
     told.change(1, &[1, 2]);
@@ -285,6 +291,54 @@ fn a_stamp_has_one_result_in_a_view() {
     let what = format!("{} 0 4 1 holds final ABSTAIN", T_TURNED);
     let law = Law::without(Rule::OneResult);
     breaks(two_results, LIBRARY, law, "Ok(())", Part::Declared, &what);
+}
+
+/// U is declared OK and its commit told to a box; then the commit of T is told to box 2, which has heard of nothing against it.
+fn both_committed(mut told: Told, asked: &[usize], of_u: usize) -> Told {
+    assert_eq!(told.settle(&u(), 0, asked), OK);
+    told.propose(&u(), Outcome::Commit, &[of_u])
+        .expect("a lawful commit");
+    let sent = told.propose(&t(), Outcome::Commit, &[2]);
+    told.sees(&format!("{:?}", sent));
+    told.change(1, &[0, 1]);
+    told
+}
+
+/// The commit of T is all that the rule forbids, and without the rule two that clash are committed.
+fn clash_without(rule: Rule, history: History) {
+    holds(history, &format!("Err({:?})", rule));
+    let both = "the commits of stamps 20 and 10 were sent, and they clash";
+    let law = Law::without(rule);
+    breaks(history, LIBRARY, law, "Ok(())", Part::NoClash, both);
+}
+
+/// Stamp 20 is declared OK with a body that clashes with nothing, and its commit has the body of T.
+fn two_bodies(machine: Machine, law: Law) -> Told {
+    let mut told = Told::of(machine, law, 3);
+    assert_eq!(told.settle(&apart(20), 0, &[0, 1]), OK);
+    both_committed(told, &[0, 1, 2], 2)
+}
+
+#[test]
+fn a_stamp_has_one_body() {
+    clash_without(Rule::OneBody, two_bodies);
+}
+
+/// The abort of T is accepted and finished by 0 and 1, which frees its row there; box 2 has not heard of it.
+fn both_outcomes(machine: Machine, law: Law) -> Told {
+    let mut told = declared_by_all(machine, law);
+    told.propose(&t(), Outcome::Abort, &[0, 1])
+        .expect("a lawful abort");
+    assert_eq!(
+        told.finish(&t(), 0, Outcome::Abort, &[0, 1]),
+        Ok(vec![0, 0])
+    );
+    both_committed(told, &[0, 1], 0)
+}
+
+#[test]
+fn a_stamp_has_one_outcome() {
+    clash_without(Rule::NeverBoth, both_outcomes);
 }
 
 /// "Cutting a merge at 512 rows." The last of 601 stamps is declared OK.
