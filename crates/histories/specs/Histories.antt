@@ -1,12 +1,15 @@
 -- The words in which histories are written out, and in which the group after one is described.
 use mathlib.Core.List.{List, [], _∷_, map}
 use Prim.Native.Nat.{ℕ, suc, _%_}
+use lib.Dec.{ltb}
 use lib.ListN.{length}
-use Rattle.rules.specs.Tests.{allOf}
+use Rattle.rules.specs.Tests.{those, allOf}
 use Rattle.rules.specs.Stamps.{Body}
-use Rattle.rules.specs.Tables.{Prepare, Outcome, Row, Table, normalMode}
-use Rattle.rules.specs.Messages.{Message, held, prepareOf, outcomeOf}
-use Rattle.history.specs.Survival.{Group, Event, Event.sends, Event.arrives, at}
+use Rattle.rules.specs.Tables.{Prepare, Outcome, Row, Table, normalMode, valley}
+use Rattle.rules.specs.Messages.{Message, kind, held, prepareOf, outcomeOf}
+use Rattle.rules.specs.Circumstances.{belowLimit}
+use Rattle.rules.specs.Check.{check}
+use Rattle.history.specs.Survival.{Group, freshGroup, Event, Event.sends, Event.arrives, after, at}
 
 -- ---- transactions and tables
 
@@ -31,6 +34,22 @@ image n v rows = record { box = v % n; n = n; mode = normalMode; view = v; promi
 unfoldable pub told : (place : ℕ) → List ℕ → Message → List Event
 told place [] m = []
 told place (b ∷ bs) m = sends b m ∷ arrives place ∷ told (suc place) bs m
+
+-- ---- a history whole
+
+-- how many boxes, and what happens from fresh tables on
+pub record History : Type 0 where
+  pub n : ℕ
+  pub events : List Event
+
+abbrev pub ending : History → Group
+ending h = after valley belowLimit check (freshGroup (h .n)) (h .events)
+
+-- ---- what was refused
+
+-- of each refusal its box, the kind of the message, and the number
+unfoldable pub refusals : Group → List (ℕ × ℕ × ℕ)
+refusals G = map (λ a. (a .box, kind (a .message), a .reply .number)) (those (λ a. ltb 0 (a .reply .number)) (G .answers))
 
 -- ---- what a group's tables hold
 

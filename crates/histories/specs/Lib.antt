@@ -1,3 +1,4 @@
 pub mod Histories
 pub mod FiveBoxes
+pub mod Ordinary
 pub mod Bent
