@@ -146,6 +146,17 @@ fn line_of<'a>(edit: &'a str, word: &str) -> &'a str {
     said.unwrap_or_else(|| panic!("no {} in {}", word, edit))
 }
 
+/// A proof that is changed fails whatever its statement says.
+#[test]
+fn an_edit_changes_a_definition_or_a_program() {
+    for file in files("crates", ".edit") {
+        let edit = text(&file);
+        let changed = line_of(&edit, "file: ");
+        let said = changed.starts_with("specs/") || changed.starts_with("src/");
+        assert!(said, "{} changes {}", file, changed);
+    }
+}
+
 /// The gate applies the others, and would say so.
 #[test]
 fn an_edit_that_the_gate_does_not_try_still_fits_its_source() {
