@@ -27,10 +27,25 @@
 #ifdef __cplusplus
 #define SPRONDILU_ASSERT(holds, why) static_assert(holds, why)
 #define SPRONDILU_ALIGN_OF(type) alignof(type)
-extern "C" {
 #else
 #define SPRONDILU_ASSERT(holds, why) _Static_assert(holds, why)
 #define SPRONDILU_ALIGN_OF(type) _Alignof(type)
+#endif
+
+/* For this file alone: a call whose answer is dropped is warned of, by a compiler that can. A refusal that nobody looks at
+ * would be an entry that is dropped without a word. */
+#if defined(__cplusplus) && __cplusplus >= 201703L
+#define SPRONDILU_MUST_USE [[nodiscard]]
+#elif defined(__STDC_VERSION__) && __STDC_VERSION__ >= 202311L
+#define SPRONDILU_MUST_USE [[nodiscard]]
+#elif defined(__GNUC__)
+#define SPRONDILU_MUST_USE __attribute__((warn_unused_result))
+#else
+#define SPRONDILU_MUST_USE
+#endif
+
+#ifdef __cplusplus
+extern "C" {
 #endif
 
 SPRONDILU_ASSERT(sizeof(size_t) == 8, "libsprondilu.a takes lengths of 64 bits");
@@ -70,8 +85,75 @@ SPRONDILU_ASSERT(sizeof(size_t) == 8, "libsprondilu.a takes lengths of 64 bits")
  * bodies. */
 #define SPRONDILU_TABLE_BYTES 49176
 
+/* Where in an image its box, its group's n and the view that the box has promised stand: the last is a number of 4 bytes. */
+#define SPRONDILU_TABLE_BOX 1
+#define SPRONDILU_TABLE_N 2
+#define SPRONDILU_TABLE_PROMISED 12
+
+/*
+ * Messages. In messages, images and replies the first byte of a number counts most. Each message begins with its kind, in
+ * 1 byte; behind it stand, in bytes:
+ *   SPRONDILU_PROPOSE_PREPARE    stamp 8, counts of reads and of writes 1 each, body
+ *   SPRONDILU_FINALISE_PREPARE   stamp 8, view 4, result 1, retry stamp 8
+ *   SPRONDILU_PROPOSE_OUTCOME    stamp 8, outcome 1, counts of reads and of writes 1 each, body
+ *   SPRONDILU_FINALISE_OUTCOME   stamp 8, view 4, outcome 1
+ *   SPRONDILU_CHANGE_VIEW        view 4
+ *   SPRONDILU_START_VIEW         view 4, image
+ *   SPRONDILU_READ               stamp 8, register 1
+ * A body is its reads, each a register in 1 byte and the version seen in 8, then its writes, each a register and a value.
+ */
+#define SPRONDILU_PROPOSE_PREPARE 1
+#define SPRONDILU_FINALISE_PREPARE 2
+#define SPRONDILU_PROPOSE_OUTCOME 3
+#define SPRONDILU_FINALISE_OUTCOME 4
+#define SPRONDILU_CHANGE_VIEW 5
+#define SPRONDILU_START_VIEW 6
+#define SPRONDILU_READ 7
+
+/* The codes of the two outcomes, in messages 3 and 4. */
+#define SPRONDILU_OUTCOME_COMMIT 1
+#define SPRONDILU_OUTCOME_ABORT 2
+
+/* Where the image begins in message 6, which is also how long message 5 is; the length of the longest message, which is
+ * message 6 with the longest image; and that of the longest of any other kind, message 3 with eight accesses. */
+#define SPRONDILU_START_VIEW_IMAGE 5
+#define SPRONDILU_MESSAGE_BYTES 49181
+#define SPRONDILU_SMALL_MESSAGE_BYTES 84
+
 /* The length of a reply, in bytes, and the least length of a reply buffer. */
 #define SPRONDILU_REPLY_BYTES 24
+
+/* Where its parts stand in a reply: number, kind, box and state byte in 1 byte each; the box's view in 4; a stamp and a
+ * value in 8 each. */
+#define SPRONDILU_REPLY_NUMBER 0
+#define SPRONDILU_REPLY_KIND 1
+#define SPRONDILU_REPLY_BOX 2
+#define SPRONDILU_REPLY_STATE 3
+#define SPRONDILU_REPLY_VIEW 4
+#define SPRONDILU_REPLY_STAMP 8
+#define SPRONDILU_REPLY_VALUE 16
+
+/* The codes of 01's four results, in message 2, in a reply that is counted and in an answer of either count. */
+#define SPRONDILU_OK 1
+#define SPRONDILU_ABORT 2
+#define SPRONDILU_ABSTAIN 3
+#define SPRONDILU_RETRY 4
+
+/* The state byte of a reply to message 1 or 2, which is the prepare byte of the row: a result, tentative or final. */
+#define SPRONDILU_TENTATIVE_OK 1
+#define SPRONDILU_TENTATIVE_ABORT 2
+#define SPRONDILU_TENTATIVE_ABSTAIN 3
+#define SPRONDILU_TENTATIVE_RETRY 4
+#define SPRONDILU_FINAL_OK 5
+#define SPRONDILU_FINAL_ABORT 6
+#define SPRONDILU_FINAL_ABSTAIN 7
+#define SPRONDILU_FINAL_RETRY 8
+
+/* The state byte of a reply to message 3 or 4, which is the outcome byte of the row. Of every other reply it is 0. */
+#define SPRONDILU_COMMIT_NOTED 1
+#define SPRONDILU_ABORT_NOTED 2
+#define SPRONDILU_COMMIT_DONE 3
+#define SPRONDILU_ABORT_DONE 4
 
 /*
  * Writes the fresh table of box `box` of a group of `n` boxes at the start of a table buffer.
@@ -81,6 +163,7 @@ SPRONDILU_ASSERT(sizeof(size_t) == 8, "libsprondilu.a takes lengths of 64 bits")
  * Done, the first 24 bytes are the fresh image, and no other byte has changed: what the buffer held is neither looked at
  * nor cleared. Refused, no byte has changed.
  */
+SPRONDILU_MUST_USE
 uint8_t sprondilu_fresh(uint8_t *table, size_t table_len, uint8_t n, uint8_t box);
 
 /*
@@ -90,6 +173,7 @@ uint8_t sprondilu_fresh(uint8_t *table, size_t table_len, uint8_t n, uint8_t box
  * in bytes in bits 16 to 63; and 0 in all other bits. The two macros below take it apart.
  * Any length will do: as in a merge's run, SPRONDILU_SMALL_BUFFER does not apply. No byte changes.
  */
+SPRONDILU_MUST_USE
 uint64_t sprondilu_valid(const uint8_t *bytes, size_t bytes_len);
 
 /* The number in an answer of 64 bits, that of sprondilu_valid, sprondilu_count or sprondilu_count_records. */
@@ -119,10 +203,11 @@ uint64_t sprondilu_valid(const uint8_t *bytes, size_t bytes_len);
  * Otherwise the first 24 bytes of the reply buffer are the reply, to be sent back as they are, and no other byte of that
  * buffer has changed. Refused, the reply is the number and 23 zero bytes, and no byte of the table buffer has changed.
  * Done, the reply is 0, the message's kind, the box, its state byte, then the view in 4 bytes, a stamp in 8 and a value in
- * 8, the first byte of each counting most; and the table buffer begins with the image of the changed table. If that is
- * shorter than the image before, the bytes given up are zero; bytes past the longer of the two have not changed. The
- * message never changes.
+ * 8, each where SPRONDILU_REPLY_NUMBER to SPRONDILU_REPLY_VALUE say; and the table buffer begins with the image of the
+ * changed table. If that is shorter than the image before, the bytes given up are zero; bytes past the longer of the two
+ * have not changed. The message never changes.
  */
+SPRONDILU_MUST_USE
 uint8_t sprondilu_answer(uint8_t *table, size_t table_len, const uint8_t *message, size_t message_len, uint8_t *reply,
                          size_t reply_len);
 
@@ -147,13 +232,8 @@ uint8_t sprondilu_answer(uint8_t *table, size_t table_len, const uint8_t *messag
  * taken by every box of the group that is in an earlier view and has promised no later one.
  * Refused, no byte has changed. The run never changes.
  */
+SPRONDILU_MUST_USE
 uint8_t sprondilu_merge(const uint8_t *run, size_t run_len, uint32_t view, uint8_t *out, size_t out_len);
-
-/* The codes of 01's four results, in a reply that is counted and in an answer of either count. */
-#define SPRONDILU_OK 1
-#define SPRONDILU_ABORT 2
-#define SPRONDILU_ABSTAIN 3
-#define SPRONDILU_RETRY 4
 
 /* The length of a reply as it is counted, in bytes. */
 #define SPRONDILU_COUNTED_BYTES 15
@@ -165,9 +245,10 @@ uint8_t sprondilu_merge(const uint8_t *run, size_t run_len, uint32_t view, uint8
  * is tentative; the first byte of each number counts most. The list may be any bytes that arrived, of any length, also
  * none; the order of the replies does not matter.
  *
- * A reply of sprondilu_answer to message 1 or 2 whose number is SPRONDILU_DONE has them in these of its 24 bytes, the first
- * being byte 0: the box in byte 2; the view in bytes 4 to 7; the retry stamp in bytes 16 to 23; the result in byte 3, the
- * state byte: 1 to 4 are SPRONDILU_OK to SPRONDILU_RETRY, tentative; 5 to 8 are the result plus 4, final.
+ * A reply of sprondilu_answer to message 1 or 2 whose number is SPRONDILU_DONE has them in these of its 24 bytes: the box at
+ * SPRONDILU_REPLY_BOX; the view from SPRONDILU_REPLY_VIEW on; the retry stamp from SPRONDILU_REPLY_VALUE on; and the result
+ * in the state byte at SPRONDILU_REPLY_STATE: 1 to 4 are SPRONDILU_OK to SPRONDILU_RETRY, tentative; 5 to 8, from
+ * SPRONDILU_FINAL_OK on, are the result plus 4, final.
  *
  * The answer has the number in bits 0 to 7, the first of these that applies, and SPRONDILU_DONE if none does:
  *   SPRONDILU_BAD_MESSAGE    n is not 3, 5 or 7; or replies_len is no multiple of SPRONDILU_COUNTED_BYTES; or in a reply
@@ -190,20 +271,25 @@ uint8_t sprondilu_merge(const uint8_t *run, size_t run_len, uint32_t view, uint8
  * its kind, and only then its result. No byte changes.
  *
  * What may be done with an answer, by rules 2, 3, 4 and 7 of 01:
- *   SPRONDILU_FAST           the result may be declared final
+ *   SPRONDILU_FAST           the result may be declared final at once; it may also be sent in message 2, for the view of
+ *                            the replies, so that boxes hold it as final
  *   SPRONDILU_SLOW           the result may be sent in message 2, for the view of the replies; it may be declared final
  *                            once f+1 different boxes have confirmed it in that view, with SPRONDILU_DONE
  *   SPRONDILU_WAIT           nothing yet: there are fewer than f+1 replies, and nothing is decided
  * A result that was sent or declared stays the only one for its stamp in that view, whatever more replies would come to;
  * and once an outcome was proposed for the stamp, nothing more is sent in message 2 or declared.
+ * An OK that was declared is not recorded yet: it will be, if the coordinator lives. An entry is recorded when f+1 different
+ * boxes have accepted its commit in one view, each by a reply to message 3 with SPRONDILU_DONE, and not before.
  */
+SPRONDILU_MUST_USE
 uint64_t sprondilu_count(uint8_t n, const uint8_t *replies, size_t replies_len);
 
 /*
- * One reply as sprondilu_count_records takes it. From the 24 bytes, the first being byte 0, of a reply of sprondilu_answer
- * to message 1 or 2 whose number is SPRONDILU_DONE: `box` is byte 2; `view` is bytes 4 to 7 and `retry` bytes 16 to 23, as
- * numbers whose first byte counts most; byte 3 is the state byte: if it is 1 to 4 it is `result`, and `is_final` is 0; if it
- * is 5 to 8 `result` is 4 less, and `is_final` is 1.
+ * One reply as sprondilu_count_records takes it. From the 24 bytes of a reply of sprondilu_answer to message 1 or 2 whose
+ * number is SPRONDILU_DONE: `box` is the byte at SPRONDILU_REPLY_BOX; `view` is the 4 bytes from SPRONDILU_REPLY_VIEW on and
+ * `retry` the 8 from SPRONDILU_REPLY_VALUE on, as numbers whose first byte counts most; the byte at SPRONDILU_REPLY_STATE is
+ * the state byte: if it is 1 to 4 it is `result`, and `is_final` is 0; if it is 5 to 8 `result` is 4 less, and `is_final`
+ * is 1.
  */
 typedef struct sprondilu_record {
     uint8_t box;
@@ -232,6 +318,7 @@ SPRONDILU_ASSERT(SPRONDILU_ALIGN_OF(sprondilu_record) == 8, "a record is aligned
  * that; more than seven records are SPRONDILU_BAD_MESSAGE, whatever they are, since no group has so many boxes.
  * The padding of a record, its byte that is part of no field, is not looked at. No byte changes.
  */
+SPRONDILU_MUST_USE
 uint64_t sprondilu_count_records(uint8_t n, const sprondilu_record *records, size_t records_len);
 
 /* The kind of an answer of either count whose number is SPRONDILU_DONE, and the kinds. */
@@ -246,6 +333,7 @@ uint64_t sprondilu_count_records(uint8_t n, const sprondilu_record *records, siz
 
 #undef SPRONDILU_ASSERT
 #undef SPRONDILU_ALIGN_OF
+#undef SPRONDILU_MUST_USE
 
 #ifdef __cplusplus
 }

@@ -1,11 +1,13 @@
-//! The C header: what a C program and a C++ program see through it, compiled with every warning an error.
+//! The C header: what a C program and a C++ program see through it, compiled with every warning an error; its constants, and
+//! that an answer which is not used is warned of.
 
 mod common;
 
 use common::{assert_done, compile, here, made};
 use std::collections::BTreeSet;
 use std::fs;
-use std::process::Command;
+use std::path::PathBuf;
+use std::process::{Command, Output};
 
 /// What `fresh.c` has to print; the images are those of the paper, and so is the reply, but for the last image: the paper's
 /// row as a merge settles it. Of a count the answer stands behind its parts, whole, and then that of the records.
@@ -105,19 +107,61 @@ const CPP: &str = "#include \"sprondilu.h\"\n\
     && SPRONDILU_RESULT_OF(sprondilu_count_records(3, records, 2)) == SPRONDILU_OK ? 0 : 1;\n\
     }\n";
 
+/// The compilers of a language, and the standards of it by which the header is marked in one way or another.
+struct Language {
+    ending: &'static str,
+    compilers: [&'static str; 3],
+    standards: &'static [&'static str],
+    /// An assertion while compiling.
+    asserts: &'static str,
+}
+
+const LANGUAGES: [Language; 2] = [
+    Language {
+        ending: "c",
+        compilers: ["cc", "gcc", "clang"],
+        standards: &["-std=c11"],
+        asserts: "_Static_assert",
+    },
+    Language {
+        ending: "cpp",
+        compilers: ["c++", "g++", "clang++"],
+        standards: &["-std=c++11", "-std=c++17"],
+        asserts: "static_assert",
+    },
+];
+
+/// Where the program of that name is, as one compiler makes it by one standard.
+fn program(name: &str, how: &str) -> PathBuf {
+    made(&format!("{} {}", name, how))
+}
+
+/// Compiles a source by every standard with every compiler of the language that is here, and links it. Without a C compiler
+/// nothing of this can be tried; without one of C++ that is said.
+fn compiled(language: &Language, name: &str, source: &str) -> Vec<(String, Output)> {
+    let sources = [made(&format!("{}.{}", name, language.ending))];
+    fs::write(&sources[0], source).expect("a source");
+    let mut found = Vec::new();
+    for compiler in language.compilers {
+        for standard in language.standards {
+            let how = format!("{} {}", compiler, standard);
+            let done = compile(compiler, standard, &sources, &program(name, &how));
+            found.extend(done.map(|done| (how, done)));
+        }
+    }
+    if found.is_empty() {
+        assert_eq!(language.ending, "cpp", "there is no C compiler here");
+        eprintln!("There is no C++ compiler here: {} was not tried.", name);
+    }
+    found
+}
+
 #[test]
 fn a_cpp_program_links_the_same_calls() {
-    let (sources, program) = ([made("calls.cpp")], made("calls"));
-    fs::write(&sources[0], CPP).expect("a source");
-    let mut compilers = ["c++", "g++", "clang++"].iter();
-    let compiled = compilers.find_map(|name| compile(name, "-std=c++11", &sources, &program));
-    match compiled {
-        Some(done) => {
-            assert_done("the C++ compiler", &done);
-            let run = Command::new(&program).output().expect("a program");
-            assert_done("the program", &run);
-        }
-        None => eprintln!("There is no C++ compiler here: that the header is C++ was not tried."),
+    for (how, done) in compiled(&LANGUAGES[1], "calls", CPP) {
+        assert_done(&how, &done);
+        let run = Command::new(program("calls", &how)).output();
+        assert_done(&how, &run.expect("a program"));
     }
 }
 
@@ -134,16 +178,227 @@ fn symbols(letters: &str) -> BTreeSet<String> {
         .collect()
 }
 
+fn header() -> String {
+    fs::read_to_string(here("../../include/sprondilu.h")).expect("the header")
+}
+
 /// The calls that the header declares, each on a line that begins with the type of its answer.
 fn declared() -> BTreeSet<String> {
-    let header = fs::read_to_string(here("../../include/sprondilu.h")).expect("the header");
-    header
+    header()
         .lines()
         .filter(|line| line.starts_with("uint"))
         .filter_map(|line| line.split(&[' ', '('][..]).nth(1))
         .map(str::to_string)
         .collect()
 }
+
+// ---- The constants.
+
+/// Sentences of the paper, as the papers here have them, and the constants that each fixes: the name behind `SPRONDILU_`, and
+/// the value. Message 3 is the longest but message 6: 1, 8, 1 and 2 bytes, and eight accesses of 9.
+const FIXED: [(&str, &[(&str, u32)]); 29] = [
+    ("done: none below applies", &[("DONE", 0)]),
+    ("small buffer: table or output", &[("SMALL_BUFFER", 1)]),
+    ("bad table: the lent table", &[("BAD_TABLE", 2)]),
+    ("bad message: kind, length", &[("BAD_MESSAGE", 3)]),
+    ("changing: messages 1 to 4", &[("CHANGING", 4)]),
+    ("other body: the stamp is", &[("OTHER_BODY", 5)]),
+    ("contradiction: an unequal", &[("CONTRADICTION", 6)]),
+    ("full: a new stamp with 512", &[("FULL", 7)]),
+    ("unknown: finalising a part", &[("UNKNOWN", 8)]),
+    ("other view: message 2 or 4", &[("OTHER_VIEW", 9)]),
+    ("old view: message 5 with v", &[("OLD_VIEW", 10)]),
+    ("wrong tables: merge: not", &[("WRONG_TABLES", 11)]),
+    (
+        "A table buffer has at least 49,176 bytes.",
+        &[("TABLE_BYTES", 49_176)],
+    ),
+    (
+        "Header, 24 bytes: format 1; box; n; mode (0 normal, 1 changing); then 4 bytes each: rows, view (last normal), promised",
+        &[("TABLE_BOX", 1), ("TABLE_N", 2), ("TABLE_PROMISED", 12)],
+    ),
+    (
+        "1 propose prepare: kind, stamp, two counts, body.",
+        &[("PROPOSE_PREPARE", 1)],
+    ),
+    (
+        "2 finalise prepare: kind, stamp, view 4, result 1 to 4, retry stamp",
+        &[("FINALISE_PREPARE", 2)],
+    ),
+    (
+        "3 propose outcome: kind, stamp, 1 commit or 2 abort, counts, body.",
+        &[
+            ("PROPOSE_OUTCOME", 3),
+            ("OUTCOME_COMMIT", 1),
+            ("OUTCOME_ABORT", 2),
+            ("SMALL_MESSAGE_BYTES", 1 + 8 + 1 + 2 + 8 * 9),
+        ],
+    ),
+    (
+        "4 finalise outcome: kind, stamp, view 4, 1 or 2.",
+        &[("FINALISE_OUTCOME", 4)],
+    ),
+    ("5 change view: kind, v 4.", &[("CHANGE_VIEW", 5)]),
+    (
+        "6 start view: kind, v 4, image.",
+        &[
+            ("START_VIEW", 6),
+            ("START_VIEW_IMAGE", 5),
+            ("MESSAGE_BYTES", 5 + 49_176),
+        ],
+    ),
+    ("7 read: kind, stamp, register.", &[("READ", 7)]),
+    (
+        "Reply, 24 bytes: number 0, kind, box, state byte",
+        &[
+            ("REPLY_BYTES", 24),
+            ("REPLY_NUMBER", 0),
+            ("REPLY_KIND", 1),
+            ("REPLY_BOX", 2),
+            ("REPLY_STATE", 3),
+        ],
+    ),
+    (
+        "last normal view after the call 4, stamp 8, value 8.",
+        &[("REPLY_VIEW", 4), ("REPLY_STAMP", 8), ("REPLY_VALUE", 16)],
+    ),
+    (
+        "Prepare: 0 none; 1 to 4 tentative OK, ABORT, ABSTAIN, RETRY;",
+        &[
+            ("TENTATIVE_OK", 1),
+            ("TENTATIVE_ABORT", 2),
+            ("TENTATIVE_ABSTAIN", 3),
+            ("TENTATIVE_RETRY", 4),
+        ],
+    ),
+    (
+        "5 to 8 the same, final.",
+        &[
+            ("FINAL_OK", 5),
+            ("FINAL_ABORT", 6),
+            ("FINAL_ABSTAIN", 7),
+            ("FINAL_RETRY", 8),
+        ],
+    ),
+    (
+        "Outcome: 0 none, 1 commit noted, 2 abort noted, 3 commit done, 4 abort done.",
+        &[
+            ("COMMIT_NOTED", 1),
+            ("ABORT_NOTED", 2),
+            ("COMMIT_DONE", 3),
+            ("ABORT_DONE", 4),
+        ],
+    ),
+    (
+        "finalise prepare: kind, stamp, view 4, result 1 to 4",
+        &[("OK", 1), ("ABORT", 2), ("ABSTAIN", 3), ("RETRY", 4)],
+    ),
+    (
+        "list of small records: box, view, result with its retry stamp, final or not.",
+        &[("COUNTED_BYTES", 1 + 4 + 1 + 8 + 1)],
+    ),
+    (
+        "(0 wait, 1 fast, 2 slow)",
+        &[("WAIT", 0), ("FAST", 1), ("SLOW", 2)],
+    ),
+];
+
+/// The constants that are fixed, with their values.
+fn fixed() -> Vec<(&'static str, u32)> {
+    let constants = FIXED.iter().flat_map(|(_, constants)| constants.iter());
+    constants.copied().collect()
+}
+
+/// A source that does not compile unless the constants have these values.
+fn asserting(language: &Language, constants: &[(&str, u32)]) -> String {
+    let asserts = constants.iter().map(|(name, value)| {
+        let said = format!("SPRONDILU_{} == {}", name, value);
+        format!("{}({}, \"{}\");\n", language.asserts, said, said)
+    });
+    let asserts: String = asserts.collect();
+    let main = "int main(void)\n{\n    return 0;\n}\n";
+    format!("#include \"sprondilu.h\"\n{}{}", asserts, main)
+}
+
+#[test]
+fn the_constants_are_those_of_the_paper() {
+    for language in &LANGUAGES {
+        for (how, done) in compiled(language, "constants", &asserting(language, &fixed())) {
+            assert_done(&how, &done);
+        }
+        let mut other = fixed();
+        let (name, value) = other.last_mut().expect("a constant");
+        *value += 1;
+        let said = format!("SPRONDILU_{} == {}", name, value);
+        for (how, done) in compiled(language, "other", &asserting(language, &other)) {
+            let error = String::from_utf8_lossy(&done.stderr);
+            assert!(!done.status.success(), "{} passes over {}", how, said);
+            assert!(error.contains(&said), "{}: {}", how, error);
+        }
+    }
+}
+
+/// Every constant of the header that is a number has a sentence, and every sentence is in the papers.
+#[test]
+fn no_constant_is_without_a_sentence() {
+    let claims = fs::read_to_string(here("../../docs/CLAIMS.md")).expect("the claims");
+    for (sentence, _) in FIXED {
+        assert!(claims.contains(sentence), "{}", sentence);
+    }
+    let header = header();
+    let numbers = header.lines().filter_map(|line| {
+        let constant = line.strip_prefix("#define SPRONDILU_")?;
+        let (name, value) = constant.split_once(' ')?;
+        Some((name, value.parse::<u32>().ok()?))
+    });
+    let numbers: BTreeSet<(&str, u32)> = numbers.collect();
+    let fixed: BTreeSet<(&str, u32)> = fixed().into_iter().collect();
+    assert_eq!(numbers, fixed);
+}
+
+// ---- Answers that are not used.
+
+/// A use of each call, with nothing lent.
+const USES: [&str; 6] = [
+    "sprondilu_fresh(NULL, 0, 3, 0)",
+    "sprondilu_valid(NULL, 0)",
+    "sprondilu_answer(NULL, 0, NULL, 0, NULL, 0)",
+    "sprondilu_merge(NULL, 0, 1, NULL, 0)",
+    "sprondilu_count(3, NULL, 0)",
+    "sprondilu_count_records(3, NULL, 0)",
+];
+
+/// A program of statements, one for each call.
+fn using(statement: fn(&str) -> String) -> String {
+    let statements: String = USES.iter().map(|used| statement(used)).collect();
+    format!(
+        "#include \"sprondilu.h\"\nint main(void)\n{{\n    unsigned long long sum = 0;\n{}    return sum == 42;\n}}\n",
+        statements
+    )
+}
+
+#[test]
+fn an_answer_that_is_not_used_is_warned_of() {
+    let used: BTreeSet<&str> = USES.iter().filter_map(|u| u.split('(').next()).collect();
+    assert!(declared().iter().eq(used), "a call is not tried");
+    for language in &LANGUAGES {
+        let looked_at = using(|call| format!("    sum += {};\n", call));
+        for (how, done) in compiled(language, "used", &looked_at) {
+            assert_done(&how, &done);
+            assert!(done.stderr.is_empty(), "{}: {:?}", how, done);
+        }
+        let dropped = using(|call| format!("    {};\n", call));
+        for (how, done) in compiled(language, "unused", &dropped) {
+            let error = String::from_utf8_lossy(&done.stderr);
+            assert!(!done.status.success(), "{} passes over it", how);
+            let warned = error.matches("error=unused-result").count()
+                + error.matches("Werror,-Wunused-result").count();
+            assert_eq!(warned, USES.len(), "{}: {}", how, error);
+        }
+    }
+}
+
+// ---- The archive.
 
 #[test]
 fn the_library_has_the_calls_of_the_header() {
