@@ -124,7 +124,8 @@ bool box_start(struct box *box, uint8_t number)
     if (box->sequence > 0) {
         size_t length = number_at(newest + 8, 4);
         memcpy(box->table, newest + SLOT_HEAD, length);
-        box->answers = image_length(box->table) == length && box->table[1] == number && box->table[2] == BOXES;
+        box->answers = image_length(box->table) == length && box->table[SPRONDILU_TABLE_BOX] == number &&
+                       box->table[SPRONDILU_TABLE_N] == BOXES;
     }
     return box->answers;
 }
@@ -177,11 +178,11 @@ void box_receive(struct box *box, const uint8_t *message, size_t length)
     }
 }
 
-/* ---- Messages 1 to 4 and 7, which begin with kind and stamp. The longest is message 3 with eight accesses. */
+/* ---- Messages 1 to 4 and 7, which begin with kind and stamp. */
 
 struct letter {
     size_t length;
-    uint8_t bytes[84];
+    uint8_t bytes[SPRONDILU_SMALL_MESSAGE_BYTES];
 };
 
 static void add(struct letter *letter, uint64_t number, size_t width)
@@ -208,6 +209,30 @@ static struct letter letter_about(uint8_t kind, uint64_t stamp)
     return letter;
 }
 
+/* ---- Replies, by the places of their parts. */
+
+static uint32_t view_of(const uint8_t *reply)
+{
+    return (uint32_t)number_at(reply + SPRONDILU_REPLY_VIEW, 4);
+}
+
+static uint64_t stamp_of(const uint8_t *reply)
+{
+    return number_at(reply + SPRONDILU_REPLY_STAMP, 8);
+}
+
+static uint64_t value_of(const uint8_t *reply)
+{
+    return number_at(reply + SPRONDILU_REPLY_VALUE, 8);
+}
+
+/* Whether a reply is numbered 0, and to a message of this kind from this box: an old one may come in late. */
+static bool is_done(const uint8_t *reply, uint8_t kind, uint8_t box)
+{
+    return reply != NULL && reply[SPRONDILU_REPLY_NUMBER] == SPRONDILU_DONE && reply[SPRONDILU_REPLY_KIND] == kind &&
+           reply[SPRONDILU_REPLY_BOX] == box;
+}
+
 /* ---- The coordinator. */
 
 /* Rule 5: whether a box has given this coordinator an answer numbered 0, of whatever kind, and the latest view so. */
@@ -223,36 +248,32 @@ unsigned how_many(const bool *marks)
     return marked;
 }
 
-/* Whether a reply is numbered 0, and to a message of this kind from this box: an old one may come in late. */
-static bool is_done(const uint8_t *reply, uint8_t kind, uint8_t box)
-{
-    return reply != NULL && reply[0] == SPRONDILU_DONE && reply[1] == kind && reply[2] == box;
-}
-
 /* The reply to a message if its number is 0, else NULL. A refusal says nothing but its number. */
 static const uint8_t *ask(uint8_t box, const struct letter *letter, uint8_t *refusal)
 {
     const uint8_t *reply = radio_ask(box, letter->bytes, letter->length);
-    *refusal = reply == NULL ? SPRONDILU_DONE : reply[0];
+    *refusal = reply == NULL ? SPRONDILU_DONE : reply[SPRONDILU_REPLY_NUMBER];
     if (!is_done(reply, letter->bytes[0], box)) {
         return NULL;
     }
-    uint32_t view = (uint32_t)number_at(reply + 4, 4);
-    if (!has_answered[box] || answered_in[box] < view) {
-        answered_in[box] = view;
+    if (!has_answered[box] || answered_in[box] < view_of(reply)) {
+        answered_in[box] = view_of(reply);
     }
     has_answered[box] = true;
     return reply;
 }
 
+/* The state byte of a final result lies so far above the result's code. */
+#define FINAL (SPRONDILU_FINAL_OK - SPRONDILU_OK)
+
 /* A reply to message 1 or 2, for the count. Once a later view was heard, replies of older ones count no more. */
 static void take_record(struct transaction *t, const uint8_t *reply)
 {
-    sprondilu_record record = {.box = reply[2], .is_final = reply[3] > SPRONDILU_RETRY};
+    sprondilu_record record = {.box = reply[SPRONDILU_REPLY_BOX], .view = view_of(reply), .retry = value_of(reply)};
+    uint8_t state = reply[SPRONDILU_REPLY_STATE];
     size_t place = 0;
-    record.result = record.is_final ? (uint8_t)(reply[3] - SPRONDILU_RETRY) : reply[3];
-    record.view = (uint32_t)number_at(reply + 4, 4);
-    record.retry = number_at(reply + 16, 8);
+    record.is_final = state >= SPRONDILU_FINAL_OK;
+    record.result = record.is_final ? (uint8_t)(state - FINAL) : state;
     if (t->declared || record.view < t->view) {
         return;
     }
@@ -269,31 +290,56 @@ static void take_record(struct transaction *t, const uint8_t *reply)
     t->heard += place == t->heard;
 }
 
+/*
+ * What the grower is told. Only f+1 acceptances in one view make an entry recorded: an OK that was declared, and a
+ * commit that the handset has stored, are lost with the handset, since nobody goes on in its place.
+ */
+static void tell(struct transaction *t)
+{
+    enum told now = NOTHING_YET;
+    if (t->recorded) {
+        now = RECORDED;
+    } else if (t->stopped) {
+        now = IN_DOUBT;
+    } else if (t->outcome == SPRONDILU_OUTCOME_ABORT) {
+        now = NOT_RECORDED;
+    } else if (t->declared && t->result == SPRONDILU_OK) {
+        now = WILL_BE_RECORDED;
+    }
+    if (t->told != now) {
+        t->told = now;
+        handset_show(t);
+    }
+}
+
 static void send_to(struct transaction *t, uint8_t box, const struct letter *letter)
 {
     uint8_t refusal = SPRONDILU_DONE;
     const uint8_t *reply = t->stopped ? NULL : ask(box, letter, &refusal);
     t->stopped = t->stopped || refusal == SPRONDILU_OTHER_BODY || refusal == SPRONDILU_CONTRADICTION;
     t->full[box] = refusal == SPRONDILU_FULL || (t->full[box] && reply == NULL);
-    if (reply == NULL || number_at(reply + 8, 8) != t->stamp) {
+    if (t->stopped) {
+        tell(t);
+    }
+    if (reply == NULL || stamp_of(reply) != t->stamp) {
         return; /* of another stamp, or late: nothing is taken from it */
     }
-    uint32_t view = (uint32_t)number_at(reply + 4, 4);
-    switch (reply[1]) {
-    case PROPOSE_PREPARE:
+    uint8_t state = reply[SPRONDILU_REPLY_STATE];
+    switch (reply[SPRONDILU_REPLY_KIND]) {
+    case SPRONDILU_PROPOSE_PREPARE:
         take_record(t, reply);
         break;
-    case FINALISE_PREPARE:
+    case SPRONDILU_FINALISE_PREPARE:
         take_record(t, reply);
-        if (view == t->view && reply[3] == t->result + SPRONDILU_RETRY && number_at(reply + 16, 8) == t->retry) {
+        if (view_of(reply) == t->view && state == t->result + FINAL && value_of(reply) == t->retry) {
             t->confirmed[box] = true;
         }
         break;
-    case PROPOSE_OUTCOME:
+    case SPRONDILU_PROPOSE_OUTCOME:
         t->accepted[box] = true;
-        t->accepted_in[box] = view;
+        t->accepted_in[box] = view_of(reply);
         break;
-    case FINALISE_OUTCOME:
+    case SPRONDILU_FINALISE_OUTCOME:
         t->done[box] = true;
         break;
     }
@@ -305,7 +351,11 @@ void prepare(struct transaction *t)
     if (t->outcome != NO_OUTCOME) {
         return; /* rule 7: nothing is counted any more, so nothing is declared */
     }
-    struct letter letter = letter_about(PROPOSE_PREPARE, t->stamp);
+    t->begun = t->begun || handset_store(t);
+    if (!t->begun) {
+        return; /* rule 1: a stamp that could be forgotten could go out with a second body */
+    }
+    struct letter letter = letter_about(SPRONDILU_PROPOSE_PREPARE, t->stamp);
     add_body(&letter, &t->body);
     for (uint8_t box = 0; box < BOXES; box++) {
         send_to(t, box, &letter);
@@ -321,6 +371,7 @@ void prepare(struct transaction *t)
         t->retry = SPRONDILU_RETRY_OF(answer);
         t->declared = SPRONDILU_KIND_OF(answer) == SPRONDILU_FAST;
     }
+    tell(t);
 }
 
 /* Message 2 with the slow result, for the view of the replies; declared once f+1 boxes have confirmed it there. */
@@ -329,7 +380,7 @@ void confirm(struct transaction *t)
     if (t->outcome != NO_OUTCOME || t->declared || t->result == 0) {
         return; /* rule 7; what was declared stays so; and rule 3: without a result there is nothing to send */
     }
-    struct letter letter = letter_about(FINALISE_PREPARE, t->stamp);
+    struct letter letter = letter_about(SPRONDILU_FINALISE_PREPARE, t->stamp);
     add(&letter, t->view, 4);
     add(&letter, t->result, 1);
     add(&letter, t->retry, 8);
@@ -337,18 +388,19 @@ void confirm(struct transaction *t)
         send_to(t, box, &letter);
     }
     t->declared = !t->stopped && how_many(t->confirmed) >= QUORUM;
+    tell(t);
 }
 
 /* Message 7, which any box may be asked at any time: the version and the value of a register as this box has them. */
 bool read_register(uint8_t box, uint64_t stamp, uint8_t reg, uint64_t *version, uint64_t *value)
 {
     uint8_t refusal;
-    struct letter letter = letter_about(READ, stamp);
+    struct letter letter = letter_about(SPRONDILU_READ, stamp);
     add(&letter, reg, 1);
     const uint8_t *reply = ask(box, &letter, &refusal);
     if (reply != NULL) {
-        *version = number_at(reply + 8, 8);
-        *value = number_at(reply + 16, 8);
+        *version = stamp_of(reply);
+        *value = value_of(reply);
     }
     return reply != NULL;
 }
@@ -379,33 +431,54 @@ static bool accepted_in_one(const struct transaction *t, uint32_t *view)
     return false;
 }
 
-/* Messages 3 and 4, as often as it takes: to propose the same again is no harm, and finds who missed it. */
-static void propose(struct transaction *t, uint8_t outcome)
+/* Rule 5: whether an outcome may be proposed. It is stored first: after a power cut the handset goes on with it. */
+static bool take_outcome(struct transaction *t, uint8_t outcome)
 {
-    uint32_t view;
+    uint8_t before = t->outcome;
     if (t->stopped || (t->outcome != NO_OUTCOME && t->outcome != outcome)) {
-        return; /* rule 5: never both outcomes */
+        return false; /* never both outcomes */
     }
     t->outcome = outcome;
-    struct letter letter = letter_about(PROPOSE_OUTCOME, t->stamp);
-    add(&letter, t->outcome, 1);
-    add_body(&letter, &t->body);
-    for (uint8_t box = 0; box < BOXES; box++) {
-        if (t->outcome == ABORT || may_commit(t, box)) {
-            send_to(t, box, &letter);
-        }
+    if (before == NO_OUTCOME && !handset_store(t)) {
+        t->outcome = NO_OUTCOME; /* nothing was sent: it may be tried again */
+        return false;
     }
-    if (!accepted_in_one(t, &view)) {
-        return;
-    }
-    t->recorded = t->outcome == COMMIT; /* from here on it stands in every view, whatever becomes of this program */
-    letter = letter_about(FINALISE_OUTCOME, t->stamp);
+    return true;
+}
+
+/* Message 4, to those that have accepted message 3. */
+static void finish(struct transaction *t, uint32_t view)
+{
+    struct letter letter = letter_about(SPRONDILU_FINALISE_OUTCOME, t->stamp);
     add(&letter, view, 4);
     add(&letter, t->outcome, 1);
     for (uint8_t box = 0; box < BOXES; box++) {
         if (t->accepted[box]) {
             send_to(t, box, &letter);
         }
+    }
+}
+
+/* Messages 3 and 4, as often as it takes: to propose the same again is no harm, and finds who missed it. */
+static void propose(struct transaction *t, uint8_t outcome)
+{
+    uint32_t view;
+    if (!take_outcome(t, outcome)) {
+        return;
+    }
+    tell(t);
+    struct letter letter = letter_about(SPRONDILU_PROPOSE_OUTCOME, t->stamp);
+    add(&letter, t->outcome, 1);
+    add_body(&letter, &t->body);
+    for (uint8_t box = 0; box < BOXES; box++) {
+        if (t->outcome == SPRONDILU_OUTCOME_ABORT || may_commit(t, box)) {
+            send_to(t, box, &letter);
+        }
+    }
+    if (accepted_in_one(t, &view)) {
+        t->recorded = t->outcome == SPRONDILU_OUTCOME_COMMIT; /* from here on every merge for a later view has it */
+        tell(t);
+        finish(t, view);
     }
 }
 
@@ -418,14 +491,20 @@ void conclude(struct transaction *t)
     if (t->outcome != NO_OUTCOME) {
         propose(t, t->outcome);
     } else if (t->declared) { /* rule 5: of a result that is not declared nothing follows */
-        propose(t, t->result == SPRONDILU_OK ? COMMIT : ABORT);
+        propose(t, t->result == SPRONDILU_OK ? SPRONDILU_OUTCOME_COMMIT : SPRONDILU_OUTCOME_ABORT);
     }
 }
 
-/* Abort without a result, or against one: allowed until commit was proposed or anybody was told that it is recorded. */
+/* Abort without a result, or against one: allowed until commit was proposed. Nobody was told "recorded" by then. */
 void give_up(struct transaction *t)
 {
-    propose(t, ABORT);
+    propose(t, SPRONDILU_OUTCOME_ABORT);
+}
+
+/* After a power cut of the handset, with what it has stored: that outcome again, or abort where it had stored none. */
+void resume(struct transaction *t)
+{
+    propose(t, t->outcome != NO_OUTCOME ? t->outcome : SPRONDILU_OUTCOME_ABORT);
 }
 
 /* One round, to be repeated after a loss: 4, 8 and 9 are met by message 1 again or, with an outcome, by message 3. */
@@ -442,7 +521,8 @@ void advance(struct transaction *t)
 /* ---- The view change, made by the box whose number is the view's modulo n. */
 
 static uint8_t run[QUORUM * SPRONDILU_TABLE_BYTES];
-static uint8_t start_message[5 + SPRONDILU_TABLE_BYTES]; /* kept for as long as a box may be late */
+static uint8_t start_message[SPRONDILU_MESSAGE_BYTES]; /* kept for as long as a box may be late */
+static uint8_t *const start_image = start_message + SPRONDILU_START_VIEW_IMAGE;
 static size_t start_length;
 
 /*
@@ -451,7 +531,7 @@ static size_t start_length;
  */
 bool merge_next_view(uint8_t starter, uint32_t promised)
 {
-    uint8_t message[5] = {CHANGE_VIEW};
+    uint8_t message[] = {SPRONDILU_CHANGE_VIEW, 0, 0, 0, 0};
     uint32_t view = promised + 1;
     size_t run_length = 0;
     unsigned images = 0;
@@ -462,7 +542,7 @@ bool merge_next_view(uint8_t starter, uint32_t promised)
     for (uint8_t turn = 0; turn < BOXES && images < QUORUM; turn++) {
         uint8_t box = (uint8_t)((starter + turn) % BOXES);
         const uint8_t *reply = radio_ask(box, message, sizeof message);
-        if (is_done(reply, CHANGE_VIEW, box) && number_at(reply + 8, 8) == view) {
+        if (is_done(reply, SPRONDILU_CHANGE_VIEW, box) && stamp_of(reply) == view) {
             size_t length = radio_fetch_image(box, run + run_length);
             run_length += length;
             images += length > 0; /* for one that did not arrive the next box may stand in */
@@ -473,16 +553,16 @@ bool merge_next_view(uint8_t starter, uint32_t promised)
     if (images < QUORUM) {
         return false; /* too few have promised, or too few images came: a later view may mend it */
     }
-    uint8_t number = sprondilu_merge(run, run_length, view, start_message + 5, SPRONDILU_TABLE_BYTES);
+    uint8_t number = sprondilu_merge(run, run_length, view, start_image, SPRONDILU_TABLE_BYTES);
     if (number != SPRONDILU_DONE) {
         if (number != SPRONDILU_WRONG_TABLES) { /* 11: one of them has promised a later view since */
             box_report(starter, "the tables could not be merged");
         }
         return false;
     }
-    start_message[0] = START_VIEW;
+    start_message[0] = SPRONDILU_START_VIEW;
     put_number(start_message + 1, view, 4);
-    start_length = 5 + image_length(start_message + 5);
+    start_length = SPRONDILU_START_VIEW_IMAGE + image_length(start_image);
     return true;
 }
 
@@ -490,5 +570,5 @@ bool merge_next_view(uint8_t starter, uint32_t promised)
 bool start_view(uint8_t box)
 {
     const uint8_t *reply = radio_ask(box, start_message, start_length);
-    return is_done(reply, START_VIEW, box) && number_at(reply + 4, 4) == number_at(start_message + 1, 4);
+    return is_done(reply, SPRONDILU_START_VIEW, box) && view_of(reply) == number_at(start_message + 1, 4);
 }

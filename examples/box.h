@@ -1,6 +1,6 @@
 /*
  * What the parts of the example share: a box, a transaction, the calls of box.c, and what the hardware has to supply.
- * docs/FIRMWARE.md goes through it.
+ * docs/FIRMWARE.md goes through it. Kinds, codes and places of messages and replies are those of sprondilu.h.
  */
 #ifndef BOX_H
 #define BOX_H
@@ -11,10 +11,6 @@
 
 #define BOXES 3  /* n */
 #define QUORUM 2 /* f+1 */
-
-/* The kinds of 01's seven messages, and the codes of its two outcomes. */
-enum { PROPOSE_PREPARE = 1, FINALISE_PREPARE, PROPOSE_OUTCOME, FINALISE_OUTCOME, CHANGE_VIEW, START_VIEW, READ };
-enum { NO_OUTCOME = 0, COMMIT = 1, ABORT = 2 };
 
 /* ---- A box. */
 
@@ -45,7 +41,7 @@ void radio_reply(uint8_t box, const uint8_t *reply);
 /* What a technician or the grower has to see. A box without power shows nothing: it starts from its storage later. */
 void box_report(uint8_t box, const char *what);
 
-/* ---- A transaction, by its coordinator. */
+/* ---- A transaction, by its coordinator, which is a handset here. */
 
 struct access {
     uint8_t reg;
@@ -58,6 +54,17 @@ struct body {
     struct access accesses[8]; /* the reads, then the writes; registers rise in each */
 };
 
+#define NO_OUTCOME 0 /* where there is neither SPRONDILU_OUTCOME_COMMIT nor SPRONDILU_OUTCOME_ABORT */
+
+/* What the grower is told of an entry, in this order; the last two instead of RECORDED, and never after it. */
+enum told {
+    NOTHING_YET,
+    WILL_BE_RECORDED, /* OK was declared: it will be recorded, if the handset lives */
+    RECORDED,         /* f+1 different boxes have accepted its commit in one view, and not before */
+    NOT_RECORDED,     /* abort was proposed, also if OK had been declared: it has to be entered again */
+    IN_DOUBT          /* a rule was broken: somebody has to see to it */
+};
+
 /* All that is known of one stamp. A coordinator that has lost a part of it leaves the stamp alone for good. */
 struct transaction {
     uint64_t stamp;
@@ -68,13 +75,15 @@ struct transaction {
     uint8_t result; /* rule 2: the only one that was sent or declared in that view; 0 for none */
     uint64_t retry;
     bool confirmed[BOXES]; /* rule 4: who has confirmed that result in that view */
-    bool declared;         /* the result stands, but the grower is told nothing yet */
+    bool declared;         /* the result stands; but an OK is no record yet */
     uint8_t outcome;       /* rules 5 and 7: what was proposed; never the other one */
     bool accepted[BOXES];  /* rule 6: who has accepted that, and in which view */
     uint32_t accepted_in[BOXES];
     bool done[BOXES];
-    bool recorded;    /* f+1 have accepted the commit in one view: now the grower may be told */
+    bool recorded;    /* f+1 have accepted the commit in one view: it stands, whatever becomes of the handset */
+    enum told told;   /* what the grower was told last */
     bool full[BOXES]; /* who had no room for this stamp: the grower has to hear of it */
+    bool begun;       /* stamp and body are stored, so that message 1 may go out */
     bool stopped;     /* a rule was broken, or a reply changed on its way: nothing more is sent */
 };
 
@@ -84,7 +93,21 @@ void confirm(struct transaction *t);
 void conclude(struct transaction *t);
 void give_up(struct transaction *t);
 void advance(struct transaction *t);
+void resume(struct transaction *t);
 bool read_register(uint8_t box, uint64_t stamp, uint8_t reg, uint64_t *version, uint64_t *value);
+
+/* ---- What the handset supplies. */
+
+/*
+ * Keeps what is known of a stamp through a power cut, and says whether it does. It is called before the first message
+ * 1, so that the stamp is never used for another body, and before the first message 3, so that the handset goes on with
+ * that outcome and never with the other. What it keeps is lost with the handset: because of it nobody is told
+ * "recorded".
+ */
+bool handset_store(const struct transaction *t);
+
+/* Shows the grower what `told` says, each step once. */
+void handset_show(const struct transaction *t);
 
 /* ---- The view change. */
 

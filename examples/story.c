@@ -139,10 +139,88 @@ static bool has_reported(uint8_t box)
     return has;
 }
 
+/* ---- In place of a handset: what it has stored, and what its grower was told of each entry. */
+
+#define ENTRIES 11 /* A to K, at the times 1 to 11 */
+#define LAST_VIEW 4
+#define WILL ": will be recorded, if the handset lives"
+#define NOT ": not recorded, to be entered again"
+static const char *const words[] = {"", WILL, ": recorded", NOT, ": in doubt, somebody has to see to it"};
+
+static struct transaction stored[ENTRIES];
+static bool handset_fails; /* stores nothing any more */
+static enum told told[ENTRIES];
+
+static size_t entry_of(const struct transaction *t)
+{
+    return (size_t)(t->stamp >> 16) - 1;
+}
+
+bool handset_store(const struct transaction *t)
+{
+    if (!handset_fails) {
+        stored[entry_of(t)] = *t;
+    }
+    return !handset_fails;
+}
+
+/* Power of the handset is back. Nothing of what stood in its memory is left, but it has what it had stored. */
+static void restart_handset(struct transaction *t)
+{
+    *t = stored[entry_of(t)];
+    resume(t);
+}
+
+/* Whether a box's table holds the commit of a stamp, noted or done, by the image: rows of 24 bytes behind as many. */
+static bool holds_commit(const uint8_t *table, uint64_t stamp)
+{
+    const uint8_t *row = table + 24;
+    const uint8_t *end = row + 24 * number_at(table + 4, 4);
+    while (row < end && number_at(row, 8) != stamp) {
+        row += 24;
+    }
+    return row < end && (row[23] == SPRONDILU_COMMIT_NOTED || row[23] == SPRONDILU_COMMIT_DONE);
+}
+
+/* Whether f+1 boxes that are in this view hold the commit of a stamp. */
+static bool enough_hold(uint32_t view, uint64_t stamp)
+{
+    bool holds[BOXES];
+    for (uint8_t box = 0; box < BOXES; box++) {
+        const uint8_t *table = boxes[box].table;
+        holds[box] = number_at(table + 8, 4) == view && holds_commit(table, stamp);
+    }
+    return how_many(holds) >= QUORUM;
+}
+
+/* Whether that is so in one view, by the tables of the boxes and whatever the handset believes. */
+static bool is_recorded(uint64_t stamp)
+{
+    uint32_t view = 0;
+    while (view < LAST_VIEW && !enough_hold(view, stamp)) {
+        view++;
+    }
+    return enough_hold(view, stamp);
+}
+
+/* "Recorded" comes behind "will be recorded", and only where it is true; and what was recorded stays so. */
+void handset_show(const struct transaction *t)
+{
+    char line[120];
+    size_t entry = entry_of(t);
+    bool in_order = told[entry] < t->told && told[entry] != RECORDED;
+    if (t->told == RECORDED) {
+        in_order = told[entry] == WILL_BE_RECORDED && is_recorded(t->stamp);
+    }
+    told[entry] = t->told;
+    snprintf(line, sizeof line, "%c's grower is told%s", 'A' + (int)entry, words[t->told]);
+    step(in_order, line);
+}
+
 /* ---- The story. */
 
 /*
- * Eight transactions: counts of reads and writes, then register and version of each read, register and value of each
+ * The transactions: counts of reads and writes, then register and version of each read, register and value of each
  * write. A version that is yet to be read stands as 0.
  */
 static struct transaction a = {.stamp = STAMP(1, 1), .body = {0, 1, {{5, 7}}}};
@@ -153,6 +231,10 @@ static struct transaction e = {.stamp = STAMP(5, 1), .body = {1, 2, {{5, 0}, {5,
 static struct transaction f = {.stamp = STAMP(6, 1), .body = {0, 1, {{8, 3}}}};
 static struct transaction g = {.stamp = STAMP(7, 2), .body = {1, 1, {{8, 0}, {9, 4}}}};
 static struct transaction h = {.stamp = STAMP(8, 1), .body = {0, 1, {{10, 6}}}};
+static struct transaction i = {.stamp = STAMP(9, 1), .body = {0, 1, {{11, 5}}}};
+static struct transaction j = {.stamp = STAMP(10, 1), .body = {0, 1, {{12, 2}}}};
+static struct transaction k = {.stamp = STAMP(11, 3), .body = {0, 1, {{13, 4}}}};
+static struct transaction k_again = {.stamp = STAMP(11, 3), .body = {0, 1, {{13, 9}}}};
 
 /* What has become of a transaction, in a line, which has to be the expected one. */
 static void show(const char *name, const struct transaction *t, const char *expected)
@@ -164,7 +246,7 @@ static void show(const char *name, const struct transaction *t, const char *expe
              "%s: %zu %s in view %" PRIu32 ", %u confirmations, %s%s; %s accepted by %u, done by %u%s", name, t->heard,
              t->heard == 1 ? "reply" : "replies", t->view, how_many(t->confirmed), results[t->result],
              t->declared ? " declared" : t->result != 0 ? " not declared" : "", outcomes[t->outcome],
-             how_many(t->accepted), how_many(t->done), t->recorded ? ": recorded" : "");
+             how_many(t->accepted), how_many(t->done), words[t->told]);
     step(!t->stopped && strcmp(line, expected) == 0, line);
 }
 
@@ -192,6 +274,8 @@ static void begin(void)
 
 static void fast_and_slow(void)
 {
+    prepare(&a);
+    show("A", &a, "A: 3 replies in view 0, 0 confirmations, OK declared; nothing accepted by 0, done by 0" WILL);
     advance(&a);
     show("A", &a, "A: 3 replies in view 0, 0 confirmations, OK declared; commit accepted by 3, done by 3: recorded");
     reach[2] = OUT_OF_REACH;
@@ -202,9 +286,10 @@ static void fast_and_slow(void)
     confirm(&b);
     reach[1] = OUT_OF_REACH;
     conclude(&b);
-    show("B", &b, "B: 2 replies in view 0, 2 confirmations, OK declared; commit accepted by 1, done by 0");
+    show("B", &b, "B: 2 replies in view 0, 2 confirmations, OK declared; commit accepted by 1, done by 0" WILL);
     give_up(&b);
-    step(b.outcome == COMMIT && !b.stopped, "box 1 missed that; but a commit was proposed, and B cannot be given up");
+    step(b.outcome == SPRONDILU_OUTCOME_COMMIT && !b.stopped,
+         "box 1 missed that: B is not recorded yet; but a commit was proposed, and B cannot be given up");
     reach[1] = IN_REACH;
     advance(&b);
     show("B", &b, "B: 2 replies in view 0, 2 confirmations, OK declared; commit accepted by 2, done by 2: recorded");
@@ -246,12 +331,12 @@ static void clash(void)
     reach[2] = IN_REACH;
     step(d.body.accesses[0].number == a.stamp, "box 2 is back; what D has read, C has written over in the meantime");
     advance(&d);
-    show("D", &d, "D: 3 replies in view 0, 3 confirmations, ABORT declared; abort accepted by 3, done by 3");
+    show("D", &d, "D: 3 replies in view 0, 3 confirmations, ABORT declared; abort accepted by 3, done by 3" NOT);
 }
 
 static uint32_t promised_by(uint8_t box)
 {
-    return (uint32_t)number_at(boxes[box].table + 12, 4);
+    return (uint32_t)number_at(boxes[box].table + SPRONDILU_TABLE_PROMISED, 4);
 }
 
 /* E is prepared in view 0, and the view changes before its result was sent: what was heard in view 0 counts no more. */
@@ -307,10 +392,10 @@ static void one_result(void)
     prepare(&g);
     step(g.records[2].box == 2 && g.records[2].result == SPRONDILU_OK, "box 2 is back, and says OK, as box 1 did");
     advance(&g);
-    show("G", &g, "G: 3 replies in view 1, 2 confirmations, ABSTAIN declared; abort accepted by 2, done by 2");
+    show("G", &g, "G: 3 replies in view 1, 2 confirmations, ABSTAIN declared; abort accepted by 2, done by 2" NOT);
     reach[1] = IN_REACH;
     advance(&g);
-    show("G", &g, "G: 3 replies in view 1, 2 confirmations, ABSTAIN declared; abort accepted by 3, done by 3");
+    show("G", &g, "G: 3 replies in view 1, 2 confirmations, ABSTAIN declared; abort accepted by 3, done by 3" NOT);
 }
 
 /* F again: before message 2 went out its coordinator has waited too long. */
@@ -320,17 +405,17 @@ static void giving_up(void)
     prepare(&f);
     show("F", &f, "F: 2 replies in view 1, 0 confirmations, OK not declared; nothing accepted by 0, done by 0");
     give_up(&f);
-    show("F", &f, "F: 2 replies in view 1, 0 confirmations, OK not declared; abort accepted by 2, done by 2");
+    show("F", &f, "F: 2 replies in view 1, 0 confirmations, OK not declared; abort accepted by 2, done by 2" NOT);
     reach[2] = IN_REACH;
     advance(&f);
     step(f.accepted[2], "box 2 is back, and hears of the abort; nothing more is counted, sent or declared");
-    show("F", &f, "F: 2 replies in view 1, 0 confirmations, OK not declared; abort accepted by 3, done by 3");
+    show("F", &f, "F: 2 replies in view 1, 0 confirmations, OK not declared; abort accepted by 3, done by 3" NOT);
 }
 
 /* As many transactions as a box has room for, in its memory alone: a restart knows nothing of them. */
 static void fill(uint8_t box)
 {
-    uint8_t message[20] = {PROPOSE_PREPARE, [10] = 1, [11] = 63}; /* no read, one write: of register 63 */
+    uint8_t message[20] = {SPRONDILU_PROPOSE_PREPARE, [10] = 1, [11] = 63}; /* no read, one write: of register 63 */
     uint8_t reply[SPRONDILU_REPLY_BYTES];
     uint64_t time = 100;
     do {
@@ -346,11 +431,11 @@ static void full_tables(void)
     fill(1);
     fill(2);
     advance(&h);
-    show("H", &h, "H: 1 reply in view 1, 0 confirmations, no result; abort accepted by 1, done by 0");
+    show("H", &h, "H: 1 reply in view 1, 0 confirmations, no result; abort accepted by 1, done by 0" NOT);
     step(has_reported(1) && has_reported(2) && h.full[1] && h.full[2], "too few boxes have room for H: it is given up");
     step(restart(1) && restart(2), "boxes 1 and 2 have room again");
     advance(&h);
-    show("H", &h, "H: 1 reply in view 1, 0 confirmations, no result; abort accepted by 3, done by 3");
+    show("H", &h, "H: 1 reply in view 1, 0 confirmations, no result; abort accepted by 3, done by 3" NOT);
 }
 
 /* For one box's image another's stands in; and an old reply of a box is not taken for one to message 5 or 6. */
@@ -369,21 +454,83 @@ static void more_views(void)
     step(start_view(1), "box 1 begins view 3");
 }
 
+/* I is declared by all three boxes, and its handset has stored the commit; but one box alone hears of that. */
+static void stored_is_not_recorded(void)
+{
+    handset_fails = true;
+    advance(&i);
+    show("I", &i, "I: 0 replies in view 0, 0 confirmations, no result; nothing accepted by 0, done by 0");
+    handset_fails = false;
+    step(!i.begun, "I's handset could not store it, and nothing went out; now it can");
+    prepare(&i);
+    reach[1] = OUT_OF_REACH;
+    reach[2] = OUT_OF_REACH;
+    conclude(&i);
+    restart_handset(&i);
+    show("I", &i, "I: 3 replies in view 3, 0 confirmations, OK declared; commit accepted by 1, done by 0" WILL);
+    step(!is_recorded(i.stamp), "I's handset lost power, and goes on with the commit that it had stored: not yet");
+}
+
+/* A view begins without that box. One of the two others accepts the commit there: f+1 acceptances, but in two views. */
+static void two_views_are_not_one(void)
+{
+    reach[0] = OUT_OF_REACH;
+    reach[1] = IN_REACH;
+    reach[2] = IN_REACH;
+    bool merged = merge_next_view(1, promised_by(1));
+    step(merged && start_view(1) && start_view(2), "boxes 1 and 2 begin view 4 without box 0, which has the commit");
+    reach[0] = IN_REACH;
+    reach[2] = OUT_OF_REACH;
+    advance(&i);
+    show("I", &i, "I: 3 replies in view 3, 0 confirmations, OK declared; commit accepted by 2, done by 0" WILL);
+    step(i.accepted_in[0] == 3 && i.accepted_in[1] == 4, "box 0 has accepted it in view 3, box 1 in view 4: not yet");
+    reach[2] = IN_REACH;
+    advance(&i);
+    show("I", &i, "I: 3 replies in view 3, 0 confirmations, OK declared; commit accepted by 3, done by 2: recorded");
+    step(start_view(0), "box 0 begins view 4");
+    advance(&i);
+    show("I", &i, "I: 3 replies in view 3, 0 confirmations, OK declared; commit accepted by 3, done by 3: recorded");
+}
+
+/* J is given up after OK was declared. K's handset is lost, and the one in its place counts its stamps anew. */
+static void declared_is_not_recorded(void)
+{
+    prepare(&j);
+    give_up(&j);
+    show("J", &j, "J: 3 replies in view 4, 0 confirmations, OK declared; abort accepted by 3, done by 3" NOT);
+    prepare(&k);
+    show("K", &k, "K: 3 replies in view 4, 0 confirmations, OK declared; nothing accepted by 0, done by 0" WILL);
+    step(!is_recorded(k.stamp), "K's handset is lost: K will not be recorded, and nobody was told that it is");
+    to_report[0] = "a message against the rules was refused";
+    advance(&k_again);
+    step(has_reported(0) && k_again.told == IN_DOUBT, "K's stamp came once more, with another body");
+}
+
+/* Whether a register, read in every box after a restart, has this version and this value. */
+static bool all_read(uint8_t reg, uint64_t version, uint64_t value)
+{
+    bool all = true;
+    for (uint8_t box = 0; box < BOXES; box++) {
+        uint64_t version_there = 1;
+        uint64_t value_there = 1;
+        all = restart(box) && read_register(box, STAMP(12, 1), reg, &version_there, &value_there) && all;
+        all = all && version_there == version && value_there == value;
+    }
+    return all;
+}
+
 static void end(void)
 {
-    uint64_t version = 0;
-    uint64_t value = 0;
-    bool everywhere = true;
+    uint64_t version;
+    uint64_t value;
     boxes[2].table[0] ^= 1;
     to_report[2] = "the table in memory is damaged";
-    bool silent = !read_register(2, STAMP(9, 1), 5, &version, &value) && !replied[2];
+    bool silent = !read_register(2, STAMP(12, 1), 5, &version, &value) && !replied[2];
     step(has_reported(2) && silent && restart(2),
          "a bit of box 2's memory has turned: it falls silent, and a restart loads its table");
-    for (uint8_t box = 0; box < BOXES; box++) {
-        everywhere = restart(box) && read_register(box, STAMP(9, 1), 5, &version, &value) && everywhere;
-        everywhere = everywhere && version == e.stamp && value == 12;
-    }
-    step(everywhere, "every box is restarted; register 5 is read in each: 12, as E wrote it");
+    step(all_read(5, e.stamp, 12), "every box is restarted; register 5 is read in each: 12, as E wrote it");
+    step(all_read(11, i.stamp, 5), "register 11 is read in each: 5, as I wrote it");
+    step(all_read(13, 0, 0), "register 13, of K, is read in each: it was never written");
 }
 
 /* A line for the header, one for each row, and the bodies. */
@@ -411,6 +558,9 @@ int main(void)
     giving_up();
     full_tables();
     more_views();
+    stored_is_not_recorded();
+    two_views_are_not_one();
+    declared_is_not_recorded();
     end();
     for (uint8_t box = 0; box < BOXES; box++) {
         print_image(box);

@@ -135,8 +135,8 @@ impl Group {
         }
     }
 
-    /// Messages 3 and 4.
-    fn conclude(&mut self, boxes: &[usize], stamp: u64, view: u32, outcome: Outcome, body: &Body) {
+    /// Message 3.
+    fn propose(&mut self, boxes: &[usize], stamp: u64, outcome: Outcome, body: &Body) {
         let body = body.clone();
         let proposed = Message::ProposeOutcome {
             stamp,
@@ -144,6 +144,11 @@ impl Group {
             body,
         };
         self.hear(boxes, &proposed);
+    }
+
+    /// Messages 3 and 4.
+    fn conclude(&mut self, boxes: &[usize], stamp: u64, view: u32, outcome: Outcome, body: &Body) {
+        self.propose(boxes, stamp, outcome, body);
         let finalised = Message::FinaliseOutcome {
             stamp,
             view,
@@ -240,6 +245,25 @@ fn tell_of_view_1(group: &mut Group) {
     group.conclude(&[0, 1, 2], stamp(8, 1), 1, Outcome::Abort, &h);
 }
 
+/// I, whose commit box 0 has in view 3 and the others in view 4; J, which is given up though OK was declared; and K, whose
+/// handset is lost then.
+fn tell_of_what_was_declared(group: &mut Group) {
+    let fast = Decision::Fast(PrepareResult::Ok);
+    let (i, commit) = (body(&[], &[(11, 5)]), Outcome::Commit);
+    assert_eq!(group.prepare(&[0, 1, 2], stamp(9, 1), &i), fast);
+    group.propose(&[0], stamp(9, 1), commit, &i);
+    let start = group.merged(4, &[1, 2], [1, 2]);
+    group.hear(&[1, 2], &start);
+    group.propose(&[0, 1, 2], stamp(9, 1), commit, &i);
+    group.hear(&[0], &start);
+    group.conclude(&[0, 1, 2], stamp(9, 1), 4, commit, &i);
+    let j = body(&[], &[(12, 2)]);
+    assert_eq!(group.prepare(&[0, 1, 2], stamp(10, 1), &j), fast);
+    group.conclude(&[0, 1, 2], stamp(10, 1), 4, Outcome::Abort, &j);
+    let k = body(&[], &[(13, 4)]);
+    assert_eq!(group.prepare(&[0, 1, 2], stamp(11, 3), &k), fast);
+}
+
 /// The story of the page, told to the second program: the images in the end.
 fn told() -> Vec<Vec<u8>> {
     let mut group = Group::fresh();
@@ -251,6 +275,7 @@ fn told() -> Vec<Vec<u8>> {
     group.hear(&[0, 1, 2], &start);
     let start = group.merged(3, &[0, 2], [0, 2]);
     group.hear(&[0, 1, 2], &start);
+    tell_of_what_was_declared(&mut group);
     (0..3).map(|box_number| group.image(box_number)).collect()
 }
 
@@ -280,14 +305,14 @@ fn the_tables_in_the_end_are_those_of_the_second_program() {
     for (box_number, image) in images.iter().enumerate() {
         let (table, _) = Table::parse(image).expect("an image");
         assert_eq!(usize::from(table.box_number), box_number);
-        assert_eq!((table.view, table.rows.len()), (3, 8));
+        assert_eq!((table.view, table.rows.len()), (4, 11));
     }
 }
 
 // ---- A wrong example is noticed, by itself.
 
 /// A file of the example, words that stand in it once, and what they are bent to.
-const BENT: [(&str, &str, &str); 28] = [
+const BENT: [(&str, &str, &str); 37] = [
     // a reply goes out though the table was not stored
     (
         "box.c",
@@ -353,8 +378,8 @@ const BENT: [(&str, &str, &str); 28] = [
     // a final result is not taken apart
     (
         "box.c",
-        "record.is_final ? (uint8_t)(reply[3] - SPRONDILU_RETRY) : reply[3]",
-        "reply[3]",
+        "record.is_final ? (uint8_t)(state - FINAL) : state",
+        "state",
     ),
     // rule 4: one confirmation is taken for f+1
     (
@@ -413,14 +438,64 @@ const BENT: [(&str, &str, &str); 28] = [
     // a refused transaction is committed
     (
         "box.c",
-        "propose(t, t->result == SPRONDILU_OK ? COMMIT : ABORT);",
-        "propose(t, COMMIT);",
+        "propose(t, t->result == SPRONDILU_OK ? SPRONDILU_OUTCOME_COMMIT : SPRONDILU_OUTCOME_ABORT);",
+        "propose(t, SPRONDILU_OUTCOME_COMMIT);",
     ),
-    // the grower is told before f+1 boxes have accepted the commit
+    // "recorded" is said as soon as OK was declared on the fast count
     (
         "box.c",
-        "t->outcome = outcome;",
-        "t->outcome = outcome;\n    t->recorded = outcome == COMMIT;",
+        "t->declared = SPRONDILU_KIND_OF(answer) == SPRONDILU_FAST;",
+        "t->declared = SPRONDILU_KIND_OF(answer) == SPRONDILU_FAST;\n        \
+         t->recorded = t->declared && t->result == SPRONDILU_OK;",
+    ),
+    // the same, on confirmations
+    (
+        "box.c",
+        "t->declared = !t->stopped && how_many(t->confirmed) >= QUORUM;",
+        "t->declared = !t->stopped && how_many(t->confirmed) >= QUORUM;\n    \
+         t->recorded = t->declared && t->result == SPRONDILU_OK;",
+    ),
+    // "recorded" is said when the handset alone has stored the commit
+    (
+        "box.c",
+        "if (!take_outcome(t, outcome)) {\n        return;\n    }",
+        "if (!take_outcome(t, outcome)) {\n        return;\n    }\n    \
+         t->recorded = outcome == SPRONDILU_OUTCOME_COMMIT;",
+    ),
+    // "recorded" is said at f acceptances
+    (
+        "box.c",
+        "if (accepted_in_one(t, &view)) {",
+        "t->recorded = outcome == SPRONDILU_OUTCOME_COMMIT && how_many(t->accepted) >= QUORUM - 1;\n    tell(t);\n    \
+         if (accepted_in_one(t, &view)) {",
+    ),
+    // "recorded" is said at f+1 acceptances of two views
+    (
+        "box.c",
+        "t->accepted[box] && t->accepted[other] && t->accepted_in[other] == t->accepted_in[box];",
+        "t->accepted[box] && t->accepted[other];",
+    ),
+    // the grower never hears that an OK that was declared is not recorded yet
+    (
+        "box.c",
+        "now = WILL_BE_RECORDED;",
+        "now = NOTHING_YET;",
+    ),
+    // the grower never hears that a rule was broken
+    ("box.c", "now = IN_DOUBT;", "now = NOTHING_YET;"),
+    // the grower never hears that what was declared was given up
+    ("box.c", "now = NOT_RECORDED;", "now = WILL_BE_RECORDED;"),
+    // an outcome goes out that the handset has not stored
+    (
+        "box.c",
+        "if (before == NO_OUTCOME && !handset_store(t)) {",
+        "if (before == NO_OUTCOME && false) {",
+    ),
+    // a stamp goes out that the handset has not stored
+    (
+        "box.c",
+        "t->begun = t->begun || handset_store(t);",
+        "t->begun = handset_store(t) || true;",
     ),
     // a transaction for which there is no room is not given up
     (
@@ -431,13 +506,13 @@ const BENT: [(&str, &str, &str); 28] = [
     // any reply numbered 0 is taken for a promise
     (
         "box.c",
-        "if (is_done(reply, CHANGE_VIEW, box) && number_at(reply + 8, 8) == view) {",
-        "if (reply != NULL && reply[0] == SPRONDILU_DONE) {",
+        "if (is_done(reply, SPRONDILU_CHANGE_VIEW, box) && stamp_of(reply) == view) {",
+        "if (reply != NULL && reply[SPRONDILU_REPLY_NUMBER] == SPRONDILU_DONE) {",
     ),
     // a view counts as begun because an earlier one was
     (
         "box.c",
-        " && number_at(reply + 4, 4) == number_at(start_message + 1, 4);",
+        " && view_of(reply) == number_at(start_message + 1, 4);",
         ";",
     ),
     // an image that did not arrive is counted
