@@ -58,6 +58,8 @@ stamp as TIME:CLIENT, not as the number.
 
 A result that was declared on a fast count stays tentative in the tables until
 message 2 or a merge makes it final; tentative OK beside a commit is in order.
+One table does not say that an entry is recorded: it is recorded when f+1
+different boxes have accepted its commit in one view, and not before.
 
   --message  the file is a message
   --reply    the file is a reply
@@ -186,6 +188,10 @@ usage: sprondilu count --n N [--json] REPLY ..
 What replies of the boxes of a group to messages 1 and 2, for one stamp, come
 to: fast with a result, slow with one, or wait; and what may be done then. A
 reply by which a box refused holds no result: it is named and not counted.
+
+An OK that was declared final will be recorded, if the handset lives. An entry
+is recorded when f+1 different boxes have accepted its commit in one view (their
+replies to message 3 are numbered 0), and not before; count does not tell that.
 
   --n N   how many boxes the group has: 3, 5 or 7. Replies do not say it, so
           a wrong N may go unnoticed

@@ -1,5 +1,6 @@
 //! The demo: what it plays is what the second program makes of the same messages, and it tells what it plays.
 
+use std::collections::{BTreeMap, BTreeSet};
 use std::fs;
 use std::path::{Path, PathBuf};
 use std::process::{Command, Output};
@@ -162,6 +163,8 @@ fn each_word_of_the_answers_is_explained_first() {
         "tentative",
         "final",
         "declared",
+        "recorded",
+        "accepted",
         "count",
         "fast",
         "slow",
@@ -184,24 +187,76 @@ fn each_word_of_the_answers_is_explained_first() {
     assert!(longest <= Some(80), "{:?}", longest);
 }
 
+/// The commits that a quorum of boxes has accepted in one view, by the replies to message 3 that were kept: stamp, view, and
+/// how many boxes.
+fn recorded(files: &[(String, Vec<u8>)], n: u8) -> Vec<(u64, u32, usize)> {
+    let mut accepted: BTreeMap<(u64, u32), BTreeSet<u8>> = BTreeMap::new();
+    for (name, bytes) in files {
+        let is_noted = name.ends_with(".reply") && bytes[..2] == [0, 3] && bytes[3] == 1;
+        if is_noted {
+            let view = u32::from_be_bytes(bytes[4..8].try_into().expect("four bytes"));
+            let stamp = u64::from_be_bytes(bytes[8..16].try_into().expect("eight bytes"));
+            let boxes = accepted.entry((stamp, view)).or_default();
+            boxes.insert(bytes[2]);
+        }
+    }
+    let quorum = usize::from(n / 2) + 1;
+    let counted = accepted.iter();
+    let counted = counted.map(|((stamp, view), boxes)| (*stamp, *view, boxes.len()));
+    counted.filter(|(_, _, boxes)| *boxes >= quorum).collect()
+}
+
+/// "An entry is recorded when f+1 different boxes have accepted its commit in one view, and not before."
 #[test]
-fn every_merge_holds_what_was_recorded() {
+fn recorded_is_said_of_what_a_quorum_has_accepted_in_one_view() {
+    let folder = folder("demo-recorded");
+    let text = told(&demo(&[
+        "--keep",
+        folder.to_str().expect("a path in words"),
+    ]));
+    let text: Vec<&str> = text.split_whitespace().collect();
+    let text = text.join(" ");
+    let (_, text) = text.split_once("PART 1.").expect("a first part");
+    let (text, _) = text.split_once("WHAT YOU HAVE SEEN").expect("an end");
+    let mut said = 0;
+    for (name, n) in [("three", 3), ("five", 5)] {
+        for (stamp, view, boxes) in recorded(&kept(&folder.join(name)), n) {
+            let (time, client) = (stamp >> 16, stamp & 0xffff);
+            let line = format!(
+                "{} of {} boxes have accepted the commit in view {}: {}:{} is recorded",
+                boxes, n, view, time, client
+            );
+            let (before, _) = text.split_once(&line).expect(&line);
+            assert!(before.contains("will be recorded, if the handset lives"));
+            said += 1;
+        }
+    }
+    assert_eq!(said, 7);
+    assert_eq!(text.matches("is recorded").count(), said);
+}
+
+#[test]
+fn every_merge_holds_what_was_declared_and_recorded() {
     let folder = folder("demo-merges");
     told(&demo(&[
         "--keep",
         folder.to_str().expect("a path in words"),
     ]));
-    for (name, recorded) in [
-        ("three", vec![(1, 1), (2, 1), (4, 2), (5, 1)]),
-        ("five", vec![(1, 3), (2, 1), (5, 1)]),
+    for (name, recorded, declared) in [
+        ("three", vec![(1, 1), (2, 1), (4, 2), (5, 1)], vec![]),
+        ("five", vec![(2, 1), (5, 1)], vec![(1, 3)]),
     ] {
         let files = kept(&folder.join(name));
         let merge = files.iter().find(|(name, _)| name.contains("-merge-of-"));
         let (table, _) = reference::Table::parse(&merge.expect("a merge").1).expect("a table");
-        for (time, client) in recorded {
+        for (time, client) in recorded.iter().chain(&declared) {
             let row = &table.rows[&(time * 65_536 + client)];
             let ok = reference::HeldPrepare::finalised(reference::PrepareResult::Ok);
             assert_eq!(row.prepare, Some(ok), "{}: {}:{}", name, time, client);
+            let done = reference::HeldOutcome::done(reference::Outcome::Commit);
+            let is_done = row.outcome == Some(done);
+            let is_recorded = recorded.contains(&(*time, *client));
+            assert_eq!(is_done, is_recorded, "{}: {}:{}", name, time, client);
         }
     }
 }

@@ -1,5 +1,6 @@
-//! What is confirmed, and what is not: a declared result and an accepted outcome stand in every later merge, and nothing else
-//! is promised. What is not confirmed is shown to be missing.
+//! What is confirmed, which is what is recorded, and what is not: a commit that f+1 boxes have accepted in one view stands in every
+//! later merge. A declared result stands there too, but is no record yet. Of anything else nothing is promised, and it is shown to
+//! be missing.
 
 use crate::told::{apart, t, Told, OK};
 use reference::{Decision, HeldOutcome, HeldPrepare, Outcome, Rows};

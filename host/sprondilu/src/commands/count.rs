@@ -9,6 +9,9 @@ use crate::{names, stamps};
 use std::fmt::Write;
 use std::path::{Path, PathBuf};
 
+/// The code of the result OK.
+const OK: u8 = 1;
+
 /// "Fast count: three f halves, rounded up, plus one."
 pub fn fast_count(n: u8) -> usize {
     let f = usize::from(n / 2);
@@ -120,6 +123,9 @@ impl Heard {
             ),
             _ => writeln!(text, "{}", in_words(n, how_many, counted)),
         };
+        if is_ok(counted) {
+            let _ = writeln!(text, "{}", not_recorded_yet(n));
+        }
         text
     }
 
@@ -200,6 +206,22 @@ fn counted_json(counted: Counted) -> Vec<(&'static str, Json)> {
     let mut fields = vec![("answer", Json::text(answer))];
     fields.extend(result);
     fields
+}
+
+fn is_ok(counted: Counted) -> bool {
+    match counted {
+        Counted::Wait => false,
+        Counted::Fast { result, .. } | Counted::Slow { result, .. } => result == OK,
+    }
+}
+
+/// What an OK is worth once it is declared: nobody is told "recorded" on the strength of a count.
+fn not_recorded_yet(n: u8) -> String {
+    format!(
+        "an OK that is declared will be recorded, if the handset lives; it is recorded once {} boxes have accepted its commit in \
+         one view, and not before",
+        quorum(n)
+    )
 }
 
 fn replies_of(how_many: usize, n: u8) -> String {

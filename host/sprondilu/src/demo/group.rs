@@ -1,13 +1,15 @@
 //! A group of boxes in memory, whose every step is told in a line.
 
+use super::parts::COMMIT;
 use super::Played;
 use crate::calls::{self, Counted, TABLE_BYTES};
 use crate::commands;
 use crate::ends::Stop;
 use crate::image::{Body, Table};
 use crate::message::Message;
-use crate::names;
 use crate::reply::Reply;
+use crate::{names, stamps};
+use std::collections::BTreeSet;
 use std::fmt::Write;
 
 /// How far words stand in below a heading, how much further an answer stands, and how long a line is.
@@ -208,6 +210,7 @@ impl Group {
             lost_to,
         );
         self.expect(&noted, 0, &vec![verdict; boxes.len()])?;
+        self.accepted(&noted)?;
         let done = self.send(
             &Message::FinaliseOutcome {
                 stamp,
@@ -218,6 +221,33 @@ impl Group {
             lost_to,
         );
         self.expect(&done, 0, &vec![verdict + 2; boxes.len()])
+    }
+
+    /// What the acceptances of an outcome come to: "f+1 different boxes have accepted message 3 (number 0)", "in one view".
+    pub fn accepted(&mut self, noted: &[Reply]) -> Result<(), Stop> {
+        let (stamp, view) = noted
+            .first()
+            .map_or((0, 0), |reply| (reply.stamp, reply.view));
+        let boxes: BTreeSet<u8> = noted.iter().map(|reply| reply.box_number).collect();
+        let in_one = noted
+            .iter()
+            .all(|reply| (reply.number, reply.stamp, reply.view) == (0, stamp, view));
+        if !in_one || boxes.len() < commands::count::quorum(self.n) {
+            return Err(went_wrong(
+                "too few boxes have accepted an outcome in one view",
+            ));
+        }
+        if noted.iter().all(|reply| reply.state == COMMIT) {
+            let words = format!(
+                "{} of {} boxes have accepted the commit in view {}: {} is recorded",
+                boxes.len(),
+                self.n,
+                view,
+                stamps::short(stamp)
+            );
+            self.say_in(&words, "");
+        }
+        Ok(())
     }
 
     /// The tables of boxes are merged for a view.

@@ -40,7 +40,7 @@ Some words first.
   register     one of 64 numbered places for a number; here, the cubic metres
                that a pump has given
   client       somebody with a handset
-  transaction  what a client records at once: registers that were read,
+  transaction  what a client enters at once: registers that were read,
                registers that are written
   stamp        names a transaction and gives it its place in time: 2:1 is time 2
                at client 1; as one number, time x 65536 + client
@@ -56,8 +56,14 @@ Some words first.
                may be declared after one round of radio. Slow: a quorum, f+1 of
                2f+1 boxes, has answered, and has to confirm the result in a
                second round. Wait: fewer have answered
-  declared     a result that was declared final stands in every later merge
-  outcome      what becomes of it: commit or abort; noted first, then done
+  declared     a result that was declared final stands in every later merge. An
+               OK that was declared will be recorded, if the handset lives:
+               nobody else can commit it
+  outcome      what becomes of it: commit or abort; noted first, then done. A
+               box that has noted it has accepted it
+  recorded     an entry is recorded when a quorum has accepted its commit in one
+               view, and not before: then it stands, whatever becomes of the
+               handset
   view         the group's time is cut into views. Boxes promise a new one, the
                tables of a quorum are merged, and it begins with the merge
 
@@ -71,6 +77,8 @@ const AFTER: &str = "
 WHAT YOU HAVE SEEN
 
   - Boxes that agree need one round of radio; a quorum of them is enough in two.
+  - An entry was recorded when a quorum had accepted its commit in one view.
+    Before that it hung on its handset, and nobody was told that it is recorded.
   - No two transactions that clash were both committed.
   - What was declared final, or noted by a quorum in one view, stood in every
     merge for a later view, whoever was away and whatever was lost.

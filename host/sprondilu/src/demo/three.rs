@@ -25,7 +25,7 @@ pub fn play() -> Result<Played, Stop> {
 
 fn fast_commit(group: &mut Group) -> Result<(), Stop> {
     group.head("1.1 A fast commit");
-    group.say("Client 1 reads 7 cubic metres off a pump and records it in register 5. All boxes hear the proposal.");
+    group.say("Client 1 reads 7 cubic metres off a pump and enters it in register 5. All boxes hear the proposal.");
     let (stamp, pump) = (at(1, 1), body(5, None, 7));
     let replies = group.send(
         &Message::ProposePrepare {
@@ -37,10 +37,11 @@ fn fast_commit(group: &mut Group) -> Result<(), Stop> {
     );
     group.count(&replies, fast(OK))?;
     group.say(
-        "So OK is declared final, after one round of radio, and the commit is told to the boxes.",
+        "So OK is declared final, after one round of radio: the entry will be recorded, if the handset lives. Then the commit \
+         is told to the boxes.",
     );
     group.settle(stamp, COMMIT, &pump, 0, &ALL, &[])?;
-    group.say("Whoever reads register 5 in any of the boxes finds it now. A read has a stamp too: it asks for what the register held \
+    group.say("It stands now, whatever becomes of the handset. Whoever reads register 5 in any of the boxes finds it. A read has a stamp too: it asks for what the register held \
          at that time, here time 1.");
     group.read(2, at(1, 9), 5, stamp, 7)
 }
@@ -48,8 +49,8 @@ fn fast_commit(group: &mut Group) -> Result<(), Stop> {
 fn clash(group: &mut Group) -> Result<(), Stop> {
     group.head("1.2 A clash");
     group.say(
-        "Two clients have both read the 7. Client 1 records 9, at time 2. Client 2 records 12, at time 3, and does not \
-         know of the 9. If both were committed, the 9 would be gone as if nobody had recorded it.",
+        "Two clients have both read the 7. Client 1 enters 9, at time 2. Client 2 enters 12, at time 3, and does not \
+         know of the 9. If both were committed, the 9 would be gone as if nobody had entered it.",
     );
     let (first, nine) = (at(2, 1), body(5, Some(at(1, 1)), 9));
     let replies = group.send(
@@ -71,14 +72,14 @@ fn clash(group: &mut Group) -> Result<(), Stop> {
         &[],
     );
     group.count(&replies, fast(ABSTAIN))?;
-    group.say("The boxes have accepted 2:1, which changes the register that 3:2 has read. So 3:2 is aborted, and 2:1 committed.");
+    group.say("The boxes have said OK to 2:1, which changes the register that 3:2 has read. So 3:2 is aborted, and 2:1 committed.");
     group.settle(second, ABORT, &twelve, 0, &ALL, &[])?;
     group.settle(first, COMMIT, &nine, 0, &ALL, &[])
 }
 
 fn once_more(group: &mut Group) -> Result<(), Stop> {
     group.say(
-        "Client 2 reads again, and records the 12 with a new stamp: a retry is a new transaction.",
+        "Client 2 reads again, and enters the 12 with a new stamp: a retry is a new transaction.",
     );
     group.read(0, at(4, 2), 5, at(2, 1), 9)?;
     let (stamp, twelve) = (at(4, 2), body(5, Some(at(2, 1)), 12));
@@ -96,7 +97,7 @@ fn once_more(group: &mut Group) -> Result<(), Stop> {
 
 fn lost_message(group: &mut Group) -> Result<(), Stop> {
     group.head("1.3 Lost messages");
-    group.say("Client 1 records 3 cubic metres at another pump, in register 6. A storm: box 2 hears nothing of it.");
+    group.say("Client 1 enters 3 cubic metres at another pump, in register 6. A storm: box 2 hears nothing of it.");
     let (stamp, pump) = (at(5, 1), body(6, None, 3));
     let replies = group.send(
         &Message::ProposePrepare {
@@ -119,9 +120,12 @@ fn lost_message(group: &mut Group) -> Result<(), Stop> {
         &[2],
     );
     group.expect(&replies, 0, &[OK + FINAL; 2])?;
-    group.say("Boxes 0 and 1 have confirmed it: OK is declared final, and the commit is told to whoever hears it.");
+    group.say(
+        "Boxes 0 and 1 have confirmed it: OK is declared final, and the entry will be recorded, if the handset lives. The \
+         commit is told to whoever hears it.",
+    );
     group.settle(stamp, COMMIT, &pump, 0, &[0, 1], &[2])?;
-    group.say("Box 2 knows nothing of it yet.");
+    group.say("Two boxes are enough for that. Box 2 knows nothing of it yet.");
     group.read(2, at(5, 9), 6, 0, 0)
 }
 
@@ -132,7 +136,7 @@ fn view_change(group: &mut Group) -> Result<(), Stop> {
     );
     let replies = group.send(&Message::ChangeView { view: 1 }, &[0, 2], &[1]);
     group.expect(&replies, 0, &[0; 2])?;
-    group.say("Between two views a box takes no transactions and no reads, and says so. A refused message changes nothing.");
+    group.say("Between two views a box takes no transactions and no reads, and says so. A refused message changes no table.");
     let too_early = Message::ProposePrepare {
         stamp: at(6, 2),
         body: body(7, None, 1),
@@ -141,7 +145,7 @@ fn view_change(group: &mut Group) -> Result<(), Stop> {
     group.expect(&replies, 4, &[0])?;
     let image = group.merge(1, &[0, 2])?;
     group.say(
-        "Box 2 had never heard of 5:1, and box 1 is away; it is there all the same. A merge makes every result final. With \
+        "Box 2 had never heard of 5:1, and box 1 is away; but 5:1 was recorded, and is there all the same. A merge makes every result final. With \
          this table view 1 starts.",
     );
     let start = Message::StartView { view: 1, image };

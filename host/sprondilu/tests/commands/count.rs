@@ -106,6 +106,10 @@ fn record(box_number: u8, state: u8, retry: u64) -> Record {
     }
 }
 
+/// What stands behind every OK, in a group of three.
+const NOT_YET: &str = "\nan OK that is declared will be recorded, if the handset lives; it is recorded once 2 boxes have accepted its \
+    commit in one view, and not before\n";
+
 /// What a person is told, and what may be done then.
 #[test]
 fn a_count_that_a_user_types() {
@@ -123,9 +127,11 @@ fn a_count_that_a_user_types() {
     );
     let out = said("count --n 3 r0 r1");
     assert!(out.contains("2 replies of 3 boxes: slow OK"), "{}", out);
+    assert!(out.ends_with(NOT_YET), "{}", out);
     let out = said(&format!("count --n 3{}", all));
     assert!(out.contains("r2: box 2 in view 3: tentative OK"), "{}", out);
     assert!(out.contains("3 replies of 3 boxes: fast OK"), "{}", out);
+    assert!(out.ends_with(NOT_YET), "{}", out);
     assert!(said("count --n 3").contains("0 replies of 3 boxes: wait"));
     // A box that refused is named and not counted.
     let mut refusal = [0; 24];
@@ -138,14 +144,25 @@ fn a_count_that_a_user_types() {
         out
     );
     assert!(out.contains("1 reply of 3 boxes: wait"), "{}", out);
+    assert!(!out.contains("recorded"), "{}", out);
     let told = run(&folder, "count --json --n 3 no r0").done().json();
     assert_eq!(told.list("left_out")[0].text("file"), Some("no"));
     assert_eq!(told.list("left_out")[0].number("number"), Some(4));
-    // Confirmations of message 2 by a quorum.
+}
+
+/// Confirmations of message 2 by a quorum.
+#[test]
+fn a_count_of_confirmations() {
+    let folder = Folder::new();
+    let said = |line: &str| run(&folder, line).done().out;
     put(&folder, &[record(0, 8, 9), record(1, 8, 9)]);
     let out = said("count --n 3 r0 r1");
     let confirmed = "2 replies of 3 boxes: 2 have confirmed final RETRY 0:9 in this view: it may be declared final\n";
     assert!(out.ends_with(confirmed), "{}", out);
+    put(&folder, &[record(0, 5, 0), record(1, 5, 0)]);
+    let out = said("count --n 3 r0 r1");
+    assert!(out.contains("2 have confirmed final OK"), "{}", out);
+    assert!(out.ends_with(NOT_YET), "{}", out);
 }
 
 /// The files with replies that cannot be counted, or not with one another.
