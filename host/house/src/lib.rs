@@ -1,7 +1,10 @@
 //! What the tests of the repository share: where it is, which crates it lists, and what its papers cite.
 
 use std::fs;
+use std::os::unix::fs::PermissionsExt;
 use std::path::{Path, PathBuf};
+use std::process::{Command, Output, Stdio};
+use std::sync::{Mutex, MutexGuard};
 
 /// The repository's top folder.
 pub fn top() -> PathBuf {
@@ -14,6 +17,42 @@ pub fn top() -> PathBuf {
 /// The text of a file of the repository.
 pub fn text(path: &str) -> String {
     fs::read_to_string(top().join(path)).unwrap_or_else(|error| panic!("{}: {}", path, error))
+}
+
+/// Held while a file that will be run is written, and while a process is started. A process that is being started has, for a
+/// moment, every file open that is open here; and what somebody has open for writing cannot be run.
+static STARTING: Mutex<()> = Mutex::new(());
+
+fn starting() -> MutexGuard<'static, ()> {
+    // A test that failed has left nothing half done under it.
+    STARTING.lock().unwrap_or_else(|broken| broken.into_inner())
+}
+
+/// Writes a script of bash that can be run. What was there, a link to a tool perhaps, goes.
+pub fn write_script(path: &Path, body: &str) {
+    let _held = starting();
+    let _ = fs::remove_file(path);
+    fs::write(path, format!("#!/usr/bin/env bash\n{}", body)).unwrap();
+    fs::set_permissions(path, fs::Permissions::from_mode(0o755)).unwrap();
+}
+
+/// Copies a script of the repository into a folder, to its path from the top.
+pub fn copy_script(file: &str, folder: &Path) {
+    let _held = starting();
+    fs::copy(top().join(file), folder.join(file)).unwrap();
+}
+
+/// Runs a command to its end.
+pub fn finish(command: &mut Command) -> Output {
+    let pipes = command
+        .stdin(Stdio::null())
+        .stdout(Stdio::piped())
+        .stderr(Stdio::piped());
+    let held = starting();
+    let started = pipes.spawn();
+    drop(held);
+    let started = started.unwrap_or_else(|error| panic!("{:?}: {}", command, error));
+    started.wait_with_output().unwrap()
 }
 
 /// The crates of crates.txt, in its order.

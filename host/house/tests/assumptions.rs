@@ -3,7 +3,7 @@
 
 use std::env;
 use std::fs;
-use std::path::{Path, PathBuf};
+use std::path::PathBuf;
 use std::process::Command;
 
 /// It promises what the contract of C's fsync says, and checks without a word about that.
@@ -28,8 +28,7 @@ impl Outside {
         for sub in ["tools", "crates/outside/src"] {
             fs::create_dir_all(folder.join(sub)).unwrap();
         }
-        let look = Path::new("tools/assumptions");
-        fs::copy(house::top().join(look), folder.join(look)).unwrap();
+        house::copy_script("tools/assumptions", &folder);
         fs::write(folder.join("crates/outside/src/lib.rt"), LEANS).unwrap();
         let outside = Outside { folder };
         outside.list("outside: libc\n");
@@ -42,11 +41,8 @@ impl Outside {
 
     /// Whether a command in that repository ends well, and all that it says.
     fn run(&self, program: &str, words: &[&str]) -> (bool, String) {
-        let done = Command::new(program)
-            .args(words)
-            .current_dir(&self.folder)
-            .output()
-            .unwrap_or_else(|error| panic!("{}: {}", program, error));
+        let mut command = Command::new(program);
+        let done = house::finish(command.args(words).current_dir(&self.folder));
         let said = [done.stdout, done.stderr].concat();
         let said = String::from_utf8(said).unwrap();
         (done.status.success(), said)

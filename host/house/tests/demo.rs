@@ -4,7 +4,6 @@
 //! with the host program.
 
 use std::fs;
-use std::os::unix::fs::PermissionsExt;
 use std::path::{Path, PathBuf};
 use std::process::{Command, Output};
 use std::time::{Duration, SystemTime};
@@ -32,7 +31,7 @@ impl Clone {
             fs::create_dir_all(folder.join(sub)).unwrap();
         }
         for file in ["demo", "tools/library"] {
-            fs::copy(house::top().join(file), folder.join(file)).unwrap();
+            house::copy_script(file, &folder);
         }
         fs::write(folder.join("crates.txt"), "wire:\n").unwrap();
         fs::write(folder.join("crates/lib.rt"), "").unwrap();
@@ -45,23 +44,18 @@ impl Clone {
     }
 
     fn script(&self, path: &str, body: &str) {
-        let path = self.folder.join(path);
-        fs::write(&path, format!("#!/usr/bin/env bash\n{}", body)).unwrap();
-        fs::set_permissions(&path, fs::Permissions::from_mode(0o755)).unwrap();
+        house::write_script(&self.folder.join(path), body);
     }
 
     /// Runs the command from another folder, as a user may.
     fn run(&self, words: &[&str]) -> Output {
         let path = env::var("PATH").expect("a PATH");
-        Command::new(self.folder.join("demo"))
-            .args(words)
-            .env(
-                "PATH",
-                format!("{}:{}", self.folder.join("bin").display(), path),
-            )
-            .current_dir(env::temp_dir())
-            .output()
-            .unwrap()
+        let path = format!("{}:{}", self.folder.join("bin").display(), path);
+        let mut demo = Command::new(self.folder.join("demo"));
+        demo.args(words)
+            .env("PATH", path)
+            .current_dir(env::temp_dir());
+        house::finish(&mut demo)
     }
 
     fn plays(&self, words: &[&str]) {
@@ -98,12 +92,8 @@ fn touch(path: &Path) {
     let later = SystemTime::now() + Duration::from_secs(60);
     let since = later.duration_since(SystemTime::UNIX_EPOCH).unwrap();
     let stamp = format!("@{}", since.as_secs());
-    let done = Command::new("touch")
-        .arg("-d")
-        .arg(stamp)
-        .arg(path)
-        .status();
-    assert!(done.unwrap().success());
+    let done = house::finish(Command::new("touch").arg("-d").arg(stamp).arg(path));
+    assert!(done.status.success());
 }
 
 #[test]

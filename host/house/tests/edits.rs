@@ -4,11 +4,10 @@
 
 use std::env;
 use std::fs;
-use std::os::unix::fs::PermissionsExt;
 use std::path::PathBuf;
 use std::process::Command;
 
-const SAYS: &str = "#!/usr/bin/env bash\necho \"rt $*\"\necho crates/*/must-fail/*.edit\n";
+const SAYS: &str = "echo \"rt $*\"\necho crates/*/must-fail/*.edit\n";
 
 /// A repository with the crates `low`, `high` above it, and `other`, of which the last has no such edit.
 struct Tree {
@@ -23,11 +22,7 @@ impl Tree {
         };
         let _ = fs::remove_dir_all(&tree.folder);
         fs::create_dir_all(tree.folder.join("tools")).unwrap();
-        fs::copy(
-            house::top().join("tools/edits"),
-            tree.folder.join("tools/edits"),
-        )
-        .unwrap();
+        house::copy_script("tools/edits", &tree.folder);
         tree.write("crates.txt", "low:\nhigh: low\nother:\n");
         tree.write(".gitignore", "target/\nbin/\n");
         for name in ["low", "high", "other"] {
@@ -36,9 +31,8 @@ impl Tree {
         }
         tree.write("crates/low/more-must-fail/first.edit", "x\n");
         tree.write("crates/high/more-must-fail/second.edit", "x\n");
-        tree.write("bin/rt", SAYS);
-        let stand_in = tree.folder.join("bin/rt");
-        fs::set_permissions(stand_in, fs::Permissions::from_mode(0o755)).unwrap();
+        fs::create_dir_all(tree.folder.join("bin")).unwrap();
+        house::write_script(&tree.folder.join("bin/rt"), SAYS);
         tree.git(&["init", "--quiet"]);
         tree.commit();
         tree
@@ -52,13 +46,10 @@ impl Tree {
 
     fn git(&self, words: &[&str]) {
         let who = ["-c", "user.name=x", "-c", "user.email=x"];
-        let done = Command::new("git")
-            .args(who)
-            .args(words)
-            .current_dir(&self.folder)
-            .status()
-            .unwrap();
-        assert!(done.success(), "git {:?}", words);
+        let mut git = Command::new("git");
+        git.args(who).args(words).current_dir(&self.folder);
+        let done = house::finish(&mut git);
+        assert!(done.status.success(), "git {:?}: {:?}", words, done);
     }
 
     fn commit(&self) {
@@ -70,11 +61,8 @@ impl Tree {
     fn run(&self, words: &[&str]) -> (Option<i32>, String) {
         let path = env::var("PATH").unwrap();
         let path = format!("{}:{}", self.folder.join("bin").display(), path);
-        let done = Command::new(self.folder.join("tools/edits"))
-            .args(words)
-            .env("PATH", path)
-            .output()
-            .unwrap();
+        let mut edits = Command::new(self.folder.join("tools/edits"));
+        let done = house::finish(edits.args(words).env("PATH", path));
         let said = [done.stdout, done.stderr].concat();
         (done.status.code(), String::from_utf8(said).unwrap())
     }

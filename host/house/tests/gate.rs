@@ -5,7 +5,7 @@
 
 use std::env;
 use std::fs;
-use std::os::unix::fs::{symlink, PermissionsExt};
+use std::os::unix::fs::symlink;
 use std::path::{Path, PathBuf};
 use std::process::Command;
 
@@ -46,7 +46,7 @@ impl Gate {
             "tools/install",
             "tools/library",
         ] {
-            fs::copy(house::top().join(file), folder.join(file)).unwrap();
+            house::copy_script(file, &folder);
         }
         let gate = Gate { folder };
         gate.crates("wire:\n");
@@ -67,11 +67,11 @@ impl Gate {
     }
 
     fn tool(&self, name: &str, body: &str) {
-        self.script(self.folder.join("bin").join(name), body);
+        house::write_script(&self.folder.join("bin").join(name), body);
     }
 
     fn agree(&self, body: &str) {
-        self.script(self.folder.join("tools/agree"), body);
+        house::write_script(&self.folder.join("tools/agree"), body);
     }
 
     fn crates(&self, list: &str) {
@@ -79,13 +79,7 @@ impl Gate {
     }
 
     fn demo(&self, body: &str) {
-        self.script(self.folder.join("demo"), body);
-    }
-
-    fn script(&self, path: PathBuf, body: &str) {
-        let _ = fs::remove_file(&path);
-        fs::write(&path, format!("#!/usr/bin/env bash\n{}", body)).unwrap();
-        fs::set_permissions(&path, fs::Permissions::from_mode(0o755)).unwrap();
+        house::write_script(&self.folder.join("demo"), body);
     }
 
     fn rt(&self, fmt: &str, ci: &str) {
@@ -108,14 +102,13 @@ impl Gate {
 
     /// Whether the gate passed, its very last line, and all that it printed.
     fn run(&self) -> (bool, String, String) {
-        let done = Command::new(self.folder.join("bin/bash"))
-            .arg(self.folder.join(".ci/run"))
+        let mut gate = Command::new(self.folder.join("bin/bash"));
+        gate.arg(self.folder.join(".ci/run"))
             .env("PATH", self.folder.join("bin"))
             // A library that whoever runs the gate works with is not the one to be tested.
             .env("SPRONDILU_LIB", env::temp_dir())
-            .current_dir(env::temp_dir())
-            .output()
-            .unwrap();
+            .current_dir(env::temp_dir());
+        let done = house::finish(&mut gate);
         let printed = String::from_utf8(done.stdout).unwrap();
         let said = String::from_utf8(done.stderr).unwrap();
         let last = printed.lines().last().unwrap_or("").to_string();
@@ -260,7 +253,7 @@ fn a_library_that_cannot_be_built_is_red() {
 fn kit_for_an_arm(gate: &Gate) {
     let toolchain = gate.folder.join("on/aarch64/toolchain/bin");
     fs::create_dir_all(&toolchain).unwrap();
-    gate.script(toolchain.join("clang"), "echo \"compiled: $*\"\n");
+    house::write_script(&toolchain.join("clang"), "echo \"compiled: $*\"\n");
 }
 
 /// Compiles as the kit does, for the machine that it always does it for, and writes the library only if it was for an Arm.
