@@ -147,16 +147,21 @@ it, and the reply is printed and, with --reply, written to a file, also if the
 box refuses. If a start-view takes rows away, they are named: what too few boxes
 had heard of may be missing in the merge.
 
-The table is written safely: to a new file, synced, and renamed over the old
-one, before any reply is given. A power cut leaves the old table whole or the
-new one whole. After one, the same message may be answered again and has the
+The table is written safely: to a new file, synced, and put in the place of the
+old one, before any reply is given. A power cut leaves the old table whole or
+the new one whole. After one, the same message may be answered again and has the
 same reply; only messages 5 and 6, if they were stored, are then refused with 10
-old view. Two runs at once on one table file wait for each other. A refused
-message leaves the file alone, and so does one that changes nothing. A file that
-holds more than the table, such as a dump of a box's buffer, keeps what stands
-after the longer of the old and the new table. A file with two names (a hard
-link) is replaced under the one that is named here, so that there are two tables
-then: give a table one name, or links that are symbolic.
+old view. Two runs at once on one table file wait for each other. If another
+program moves, removes or changes the file meanwhile, that stays, and the
+message is to be answered again; but a program that is still writing into the
+file is not seen, nor, on a file system that cannot exchange two names, what
+happens in the last moment. A refused message leaves the file alone, and so does
+one that changes nothing. A file that holds more than the table, such as a dump
+of a box's buffer, keeps what stands after the longer of the old and the new
+table. A file with two names (a hard link) is replaced under the one that is
+named here, so that there are two tables then: give a table one name, or links
+that are symbolic. A symbolic link to a table stays; one to a reply is replaced
+itself.
 
   --reply FILE  the file for the reply's 24 bytes; one that is there already is
                 not written over

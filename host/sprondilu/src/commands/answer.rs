@@ -30,6 +30,8 @@ pub fn run(words: &Words) -> Result<(String, Json), Stop> {
     }
     let answered = Answered::by(&held, &bytes);
     answered.store(&held)?;
+    // Whoever waits for the lock of a reply that he replaces holds no other, so that no two runs wait for each other.
+    let before = held.let_go();
     if let Some(out) = out {
         let written = files::create(out, &answered.reply, over);
         written.map_err(|stop| answered.untold(stop))?;
@@ -40,7 +42,7 @@ pub fn run(words: &Words) -> Result<(String, Json), Stop> {
         bytes,
         out,
     };
-    asked.told(&held, &answered)
+    asked.told(&before, &answered)
 }
 
 fn is_same(one: &Path, other: &Path) -> bool {
@@ -108,7 +110,7 @@ impl Answered {
 
     /// The rows that the table had and has no more. Message 6 alone takes rows away: what too few boxes had heard of may be missing
     /// in the merge.
-    fn gone(&self, held: &Held) -> Vec<Row> {
+    fn gone(&self, before: &[u8]) -> Vec<Row> {
         let rows =
             |bytes: &[u8]| calls::image_in(bytes).map_or(Vec::new(), |image| Table::of(image).rows);
         let after = self.after.as_ref().map(|bytes| rows(bytes));
@@ -116,7 +118,7 @@ impl Answered {
             let stays = |after: &Vec<Row>| after.iter().any(|other| other.stamp == row.stamp);
             !after.as_ref().map_or(true, stays)
         };
-        rows(&held.bytes).into_iter().filter(is_gone).collect()
+        rows(before).into_iter().filter(is_gone).collect()
     }
 }
 
@@ -129,13 +131,13 @@ struct Asked<'a> {
 }
 
 impl Asked<'_> {
-    fn told(&self, held: &Held, answered: &Answered) -> Result<(String, Json), Stop> {
+    fn told(&self, before: &[u8], answered: &Answered) -> Result<(String, Json), Stop> {
         if answered.number != 0 {
-            return Err(self.refused(held, answered));
+            return Err(self.refused(before, answered));
         }
         let reply = Reply::of(&answered.reply).expect("a reply of 24 bytes");
         let message = Message::of(&self.bytes);
-        let gone = answered.gone(held);
+        let gone = answered.gone(before);
         let text = format!(
             "{}: {}; {}{}\n",
             self.table.display(),
@@ -171,16 +173,16 @@ impl Asked<'_> {
         ]
     }
 
-    fn refused(&self, held: &Held, answered: &Answered) -> Stop {
+    fn refused(&self, before: &[u8], answered: &Answered) -> Stop {
         let number = answered.number;
-        let found = match calls::image_in(&held.bytes) {
+        let found = match calls::image_in(before) {
             Some(image) => reasons::answer::reason(number, image, &self.bytes),
-            None => wrong::reason(wrong::table::image(&held.bytes)),
+            None => wrong::reason(wrong::table::image(before)),
         };
         // The file that is wrong, if it is one of the two that is.
         let (path, bytes) = match number {
-            3 => (&self.message, &self.bytes),
-            _ => (&self.table, &held.bytes),
+            3 => (&self.message, &*self.bytes),
+            _ => (&self.table, before),
         };
         let hint = super::what_it_is(bytes).filter(|_| number == 2 || number == 3);
         let hint = hint.map(|what| format!(" (the file is {})", what));

@@ -4,6 +4,7 @@
 mod common;
 mod full;
 mod limits;
+mod meddled;
 mod shim;
 mod spoilt;
 

@@ -1,9 +1,10 @@
 /* Stands between the program and the C library: writes down the calls that change files, and spoils one of them.
  *
  * SHIM_LOG  the file to write a line to for each call: its turn, its name, its paths, and how many bytes it is about
- * SHIM_AT   which turn is spoilt, from 1
+ * SHIM_AT   which turn is spoilt, from 1; SHIM_FOR: how many are, from that one on
  * SHIM_DO   ENOSPC or EIO: it fails so; KILL: the process is killed before it; HALF: a write is done by half, and then it is
- *           killed
+ *           killed; RUN and a line for the shell: that is run before it
+ * SHIM_LACKS  names of calls that the file system does not know: link, exchange, rename-new
  */
 #define _GNU_SOURCE
 #include <dlfcn.h>
@@ -60,26 +61,46 @@ static void note(const char *call, const char *path, const char *other, size_t l
     }
 }
 
+/* What is done to the call whose turn it is; nothing, usually. */
+static const char *what_is_done(void) {
+    const char *at = getenv("SHIM_AT");
+    const char *how_many = getenv("SHIM_FOR");
+    const char *what = getenv("SHIM_DO");
+    int before = at == NULL ? 0 : turn - atoi(at);
+    if (at == NULL || what == NULL || before < 0 || before >= (how_many == NULL ? 1 : atoi(how_many))) {
+        return "";
+    }
+    return what;
+}
+
 /* Whether this call is the one to be spoilt by failing; or nobody learns it any more. */
 static int fails(const char *call, const char *path, const char *other, size_t length) {
-    const char *at = getenv("SHIM_AT");
-    const char *what = getenv("SHIM_DO");
     turn += 1;
     note(call, path, other, length);
-    if (at == NULL || what == NULL || atoi(at) != turn) {
+    const char *what = what_is_done();
+    if (strncmp(what, "RUN ", 4) == 0) {
+        unsetenv("LD_PRELOAD");
+        if (system(what + 4) != 0) {
+            abort();
+        }
         return 0;
     }
     if (strcmp(what, "KILL") == 0) {
         raise(SIGKILL);
     }
     errno = strcmp(what, "EIO") == 0 ? EIO : ENOSPC;
-    return strcmp(what, "HALF") != 0;
+    return what[0] != 0 && strcmp(what, "HALF") != 0;
 }
 
 static int is_halved(void) {
-    const char *at = getenv("SHIM_AT");
-    const char *what = getenv("SHIM_DO");
-    return at != NULL && what != NULL && atoi(at) == turn && strcmp(what, "HALF") == 0;
+    return strcmp(what_is_done(), "HALF") == 0;
+}
+
+/* Whether the file system does not know this call. Nothing can be spoilt in it then. */
+static int lacks(const char *call) {
+    const char *calls = getenv("SHIM_LACKS");
+    errno = strcmp(call, "link") == 0 ? EPERM : EINVAL;
+    return calls != NULL && strstr(calls, call) != NULL;
 }
 
 ssize_t write(int file, const void *bytes, size_t length) {
@@ -154,8 +175,18 @@ int rename(const char *from, const char *to) {
     return really(from, to);
 }
 
+int renameat2(int from_in, const char *from, int to_in, const char *to, unsigned int how) {
+    const char *call = how == RENAME_EXCHANGE ? "exchange" : "rename-new";
+    if (lacks(call) || fails(call, from, to, 0)) {
+        return -1;
+    }
+    int (*really)(int, const char *, int, const char *, unsigned int) = NULL;
+    *(void **)&really = dlsym(RTLD_NEXT, "renameat2");
+    return really(from_in, from, to_in, to, how);
+}
+
 int link(const char *from, const char *to) {
-    if (fails("link", from, to, 0)) {
+    if (lacks("link") || fails("link", from, to, 0)) {
         return -1;
     }
     int (*really)(const char *, const char *) = NULL;
@@ -164,7 +195,7 @@ int link(const char *from, const char *to) {
 }
 
 int linkat(int from_in, const char *from, int to_in, const char *to, int flags) {
-    if (fails("link", from, to, 0)) {
+    if (lacks("link") || fails("link", from, to, 0)) {
         return -1;
     }
     int (*really)(int, const char *, int, const char *, int) = NULL;

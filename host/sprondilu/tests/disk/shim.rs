@@ -50,15 +50,15 @@ pub struct Spoilt {
 
 /// Runs a line behind the shim: how it ended, and the calls that it made.
 pub fn run(folder: &Folder, line: &str, spoilt: Option<Spoilt>) -> (Ran, Vec<Call>) {
-    run_as(folder, line, spoilt, None)
+    run_with(folder, line, spoilt, &[])
 }
 
-/// The same, by a process that takes this for its number.
-pub fn run_as(
+/// The same, with more settings of the shim.
+pub fn run_with(
     folder: &Folder,
     line: &str,
     spoilt: Option<Spoilt>,
-    number: Option<u32>,
+    settings: &[(&str, &str)],
 ) -> (Ran, Vec<Call>) {
     // The log lies elsewhere, so that the folder has only what the program put there.
     let logs = Folder::new();
@@ -68,9 +68,7 @@ pub fn run_as(
     if let Some(Spoilt { turn, how }) = spoilt {
         command.env("SHIM_AT", turn.to_string()).env("SHIM_DO", how);
     }
-    if let Some(number) = number {
-        command.env("SHIM_PROCESS", number.to_string());
-    }
+    command.envs(settings.iter().copied());
     let output = command.args(line.split_whitespace()).output();
     let ran = Ran::of(line.to_string(), output.expect("a program to run"));
     let log = fs::read_to_string(logs.at("log")).unwrap_or_default();

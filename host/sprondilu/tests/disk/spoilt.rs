@@ -2,11 +2,20 @@
 
 use crate::common::boxes::{long_table, settled};
 use crate::common::{answered, fresh, Folder, Ran};
-use crate::shim::{run, run_as, Call, Spoilt};
+use crate::shim::{run, run_with, Call, Spoilt};
 use crate::{adding, case, Case};
 use samples::message as make;
 
 const LINE: &str = "answer t m --reply r";
+
+/// File systems that know all calls, that cannot exchange two names, and that know no second names.
+const FILE_SYSTEMS: [&str; 3] = ["", "exchange", "link"];
+
+/// And one that knows none of these.
+const POOREST: &str = "exchange link rename-new";
+
+/// The number of the process, wherever it matters.
+const NUMBER: (&str, &str) = ("SHIM_PROCESS", "7");
 
 /// Messages of every kind that changes a table; one table grows, one stays as long, one becomes shorter.
 fn cases() -> Vec<Case> {
@@ -35,10 +44,10 @@ fn folder_of(case: &Case) -> String {
 /// What the log of a run has to say: the new table is written and synced before it takes the old one's place, the folder is
 /// synced then, and only then anything else is written.
 fn assert_stored_first(case: &Case, calls: &[Call]) {
-    let renamed = place(calls, 0, |call| {
-        call.name == "rename" && call.becomes == "t"
+    let placed = place(calls, 0, |call| {
+        call.name == "exchange" && call.becomes == "t"
     });
-    let draft = &calls[renamed].file;
+    let draft = &calls[placed].file;
     let of_draft = |name: &str| -> Vec<usize> {
         let about = calls.iter().enumerate();
         let about = about.filter(|(_, call)| call.name == name && call.file == *draft);
@@ -49,9 +58,9 @@ fn assert_stored_first(case: &Case, calls: &[Call]) {
     assert_eq!(written, case.new.len());
     let last_write = *writes.last().expect("a write");
     let synced = *syncs.last().expect("a sync");
-    assert!(last_write < synced && synced < renamed, "{:#?}", calls);
+    assert!(last_write < synced && synced < placed, "{:#?}", calls);
     let folder = folder_of(case);
-    let stored = place(calls, renamed, |call| {
+    let stored = place(calls, placed, |call| {
         call.name == "fsync" && call.file == folder
     });
     let told = place(calls, 0, |call| call.name == "write" && call.file != *draft);
@@ -92,12 +101,12 @@ fn a_table_is_on_the_disk_before_a_reply_is_given() {
 }
 
 /// Spoils each call of a run in turn, until a run has no such call any more. Says how many runs left the old table and the new one.
-fn spoil_each(case: &Case, how: &'static str) -> (usize, usize) {
+fn spoil_each(case: &Case, how: &'static str, lacks: &str) -> (usize, usize) {
     let (mut old, mut new) = (0, 0);
     for turn in 1.. {
         case.begin();
         let spoilt = Spoilt { turn, how };
-        let (ran, calls) = run(&case.folder, LINE, Some(spoilt));
+        let (ran, calls) = run_with(&case.folder, LINE, Some(spoilt), &[("SHIM_LACKS", lacks)]);
         let what = format!("{:?}: {:?} after {:#?}", spoilt, ran, calls);
         let (is_new, has_reply) = (case.is_new(&what), case.has_reply(&what));
         assert!(is_new || (!has_reply && ran.status != Some(0)), "{}", what);
@@ -144,11 +153,20 @@ fn assert_told(case: &Case, ran: &Ran, what: &str) {
     }
 }
 
+/// The cases on the usual file system, and one on those that know less.
+fn everywhere() -> Vec<(Case, &'static str)> {
+    let usual = cases().into_iter().map(|case| (case, FILE_SYSTEMS[0]));
+    let others = FILE_SYSTEMS[1..].iter().map(|lacks| (adding(40), *lacks));
+    usual.chain(others).collect()
+}
+
 #[test]
 fn a_call_that_fails_leaves_the_old_table_or_the_new_one() {
-    for case in cases() {
+    let mut everywhere = everywhere();
+    everywhere.push((adding(40), POOREST));
+    for (case, lacks) in everywhere {
         for how in ["ENOSPC", "EIO"] {
-            let (old, new) = spoil_each(&case, how);
+            let (old, new) = spoil_each(&case, how, lacks);
             assert!(old >= 5 && new >= 5, "{} and {}", old, new);
         }
     }
@@ -156,17 +174,17 @@ fn a_call_that_fails_leaves_the_old_table_or_the_new_one() {
 
 #[test]
 fn a_run_that_is_killed_leaves_the_old_table_or_the_new_one() {
-    for case in cases() {
-        let (old, new) = spoil_each(&case, "KILL");
+    for (case, lacks) in everywhere() {
+        let (old, new) = spoil_each(&case, "KILL", lacks);
         assert!(old >= 5 && new >= 5, "{} and {}", old, new);
         // Of the three things that are written, the first is the table.
-        let (old, new) = spoil_each(&case, "HALF");
+        let (old, new) = spoil_each(&case, "HALF", lacks);
         assert!(old == 1 && new >= 2, "{} and {}", old, new);
     }
 }
 
-/// A run was stopped after its rename and before it synced the folder; or the table was copied there by somebody who syncs nothing.
-/// Whoever answers from that table then syncs it and its folder first, also if he refuses.
+/// A run was stopped after its table had its place and before it synced the folder; or the table was copied there by somebody who
+/// syncs nothing. Whoever answers from that table then syncs it and its folder first, also if he refuses.
 #[test]
 fn a_reply_waits_for_what_another_run_stored() {
     for (case, number) in [
@@ -174,14 +192,14 @@ fn a_reply_waits_for_what_another_run_stored() {
         (case(long_table(3), make::change_view(7)), 10),
     ] {
         let (_, calls) = run(&case.folder, LINE, None);
-        let renamed = place(&calls, 0, |call| call.name == "rename");
+        let placed = place(&calls, 0, |call| call.name == "exchange");
         case.begin();
         let spoilt = Spoilt {
-            turn: renamed + 2,
+            turn: placed + 2,
             how: "KILL",
         };
         let (ran, _) = run(&case.folder, LINE, Some(spoilt));
-        assert!(ran.status.is_none() && case.is_new("killed after the rename"));
+        assert!(ran.status.is_none() && case.is_new("killed after the exchange"));
         let (ran, calls) = run(&case.folder, LINE, None);
         assert_eq!(ran.status, Some(i32::from(number > 0)), "{:?}", ran);
         let told = place(&calls, 0, |call| call.name == "write");
@@ -229,7 +247,7 @@ fn what_a_killed_run_left_is_left_alone() {
             turn: synced + 1,
             how: "KILL",
         };
-        let (ran, _) = run_as(&case.folder, LINE, Some(spoilt), Some(7));
+        let (ran, _) = run_with(&case.folder, LINE, Some(spoilt), &[NUMBER]);
         assert!(ran.status.is_none() && !case.is_new("killed"), "{:?}", ran);
         assert!(case.folder.has(&format!(".t.7-{}.new", turn)));
     }
@@ -237,7 +255,7 @@ fn what_a_killed_run_left_is_left_alone() {
     case.folder.put(".t.7-1.new", &case.new[..20]);
     case.folder.put(".r.7-0.new", b"something else");
     let left = case.folder.state();
-    let (ran, calls) = run_as(&case.folder, "answer t m --reply new", None, Some(7));
+    let (ran, calls) = run_with(&case.folder, "answer t m --reply new", None, &[NUMBER]);
     ran.done();
     assert!(case.is_new("a run with the same number"));
     assert_eq!(calls[0].file, ".t.7-0.new");
@@ -253,7 +271,8 @@ fn what_a_killed_run_left_is_left_alone() {
 
 /// Spoils each call of another command that writes `new`: what it writes is whole or is not there, and what was there stays until
 /// it is replaced.
-fn spoil_each_of(folder: &Folder, line: &str, old: Option<&[u8]>, how: &'static str) {
+fn spoil_each_of(folder: &Folder, line: &str, how: &'static str, lacks: &str) {
+    let old = line.contains("--replace").then_some(&[5, 0, 0, 0, 1][..]);
     let begin = || {
         let made = |name: &&String| *name != "zero" && *name != "one";
         folder
@@ -268,7 +287,8 @@ fn spoil_each_of(folder: &Folder, line: &str, old: Option<&[u8]>, how: &'static 
     let new = folder.bytes("new");
     for turn in 1.. {
         begin();
-        let (ran, calls) = run(folder, line, Some(Spoilt { turn, how }));
+        let spoilt = Some(Spoilt { turn, how });
+        let (ran, calls) = run_with(folder, line, spoilt, &[("SHIM_LACKS", lacks)]);
         let found = folder.has("new").then(|| folder.bytes("new"));
         let is_new = found.as_ref() == Some(&new);
         assert!(
@@ -281,6 +301,7 @@ fn spoil_each_of(folder: &Folder, line: &str, old: Option<&[u8]>, how: &'static 
         assert!(is_new || ran.status != Some(0), "{:?}", ran);
         if calls.len() < turn {
             assert!(turn > 5, "{:#?}", calls);
+            ran.done();
             return;
         }
     }
@@ -298,9 +319,10 @@ fn other_files_are_whole_or_not_there() {
         "message change-view 8 --out new --replace",
         "merge --view 7 --out new zero one",
     ] {
-        let old = line.contains("--replace").then_some(&[5, 0, 0, 0, 1][..]);
         for how in ["ENOSPC", "EIO", "KILL", "HALF"] {
-            spoil_each_of(&folder, line, old, how);
+            for lacks in FILE_SYSTEMS {
+                spoil_each_of(&folder, line, how, lacks);
+            }
         }
     }
 }

@@ -2,7 +2,7 @@
 
 use crate::bad::good_files;
 use crate::common::ran::{bad_usage, not_tried};
-use crate::common::{answered, run, run_words, Folder};
+use crate::common::{answered, run, run_words, Folder, Ran};
 use samples::message as make;
 use std::fs;
 use std::os::unix::fs::symlink;
@@ -109,6 +109,7 @@ fn a_table_waits_for_a_place_for_the_reply() {
     adding(&folder);
     folder.put("damaged", &folder.bytes("t")[1..]);
     symlink("/dev/null", folder.at("nul")).expect("a link");
+    symlink("one", folder.at("to-one")).expect("a link");
     symlink("nowhere", folder.at("dangling")).expect("a link");
     let made = Command::new("mkfifo").arg(folder.at("pipe")).status();
     assert!(made.expect("mkfifo").success());
@@ -121,6 +122,7 @@ fn a_table_waits_for_a_place_for_the_reply() {
         ("one --replace", "what is there is no reply"),
         ("add --replace", "over the table or the message"),
         ("damaged --replace", "what is there is no reply"),
+        ("to-one --replace", "what is there is no reply"),
         ("nul --replace", "another could take the place of"),
         ("pipe --replace", "another could take the place of"),
         ("dangling --replace", "cannot write dangling"),
@@ -129,6 +131,23 @@ fn a_table_waits_for_a_place_for_the_reply() {
     }
     let words = ["answer", "t", "add", "--reply", ""];
     run_words(&folder, &words).not_tried("'' is no name for a file");
+}
+
+/// A run holds one lock at a time, and so none waits for itself or for another that waits for it: here the table file, which is a
+/// reply and no table, is the file that the reply replaces.
+#[test]
+fn a_reply_over_a_second_name_of_the_table() {
+    let folder = good_files();
+    fs::hard_link(folder.at("r"), folder.at("second")).expect("a second name");
+    let words = ["answer", "r", "m", "--reply", "second", "--replace"];
+    let ended = Command::new("timeout")
+        .args(["20", env!("CARGO_BIN_EXE_sprondilu")])
+        .args(words)
+        .current_dir(folder.path())
+        .output();
+    Ran::of(words.join(" "), ended.expect("timeout")).refused(2);
+    assert_eq!(folder.bytes("second")[0], 2);
+    assert_eq!(folder.bytes("r")[0], 0);
 }
 
 /// A read and a refusal leave the file as it is, and so does a message whose answer is held already: also its inode and the time
