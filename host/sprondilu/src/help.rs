@@ -132,7 +132,8 @@ README.md has, and sends one merge for a view.
   --at TIME   for read: the stamp TIME:65535, the last one of that time, which
               finds what was written up to that time and at it, by any client
   --out FILE  the file to write; one that is there already is not written over
-  --replace   it is, if it is a message or empty
+  --replace   it is, if it is a message or empty; what is kept of it, such as
+              its mode, is said by sprondilu answer --help
   --json      for a program
 
 Refusals: 3 bad message, if what the words say is against the rules of a
@@ -158,10 +159,15 @@ file is not seen, nor, on a file system that cannot exchange two names, what
 happens in the last moment. A refused message leaves the file alone, and so does
 one that changes nothing. A file that holds more than the table, such as a dump
 of a box's buffer, keeps what stands after the longer of the old and the new
-table. A file with two names (a hard link) is replaced under the one that is
-named here, so that there are two tables then: give a table one name, or links
-that are symbolic. A symbolic link to a table stays; one to a reply is replaced
-itself.
+table.
+
+Of a file that is replaced, a table or a reply, the mode is kept, the group if
+this user is in it, and the owner if he may give files away. If the group cannot
+be kept, the file's new group has no rights to it, and others have only those
+that the old group had too. Access lists are not kept. A file with two names (a
+hard link) is replaced under the one that is named here, so that there are two
+tables then: give a table one name, or links that are symbolic. A symbolic link
+to a table stays; one to a reply is replaced itself.
 
   --reply FILE  the file for the reply's 24 bytes; one that is there already is
                 not written over

@@ -3,6 +3,7 @@
 use super::{is_under, system};
 use std::fs::{self, File, Metadata, OpenOptions};
 use std::io::{self, ErrorKind, Write};
+use std::os::unix::fs::OpenOptionsExt;
 use std::path::{Path, PathBuf};
 use std::process;
 
@@ -25,7 +26,9 @@ impl Draft {
     /// Writes and syncs the bytes in the folder of `place`. What will replace another file has its rights before it has any bytes,
     /// and is locked, so that whoever finds it in its place waits until it is sure to stay there.
     pub fn write(place: &Path, bytes: &[u8], like: Option<&Metadata>) -> io::Result<Draft> {
-        let draft = Draft::open(place)?;
+        // As long as the rights of the old file are not given to it, it is nobody else's to open.
+        let mode = if like.is_some() { 0o600 } else { 0o666 };
+        let draft = Draft::open(place, mode)?;
         if let Some(old) = like {
             system::lock(&draft.file)?;
             system::give_rights(&draft.file, old)?;
@@ -36,14 +39,14 @@ impl Draft {
     }
 
     /// A new file under a name that nobody has. Another process has another number; what a broken run left is left alone.
-    fn open(place: &Path) -> io::Result<Draft> {
+    fn open(place: &Path, mode: u32) -> io::Result<Draft> {
         let name = place
             .file_name()
             .ok_or_else(|| io::Error::from(ErrorKind::InvalidInput))?;
         // The longest name that a file may have leaves no room for more.
         let name: String = name.to_string_lossy().chars().take(40).collect();
         let mut new = OpenOptions::new();
-        new.write(true).create_new(true);
+        new.write(true).create_new(true).mode(mode);
         let mut turn = 0;
         loop {
             let path = place.with_file_name(format!(".{}.{}-{}.new", name, process::id(), turn));

@@ -1,11 +1,11 @@
 //! Functions of the C library that std of Rust 1.63 has no words for.
 
 use std::ffi::CString;
-use std::fs::{File, Metadata};
+use std::fs::{File, Metadata, Permissions};
 use std::io::{self, ErrorKind};
 use std::os::raw::c_char;
 use std::os::unix::ffi::OsStrExt;
-use std::os::unix::fs::MetadataExt;
+use std::os::unix::fs::{MetadataExt, PermissionsExt};
 use std::os::unix::io::AsRawFd;
 use std::path::Path;
 
@@ -17,6 +17,8 @@ extern "C" {
 }
 
 const LOCK_EX: i32 = 2;
+/// In place of an owner: the one that the file has.
+const AS_IT_IS: u32 = u32::MAX;
 /// In place of an open folder: names are looked up as in every other call.
 const AT_FDCWD: i32 = -100;
 const RENAME_NOREPLACE: u32 = 1;
@@ -36,11 +38,21 @@ pub fn lock(file: &File) -> io::Result<()> {
     }
 }
 
-/// Gives a file the mode of another and, if this user may, its owner and its group. If not, it is this user's.
+/// Gives a file the owner, the group and the mode of another, as far as this user may, and lets nobody in whom the other kept out.
+///
+/// Whoever may not give files away keeps it, and whoever is not in that group leaves it to his own. Then the mode has nothing for
+/// the group, which is another one; and for others only what the old group had too, whose people are among them now.
 pub fn give_rights(file: &File, old: &Metadata) -> io::Result<()> {
+    let mode = old.mode() & 0o7777;
+    let has_group = give_to(file, old.uid(), old.gid()) || give_to(file, AS_IT_IS, old.gid());
+    let without_group = mode & 0o700 | mode & (mode >> 3) & 0o007;
+    let mode = if has_group { mode } else { without_group };
+    file.set_permissions(Permissions::from_mode(mode))
+}
+
+fn give_to(file: &File, owner: u32, group: u32) -> bool {
     // The file is open, and the call touches no memory of ours.
-    unsafe { fchown(file.as_raw_fd(), old.uid(), old.gid()) };
-    file.set_permissions(old.permissions())
+    unsafe { fchown(file.as_raw_fd(), owner, group) == 0 }
 }
 
 /// Gives a file another name, unless somebody has that name.

@@ -1,6 +1,7 @@
 /* Stands between the program and the C library: writes down the calls that change files, and spoils one of them.
  *
- * SHIM_LOG  the file to write a line to for each call: its turn, its name, its paths, and how many bytes it is about
+ * SHIM_LOG  the file to write a line to for each call: its turn, its name, its paths, and how many bytes it is about, or
+ *           with which mode a file is created
  * SHIM_AT   which turn is spoilt, from 1; SHIM_FOR: how many are, from that one on
  * SHIM_DO   ENOSPC or EIO: it fails so; KILL: the process is killed before it; HALF: a write is done by half, and then it is
  *           killed; RUN and a line for the shell: that is run before it
@@ -121,7 +122,7 @@ static int opened(const char *path, int flags, va_list more) {
     mode_t mode = 0;
     if ((flags & O_CREAT) != 0) {
         mode = (mode_t)va_arg(more, int);
-        if (fails("create", path, "", 0)) {
+        if (fails("create", path, "", mode)) {
             return -1;
         }
     }

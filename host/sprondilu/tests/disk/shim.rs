@@ -38,6 +38,7 @@ pub struct Call {
     /// The file's name without its folder, and that of the file that it becomes.
     pub file: String,
     pub becomes: String,
+    /// How many bytes are written; of a file that is created, its mode.
     pub bytes: usize,
 }
 

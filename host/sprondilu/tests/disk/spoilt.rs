@@ -56,6 +56,10 @@ fn assert_stored_first(case: &Case, calls: &[Call]) {
     let (writes, syncs) = (of_draft("write"), of_draft("fsync"));
     let written: usize = writes.iter().map(|place| calls[*place].bytes).sum();
     assert_eq!(written, case.new.len());
+    // Nobody else can open it before it has the rights of the old table, and before that nothing is in it.
+    let rights = of_draft("fchmod")[0];
+    assert!(rights < writes[0], "{:#?}", calls);
+    assert_eq!(calls[of_draft("create")[0]].bytes, 0o600);
     let last_write = *writes.last().expect("a write");
     let synced = *syncs.last().expect("a sync");
     assert!(last_write < synced && synced < placed, "{:#?}", calls);
