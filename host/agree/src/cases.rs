@@ -1,24 +1,23 @@
-//! What is asked of both renderings, with the second program's answer.
+//! All cases, and how many of them there are.
 
+use crate::case::Case;
 use crate::group::Group;
-use crate::{replies, scattered};
-use reference::{Counted, Decision, Message, Model, Number, Reply, Table};
+use crate::{near, replies, scattered};
 use samples::Dice;
 
-/// A box that is soon full, so that this happens often.
-pub const SMALL: Model = Model {
-    rows: 6,
-    buffer: 49_176,
-};
+/// A case with its name: in what it differs from the one beside it, or its place among the random ones.
+pub type Named = (String, Case);
 
-pub enum Case {
-    Answer(Table, Message, Result<(Table, Reply), Number>),
-    Merge(u32, Vec<Table>, Result<Table, Number>),
-    Count(u8, Vec<Counted>, Result<Decision, Number>),
+/// The cases near the boundaries, which are the same for every seed, and the random ones of the seed, if one is given.
+pub fn all(seed: Option<u64>) -> Vec<Named> {
+    let mut cases = near::all();
+    let random = seed.map_or(Vec::new(), random);
+    let named = |(place, case)| (format!("random {}", place), case);
+    cases.extend(random.into_iter().enumerate().map(named));
+    cases
 }
 
-/// All cases that a seed leads to.
-pub fn all(seed: u64) -> Vec<Case> {
+fn random(seed: u64) -> Vec<Case> {
     let mut dice = Dice::seeded(seed);
     let mut cases = Vec::new();
     for n in [3, 5, 7, 3, 5, 7] {
@@ -35,21 +34,30 @@ pub fn all(seed: u64) -> Vec<Case> {
 }
 
 /// How many cases of each kind were given each number.
-pub fn summary(cases: &[Case]) -> String {
+pub fn summary(cases: &[Named]) -> String {
     let mut numbers = [[0; 12]; 3];
-    for case in cases {
+    let mut others = 0;
+    for (_, case) in cases {
         let (kind, refusal) = match case {
-            Case::Answer(_, _, result) => (0, result.as_ref().err()),
-            Case::Merge(_, _, result) => (1, result.as_ref().err()),
-            Case::Count(_, _, result) => (2, result.as_ref().err()),
+            Case::Answer(_, _, told) => (0, told.as_ref().err()),
+            Case::Merge(_, _, told) => (1, told.as_ref().err()),
+            Case::Count(_, _, told) => (2, told.as_ref().err()),
+            _ => {
+                others += 1;
+                continue;
+            }
         };
         numbers[kind][usize::from(refusal.map_or(0, |number| number.code()))] += 1;
     }
+    let random = cases.iter().filter(|(name, _)| name.starts_with("random"));
+    let random = random.count();
     format!(
-        "{} cases, by number 0 to 11: answers {:?}, merges {:?}, counts {:?}",
-        cases.len(),
+        "{} cases near the boundaries and {} random ones; by number 0 to 11: answers {:?}, merges {:?}, counts {:?}; and {} of the parts",
+        cases.len() - random,
+        random,
         numbers[0],
         numbers[1],
-        numbers[2]
+        numbers[2],
+        others
     )
 }

@@ -1,7 +1,8 @@
 //! A group of boxes that random messages reach, and changes of its view.
 
-use crate::cases::{Case, SMALL};
+use crate::case::{Case, SMALL};
 use crate::parts::{body_of, outcome, result};
+use crate::plain::{table_of, Sent};
 use reference::{merged, respond, Message, Rows, Table};
 use samples::Dice;
 
@@ -34,7 +35,7 @@ impl Group {
         if let Ok((after, _)) = &answer {
             self.boxes[place] = after.clone();
         }
-        Case::Answer(held, message, answer)
+        Case::answer(&table_of(&held), Sent::of(&message))
     }
 
     /// f+1 boxes change the view, mostly, their tables are merged, and most boxes start with what comes out.
@@ -53,8 +54,8 @@ impl Group {
         }
         let result = merged(SMALL, &tables, view);
         let empty = Table::beginning(n as u8, (view as usize % n) as u8, view, Rows::new());
-        let image = result.clone().unwrap_or(empty);
-        cases.push(Case::Merge(view, tables, result));
+        let image = result.unwrap_or(empty);
+        cases.push(Case::merge(view, tables.iter().map(table_of).collect()));
         for place in 0..n {
             if self.dice.in_a_hundred(70) {
                 let image = image.clone();

@@ -1,32 +1,40 @@
-//! Writes a crate of statements: in each of many random cases the definitions of `rules` compute to what the second
-//! program answers. The checker decides each one by computation, so two renderings of document 01 that know nothing
-//! of each other are held against each other before any byte is proved.
+//! Writes a crate of statements: in each of many cases the definitions of `rules` compute to what the second program answers.
+//! The checker decides each one by computation, so two renderings of document 01 that know nothing of each other are held
+//! against each other before any byte is proved.
 //!
 //! `agree SPECS FOLDER SEED` reads the names of the definitions in SPECS and writes the crate; `tools/agree` writes it
-//! and has it checked.
+//! and has it checked. Without a seed the cases near the boundaries are written alone, which `tools/noticed` holds against
+//! changed definitions.
 
+mod case;
 mod cases;
 mod group;
+mod near;
 mod parts;
+mod plain;
 mod print;
 mod replies;
 mod scattered;
 
-use cases::Case;
+use cases::Named;
 use std::path::Path;
 use std::{env, fs, io, process};
 
-/// What the statements name that is no definition by clauses.
+/// What the statements name that is no definition by clauses, and the words that they are written in.
 const HEADER: &str = include_str!("header.txt");
+const WORDS: &str = include_str!("words.txt");
 
 fn main() {
     let words: Vec<String> = env::args().skip(1).collect();
     let (specs, folder, seed) = match &words[..] {
-        [specs, folder, seed] => (Path::new(specs), Path::new(folder), seed.parse()),
-        _ => refuse("name the folder of the definitions, the folder to write to and a seed"),
+        [specs, folder] => (specs, folder, Ok(None)),
+        [specs, folder, seed] => (specs, folder, seed.parse().map(Some)),
+        _ => {
+            refuse("name the folder of the definitions, the folder to write to and perhaps a seed")
+        }
     };
     match seed {
-        Ok(seed) => match write_crate(specs, folder, seed) {
+        Ok(seed) => match write_crate(Path::new(specs), Path::new(folder), seed) {
             Ok(done) => println!("agree: {}", done),
             Err(error) => refuse(&error),
         },
@@ -39,7 +47,7 @@ fn refuse(why: &str) -> ! {
     process::exit(2);
 }
 
-fn write_crate(specs: &Path, folder: &Path, seed: u64) -> Result<String, String> {
+fn write_crate(specs: &Path, folder: &Path, seed: Option<u64>) -> Result<String, String> {
     let definitions = definitions(specs).map_err(|error| at(specs, error))?;
     let cases = cases::all(seed);
     let files = [
@@ -81,8 +89,12 @@ fn definitions(specs: &Path) -> io::Result<Vec<(String, Vec<String>)>> {
     Ok(found)
 }
 
-/// One statement a case, each computed with everything unfolded.
-fn statements(definitions: &[(String, Vec<String>)], cases: &[Case]) -> String {
+/// So many cases stand in one statement: what each statement costs by itself is shared.
+const TOGETHER: usize = 40;
+
+/// One statement for several cases, each of which is computed with everything unfolded and proved on a line of its own, behind
+/// which its name stands: where the checker refuses a line, that case is the one that disagrees.
+fn statements(definitions: &[(String, Vec<String>)], cases: &[Named]) -> String {
     let mut text = HEADER.to_string();
     let mut unfolded = String::new();
     for (module, names) in definitions {
@@ -93,15 +105,28 @@ fn statements(definitions: &[(String, Vec<String>)], cases: &[Case]) -> String {
         );
         unfolded += &format!(" {}", names.join(" "));
     }
-    text += &format!("\nabbrev small : Model\nsmall = {}\n", print::model());
-    for (place, case) in cases.iter().enumerate() {
-        text += &format!(
-            "\ncase-{place} : {statement}\nunfolding{unfolded}\ncase-{place} = {proof}\n",
-            place = place,
-            statement = print::statement(case),
-            unfolded = unfolded,
-            proof = print::proof(case),
-        );
+    text += &print::models();
+    text += WORDS;
+    for (place, some) in cases.chunks(TOGETHER).enumerate() {
+        text += &together(place, some, &unfolded);
     }
     text
+}
+
+fn together(place: usize, cases: &[Named], unfolded: &str) -> String {
+    let statements: Vec<String> = cases
+        .iter()
+        .map(|(_, case)| format!("({})", print::statement(case)))
+        .collect();
+    let proofs: String = cases
+        .iter()
+        .map(|(name, case)| format!("    , {} -- {}\n", print::proof(case), name))
+        .collect();
+    format!(
+        "\ncases-{place} :\n    {statements}\nunfolding{unfolded}\ncases-{place} =\n    ({proofs}    )\n",
+        place = place,
+        statements = statements.join("\n    × "),
+        unfolded = unfolded,
+        proofs = proofs.trim_start_matches("    ,"),
+    )
 }

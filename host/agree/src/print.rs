@@ -1,24 +1,48 @@
-//! The structures of the second program, written as values of the definitions.
+//! Cases written as statements about the definitions.
 
-use crate::cases::{Case, SMALL};
-use reference::{
-    Body, Counted, Decision, HeldOutcome, HeldPrepare, Message, Mode, Number, Outcome,
-    PrepareResult, Reply, Row, Table,
-};
-use std::collections::BTreeMap;
+use crate::case::{Case, SMALL};
+use crate::plain::Sent;
+use reference::{Decision, Model, Number, PrepareResult, VALLEY};
+use samples::{Access, Record, Row, Table};
+
+/// The model of the cases, and that of document 01 as the second program has it.
+pub fn models() -> String {
+    format!(
+        "\nabbrev small : Model\nsmall = {}\n\nthe-model : valley ≡ {}\nthe-model = refl -- the model of document 01\n",
+        model(SMALL),
+        model(VALLEY),
+    )
+}
+
+fn model(model: Model) -> String {
+    format!(
+        "record {{ rowLimit = {}; leastBuffer = {} }}",
+        model.rows, model.buffer
+    )
+}
 
 pub fn statement(case: &Case) -> String {
     match case {
-        Case::Answer(held, sent, answer) => format!(
-            "answer small belowLimit check {} {} ≡ {}",
-            table(held),
-            message(sent),
-            answered(held, answer)
-        ),
-        Case::Merge(view, tables, result) => merge(*view, tables, result),
+        Case::Answer(held, sent, answer) => answered(held, sent, answer),
+        Case::Merge(view, tables, result) => merged(*view, tables, result),
         Case::Count(n, replies, decision) => {
-            let heard = list(replies.iter().map(reply_heard));
+            let heard = list(replies.iter().map(heard));
             format!("counted {} {} ≡ {}", n, heard, counted(decision))
+        }
+        Case::Check(rows, asked, result) => {
+            let rows = list(rows.iter().map(row));
+            let told = result_of(result.code(), result.retry_stamp());
+            format!("check {} {} {} ≡ {}", rows, asked.stamp, body(asked), told)
+        }
+        Case::Image(image, good) => format!("tableByRule small {} ≡ {}", table(image), good),
+        Case::Fresh(n, box_number, told) => fresh(*n, *box_number, told),
+        Case::Buffers(length, small, reply, reply_small) => format!(
+            "(tooSmall valley {} ≡ {}) × (replyTooSmall {} ≡ {})",
+            length, small, reply, reply_small
+        ),
+        Case::Applying(numbers, told) => {
+            let given = list(numbers.iter().map(|k| format!("({}, true)", name(*k))));
+            format!("number {} ≡ {}", given, told.code())
         }
     }
 }
@@ -26,33 +50,52 @@ pub fn statement(case: &Case) -> String {
 /// Both sides of the statement compute to the same.
 pub fn proof(case: &Case) -> &'static str {
     match case {
-        Case::Merge(..) => "(refl, refl)",
-        Case::Answer(..) | Case::Count(..) => "refl",
+        Case::Merge(..) | Case::Buffers(..) | Case::Fresh(_, _, Some(_)) => "(refl, refl)",
+        _ => "refl",
     }
 }
 
-/// The number and the table of a merge; a refused one has none.
-fn merge(view: u32, tables: &[Table], result: &Result<Table, Number>) -> String {
-    let tables = list(tables.iter().map(table));
-    let (number, merged) = match result {
-        Ok(merged) => (0, format!("some {}", table(merged))),
-        Err(number) => (number.code(), "none".to_string()),
-    };
-    format!(
-        "(mergeNumber small {view} {tables} ≡ {number}) × (merge small check {view} {tables} ≡ {merged})",
-        view = view,
-        tables = tables,
-        number = number,
-        merged = merged,
-    )
+fn answered(held: &Table, sent: &Sent, answer: &Result<(Table, Vec<u8>), Number>) -> String {
+    let asked = format!("{} {}", table(held), message(sent));
+    match answer {
+        Ok((after, reply)) => format!("answers {} {} {}", asked, 0, done(after, reply)),
+        Err(refusal) => format!("refuses {} {}", asked, refusal.code()),
+    }
 }
 
-/// The model of the cases.
-pub fn model() -> String {
-    format!(
-        "record {{ rowLimit = {}; leastBuffer = {} }}",
-        SMALL.rows, SMALL.buffer
-    )
+/// "number 0, kind, box, state byte [..], last normal view after the call 4, stamp 8, value 8"
+fn done(after: &Table, reply: &[u8]) -> String {
+    let field = |from: usize, to: usize| {
+        let bytes = reply[from..to].iter();
+        bytes.fold(0, |number: u64, byte| number << 8 | u64::from(*byte))
+    };
+    let fields = [(1, 2), (2, 3), (3, 4), (4, 8), (8, 16), (16, 24)];
+    let fields = fields.map(|(from, to)| field(from, to).to_string());
+    format!("{} {}", table(after), fields.join(" "))
+}
+
+/// The number and the table of a merge; a refused one has none.
+fn merged(view: u32, tables: &[Table], result: &Result<Table, Number>) -> String {
+    let tables = list(tables.iter().map(table));
+    let told = match result {
+        Ok(merged) => format!("0 (some {})", table(merged)),
+        Err(number) => format!("{} none", number.code()),
+    };
+    format!("merges {} {} {}", view, tables, told)
+}
+
+fn fresh(n: u8, box_number: u8, told: &Option<Table>) -> String {
+    let bad = format!("badGroup {} {} ≡ {}", n, box_number, told.is_none());
+    match told {
+        None => bad,
+        Some(fresh) => format!(
+            "({}) × (freshTable {} {} ≡ {})",
+            bad,
+            n,
+            box_number,
+            table(fresh)
+        ),
+    }
 }
 
 fn list(items: impl Iterator<Item = String>) -> String {
@@ -60,149 +103,125 @@ fn list(items: impl Iterator<Item = String>) -> String {
     format!("({}[])", chain)
 }
 
-fn answered(held: &Table, answer: &Result<(Table, Reply), Number>) -> String {
-    let (number, after, reply) = match answer {
-        Ok((after, reply)) => (0, after, reply_fields(reply)),
-        Err(refusal) => (refusal.code(), held, [0; 6]),
-    };
-    let names = ["kind", "box", "state", "view", "stamp", "value"];
-    let fields: String = names
-        .iter()
-        .zip(reply)
-        .map(|(name, value)| format!("; {} = {}", name, value))
-        .collect();
-    format!(
-        "record {{ number = {number}; table = {table}; reply = record {{ number = {number}{fields} }} }}",
-        number = number,
-        table = table(after),
-        fields = fields,
-    )
-}
-
-fn reply_fields(reply: &Reply) -> [u64; 6] {
-    [
-        u64::from(reply.kind),
-        u64::from(reply.box_number),
-        u64::from(reply.state),
-        u64::from(reply.view),
-        reply.stamp,
-        reply.value,
-    ]
-}
-
 fn table(table: &Table) -> String {
-    let mode = u8::from(table.mode != Mode::Normal);
-    let rows = list(table.rows.iter().map(|(stamp, held)| row(*stamp, held)));
     format!(
-        "(record {{ box = {}; n = {}; mode = {}; view = {}; promised = {}; start = {}; rows = {} }})",
+        "(table {} {} {} {} {} {} {})",
         table.box_number,
         table.n,
-        mode,
+        table.mode,
         table.view,
-        table.promised(),
+        table.promised,
         table.start_rows,
-        rows
+        list(table.rows.iter().map(row))
     )
 }
 
-fn row(stamp: u64, row: &Row) -> String {
+fn row(row: &Row) -> String {
     format!(
-        "record {{ stamp = {}; body = {}; prepare = {}; outcome = {} }}",
-        stamp,
-        body(&row.body),
-        prepare(row.prepare),
+        "row {} {} {} {}",
+        row.stamp,
+        body(row),
+        prepare(row.prepare, row.retry),
         outcome(row.outcome)
     )
 }
 
-fn body(body: &Body) -> String {
-    format!(
-        "(record {{ reads = {}; writes = {} }})",
-        accesses(&body.reads),
-        accesses(&body.writes)
-    )
+fn body(row: &Row) -> String {
+    format!("(body {} {})", accesses(&row.reads), accesses(&row.writes))
 }
 
-fn accesses(accesses: &BTreeMap<u8, u64>) -> String {
-    list(accesses.iter().map(|(register, number)| {
-        format!("record {{ register = {}; number = {} }}", register, number)
-    }))
+fn accesses(accesses: &[Access]) -> String {
+    let access = |access: &Access| format!("an {} {}", access.register, access.number);
+    list(accesses.iter().map(access))
 }
 
-fn result(result: PrepareResult) -> String {
-    match result {
-        PrepareResult::Ok => "OK".to_string(),
-        PrepareResult::Abort => "ABORT".to_string(),
-        PrepareResult::Abstain => "ABSTAIN".to_string(),
-        PrepareResult::Retry(stamp) => format!("(RETRY {})", stamp),
+/// "OK, ABORT, ABSTAIN, RETRY", from 1
+fn result_of(code: u8, retry: u64) -> String {
+    match code {
+        1 => "OK".to_string(),
+        2 => "ABORT".to_string(),
+        3 => "ABSTAIN".to_string(),
+        4 => format!("(RETRY {})", retry),
+        _ => panic!("the definitions have no result {}", code),
     }
 }
 
-fn prepare(held: Option<HeldPrepare>) -> String {
-    match held {
-        None => "noPrepare".to_string(),
-        Some(held) if held.is_final => format!("final {}", result(held.result)),
-        Some(held) => format!("tentative {}", result(held.result)),
+fn prepare(byte: u8, retry: u64) -> String {
+    match byte {
+        0 => "noPrepare".to_string(),
+        1..=4 => format!("(tentative {})", result_of(byte, retry)),
+        _ => format!("(final {})", result_of(byte - 4, retry)),
     }
 }
 
-fn verdict(outcome: Outcome) -> &'static str {
-    match outcome {
-        Outcome::Commit => "commit",
-        Outcome::Abort => "abort",
+fn verdict(code: u8) -> &'static str {
+    ["commit", "abort"][usize::from(code) - 1]
+}
+
+fn outcome(byte: u8) -> String {
+    match byte {
+        0 => "noOutcome".to_string(),
+        1 | 2 => format!("(noted {})", verdict(byte)),
+        _ => format!("(done {})", verdict(byte - 2)),
     }
 }
 
-fn outcome(held: Option<HeldOutcome>) -> String {
-    match held {
-        None => "noOutcome".to_string(),
-        Some(held) if held.is_done => format!("done {}", verdict(held.outcome)),
-        Some(held) => format!("noted {}", verdict(held.outcome)),
-    }
-}
-
-fn message(message: &Message) -> String {
-    let text = match message {
-        Message::ProposePrepare { stamp, body: x } => {
-            format!("proposePrepare {} {}", stamp, body(x))
+fn message(sent: &Sent) -> String {
+    let text = match sent {
+        Sent::ProposePrepare(asked) => format!("proposePrepare {} {}", asked.stamp, body(asked)),
+        Sent::FinalisePrepare(stamp, view, (code, retry)) => {
+            let result = result_of(*code, *retry);
+            format!("finalisePrepare {} {} {}", stamp, view, result)
         }
-        Message::FinalisePrepare {
-            stamp,
-            view,
-            result: r,
-        } => format!("finalisePrepare {} {} {}", stamp, view, result(*r)),
-        Message::ProposeOutcome {
-            stamp,
-            outcome,
-            body: x,
-        } => format!("proposeOutcome {} {} {}", stamp, verdict(*outcome), body(x)),
-        Message::FinaliseOutcome {
-            stamp,
-            view,
-            outcome,
-        } => format!("finaliseOutcome {} {} {}", stamp, view, verdict(*outcome)),
-        Message::ChangeView { view } => format!("changeView {}", view),
-        Message::StartView { view, image } => format!("startView {} {}", view, table(image)),
-        Message::Read { stamp, register } => format!("readRegister {} {}", stamp, register),
+        Sent::ProposeOutcome(asked, outcome) => {
+            let verdict = verdict(*outcome);
+            format!("proposeOutcome {} {} {}", asked.stamp, verdict, body(asked))
+        }
+        Sent::FinaliseOutcome(stamp, view, outcome) => {
+            format!("finaliseOutcome {} {} {}", stamp, view, verdict(*outcome))
+        }
+        Sent::ChangeView(view) => format!("changeView {}", view),
+        Sent::StartView(view, image) => format!("startView {} {}", view, table(image)),
+        Sent::Read(stamp, register) => format!("readRegister {} {}", stamp, register),
     };
     format!("({})", text)
 }
 
-fn reply_heard(reply: &Counted) -> String {
+fn heard(reply: &Record) -> String {
+    let (code, retry) = reply.result;
     format!(
-        "record {{ box = {}; view = {}; result = {}; isFinal = {} }}",
+        "heard {} {} {} {}",
         reply.box_number,
         reply.view,
-        result(reply.result),
-        reply.is_final
+        result_of(code, retry),
+        reply.is_final == 1
     )
 }
 
 fn counted(decision: &Result<Decision, Number>) -> String {
+    let of = |result: &PrepareResult| result_of(result.code(), result.retry_stamp());
     match decision {
         Ok(Decision::Wait) => "wait".to_string(),
-        Ok(Decision::Fast(r)) => format!("fast {}", result(*r)),
-        Ok(Decision::Slow(r)) => format!("slow {}", result(*r)),
+        Ok(Decision::Fast(result)) => format!("fast {}", of(result)),
+        Ok(Decision::Slow(result)) => format!("slow {}", of(result)),
         Err(number) => format!("Counted.refused {}", number.code()),
+    }
+}
+
+/// The name that the definitions have for a number.
+fn name(number: Number) -> &'static str {
+    match number {
+        Number::Done => panic!("done is no circumstance"),
+        Number::SmallBuffer => "smallBuffer",
+        Number::BadTable => "badTable",
+        Number::BadMessage => "badMessage",
+        Number::Changing => "changing",
+        Number::OtherBody => "otherBody",
+        Number::Contradiction => "contradiction",
+        Number::Full => "full",
+        Number::Unknown => "unknown",
+        Number::OtherView => "otherView",
+        Number::OldView => "oldView",
+        Number::WrongTables => "wrongTables",
     }
 }

@@ -1,9 +1,10 @@
 //! Tables that no history need lead to: rows in every state and every company.
 
-use crate::cases::{Case, SMALL};
+use crate::case::{Case, SMALL};
 use crate::group::message;
 use crate::parts::{body_of, outcome, result};
-use reference::{merged, respond, HeldOutcome, HeldPrepare, Message, Mode, PrepareResult};
+use crate::plain::{table_of, Sent};
+use reference::{HeldOutcome, HeldPrepare, Message, Mode, PrepareResult};
 use reference::{Row, Rows, Table};
 use samples::Dice;
 
@@ -34,8 +35,7 @@ pub fn answer(dice: &mut Dice) -> Case {
         },
         _ => message(dice, season, &held, 27),
     };
-    let answer = respond(SMALL, &held, &message);
-    Case::Answer(held, message, answer)
+    Case::answer(&table_of(&held), Sent::of(&message))
 }
 
 /// A merge of f+1 tables, now and then of one more, with a box twice or with another promise.
@@ -55,11 +55,10 @@ pub fn merge(dice: &mut Dice) -> Case {
         start_rows: 0,
         rows: (1..=stamps)
             .filter_map(|place| row(dice, season, 3 * place, 14))
+            .take(SMALL.rows)
             .collect(),
     });
-    let tables: Vec<Table> = tables.collect();
-    let result = merged(SMALL, &tables, 3);
-    Case::Merge(3, tables, result)
+    Case::merge(3, tables.map(|table| table_of(&table)).collect())
 }
 
 /// The row of a stamp, if there is one. Its result suits those of other tables mostly, and so does its outcome, which

@@ -1,0 +1,134 @@
+//! "The check": each inequality at equality and one off it, who counts, and the order of A to D.
+
+use super::{holding, named, transaction};
+use crate::case::Case;
+use crate::cases::Named;
+use samples::Row;
+
+/// The register that is read and written; others stand beside it.
+const K: u8 = 5;
+
+pub fn all() -> Vec<Named> {
+    let mut cases = rule_a();
+    cases.extend(rule_b());
+    cases.extend(who_counts());
+    cases.extend(registers());
+    cases.extend(in_this_order());
+    cases
+}
+
+/// A transaction that reads K at a version, and other registers on both sides of it.
+fn reader(stamp: u64, version: u64) -> Row {
+    transaction(stamp, &[(1, 0), (K, version), (9, 0)], &[(2, 3)])
+}
+
+/// A transaction that writes K, and other registers on both sides of it.
+fn writer(stamp: u64) -> Row {
+    transaction(stamp, &[(3, 0)], &[(4, 1), (K, 1), (8, 1)])
+}
+
+fn committed(row: Row) -> Row {
+    holding(row, 5, 3)
+}
+
+fn prepared(row: Row) -> Row {
+    holding(row, 1, 0)
+}
+
+fn checked(name: String, rows: Vec<Row>, asked: Row) -> Named {
+    named(format!("check: {}", name), Case::check(rows, asked))
+}
+
+/// Three numbers of which the second lies between the others, at one of them or beyond it, by one where it can.
+const TRIPLES: [(u64, u64, u64); 7] = [
+    (9, 10, 20),
+    (10, 10, 20),
+    (11, 10, 20),
+    (0, 19, 20),
+    (0, 20, 20),
+    (0, 21, 20),
+    (0, 1, 20),
+];
+
+/// The check beside one row that is committed, prepared, or neither.
+fn beside(name: &str, row: Row, asked: Row) -> [Named; 3] {
+    let with = |state: &str, row| checked(format!("{}, {}", name, state), vec![row], asked.clone());
+    [
+        with("committed", committed(row.clone())),
+        with("prepared", prepared(row.clone())),
+        with("aborted", holding(row, 5, 4)),
+    ]
+}
+
+/// "v < w < s": ABORT beside a committed write and ABSTAIN beside a prepared one.
+fn rule_a() -> Vec<Named> {
+    let of = |(v, w, s)| {
+        let name = format!("read at {} by {}, written at {}", v, s, w);
+        beside(&name, writer(w), reader(s, v))
+    };
+    TRIPLES.into_iter().flat_map(of).collect()
+}
+
+/// "v' < s < s'": RETRY beside a committed read and ABSTAIN beside a prepared one.
+fn rule_b() -> Vec<Named> {
+    let of = |(v, s, later)| {
+        let name = format!("written at {}, read at {} by {}", s, v, later);
+        beside(&name, reader(later, v), writer(s))
+    };
+    TRIPLES.into_iter().flat_map(of).collect()
+}
+
+/// "Committed: outcome 3. Prepared: prepare byte 1 or 5 and outcome 0, 1 or 2." Of every state that a row can have.
+fn who_counts() -> Vec<Named> {
+    let mut cases = Vec::new();
+    for (prepare, outcome) in (1..45).map(|state| (state / 5, state % 5)) {
+        let name = format!("beside prepare {} and outcome {}", prepare, outcome);
+        let row = holding(writer(10), prepare, outcome);
+        cases.push(checked(name, vec![row], reader(20, 0)));
+    }
+    cases
+}
+
+/// The register that is read is the one that is written; who writes what was written, or reads what was read, is not refused.
+fn registers() -> Vec<Named> {
+    let (early, late) = (committed(writer(10)), committed(reader(30, 0)));
+    let later_write = committed(writer(30));
+    let of = |(name, row, reads, writes): (&str, &Row, &[(u8, u64)], &[(u8, u64)])| {
+        checked(
+            name.into(),
+            vec![row.clone()],
+            transaction(20, reads, writes),
+        )
+    };
+    let cases: [(&str, &Row, &[(u8, u64)], &[(u8, u64)]); 7] = [
+        ("other registers read", &early, &[(6, 0), (7, 0)], &[]),
+        ("a register read that was read", &early, &[(3, 0)], &[]),
+        ("written after a write", &early, &[], &[(K, 0)]),
+        ("written under a later write", &later_write, &[], &[(K, 0)]),
+        ("other registers written", &late, &[], &[(3, 0), (6, 0)]),
+        ("written what was written", &late, &[], &[(2, 0)]),
+        ("read under a later read", &late, &[(K, 0)], &[]),
+    ];
+    cases.into_iter().map(of).collect()
+}
+
+/// "in this order": A before B before C before D, whichever row stands first; of several readers the greatest stamp.
+fn in_this_order() -> Vec<Named> {
+    let both = transaction(20, &[(K, 0)], &[(1, 1)]);
+    let a = committed(writer(10));
+    let b = committed(transaction(30, &[(1, 0)], &[]));
+    let later_b = committed(transaction(40, &[(1, 0)], &[]));
+    let prepared_a = prepared(writer(12));
+    let prepared_b = prepared(transaction(50, &[(1, 0)], &[]));
+    let of = |name: &str, rows: Vec<Row>| checked(name.into(), rows, both.clone());
+    vec![
+        of("no rows", Vec::new()),
+        of("A and B", vec![a.clone(), b.clone()]),
+        of("A and C", vec![a, prepared_b.clone()]),
+        of("B and C by a write", vec![prepared_a.clone(), b.clone()]),
+        of("B and C by a read", vec![b.clone(), prepared_b.clone()]),
+        of("B twice and C", vec![b, later_b, prepared_b.clone()]),
+        of("C by a write", vec![prepared_a]),
+        of("C by a read", vec![prepared_b]),
+    ]
+}
