@@ -167,3 +167,35 @@ fn declares(line: &str, item: &str) -> bool {
     let word = words.find(|w| !["abbrev", "unfoldable", "pub", "record", "data"].contains(w));
     word == Some(item) && words.next().is_some()
 }
+
+/// A change of one text of a source, as the prover or the cases are tried on it: a sentence that says what is changed, then the
+/// file, the old text and the new one, each on a line of its own.
+pub struct Edit<'a> {
+    pub sentence: &'a str,
+    pub file: &'a str,
+    pub old: &'a str,
+    pub new: &'a str,
+}
+
+impl<'a> Edit<'a> {
+    pub fn of(text: &'a str) -> Edit<'a> {
+        let behind = |word: &str| {
+            let said = text.lines().find_map(|line| line.strip_prefix(word));
+            said.unwrap_or_else(|| panic!("no {} in {}", word, text))
+        };
+        Edit {
+            sentence: text.lines().next().unwrap_or(""),
+            file: behind("file: "),
+            old: behind("old: "),
+            new: behind("new: "),
+        }
+    }
+
+    /// Holds that the old text stands exactly once in the file, which is one of this folder of the repository.
+    pub fn fits(&self, folder: &str) {
+        let source = text(&format!("{}/{}", folder, self.file));
+        let found = source.matches(self.old).count();
+        assert_eq!(found, 1, "{}: {}", self.sentence, self.old);
+        assert_ne!(self.old, self.new, "{}", self.sentence);
+    }
+}

@@ -1,6 +1,6 @@
 //! The papers are true of the tree: what they cite is there, and what is there is cited.
 
-use house::{cited, crates, files, stands, text, top};
+use house::{cited, crates, files, stands, text, top, Edit};
 use std::process::Command;
 
 const PAPERS: [&str; 10] = [
@@ -140,18 +140,12 @@ fn an_edit_for_each_public_call_is_tried_in_the_gate() {
     }
 }
 
-/// What an edit's line says behind this word.
-fn line_of<'a>(edit: &'a str, word: &str) -> &'a str {
-    let said = edit.lines().find_map(|line| line.strip_prefix(word));
-    said.unwrap_or_else(|| panic!("no {} in {}", word, edit))
-}
-
 /// A proof that is changed fails whatever its statement says.
 #[test]
 fn an_edit_changes_a_definition_or_a_program() {
     for file in files("crates", ".edit") {
         let edit = text(&file);
-        let changed = line_of(&edit, "file: ");
+        let changed = Edit::of(&edit).file;
         let said = changed.starts_with("specs/") || changed.starts_with("src/");
         assert!(said, "{} changes {}", file, changed);
     }
@@ -166,11 +160,7 @@ fn an_edit_that_the_gate_does_not_try_still_fits_its_source() {
             Some(parts) => parts,
             None => continue,
         };
-        let edit = text(&file);
-        let (old, new) = (line_of(&edit, "old: "), line_of(&edit, "new: "));
-        let source = text(&format!("{}/{}", folder, line_of(&edit, "file: ")));
-        assert_eq!(source.matches(old).count(), 1, "{}: {}", file, old);
-        assert_ne!(old, new, "{} changes nothing", file);
+        Edit::of(&text(&file)).fits(folder);
         seen += 1;
     }
     assert!(seen > 20, "only {} such edits were found", seen);

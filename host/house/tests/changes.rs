@@ -1,0 +1,45 @@
+//! The changes of the definitions that `tools/noticed` tries are changes of the definitions as they are. That each is noticed is
+//! for that tool to say, since it takes minutes.
+
+use house::{files, text, Edit};
+use std::collections::BTreeSet;
+
+const CHANGES: &str = "host/agree/changes";
+
+#[test]
+fn a_change_of_the_definitions_fits_its_source() {
+    for file in files(CHANGES, ".edit") {
+        let change = text(&file);
+        let change = Edit::of(&change);
+        change.fits("crates/rules");
+        assert!(change.file.starts_with("specs/"), "{}", file);
+        assert!(change.sentence.ends_with('.'), "{}", file);
+    }
+}
+
+#[test]
+fn every_file_of_the_definitions_is_changed_somewhere() {
+    let texts: Vec<String> = files(CHANGES, ".edit").iter().map(|f| text(f)).collect();
+    let changed: BTreeSet<&str> = texts.iter().map(|change| Edit::of(change).file).collect();
+    for file in files("crates/rules/specs", ".antt") {
+        let file = file.trim_start_matches("crates/rules/");
+        // That one only lists the others.
+        assert!(
+            changed.contains(file) || file == "specs/Lib.antt",
+            "{}",
+            file
+        );
+    }
+}
+
+#[test]
+fn no_two_changes_are_the_same() {
+    let texts: Vec<String> = files(CHANGES, ".edit").iter().map(|f| text(f)).collect();
+    let changed = |change: &'_ String| {
+        let edit = Edit::of(change);
+        let source = text(&format!("crates/rules/{}", edit.file));
+        source.replacen(edit.old, edit.new, 1)
+    };
+    let different: BTreeSet<String> = texts.iter().map(changed).collect();
+    assert_eq!(different.len(), texts.len());
+}
