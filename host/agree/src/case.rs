@@ -117,16 +117,7 @@ impl Case {
 
 /// Rows as the second program reads them from a table.
 fn taken(rows: Vec<Row>) -> Rows {
-    let table = Table {
-        box_number: 0,
-        n: 3,
-        mode: 0,
-        view: 0,
-        promised: 0,
-        start_rows: 0,
-        rows,
-    };
-    let taken = reference::Table::parse_for(SMALL, &table.image());
+    let taken = reference::Table::parse_for(SMALL, &Table::in_view_0(rows).image());
     taken.expect("rows by the rules").0.rows
 }
 

@@ -71,6 +71,19 @@ impl Row {
 }
 
 impl Table {
+    /// Box 0 of 3 in view 0, which all these rows were added to since it was fresh.
+    pub fn in_view_0(rows: Vec<Row>) -> Table {
+        Table {
+            box_number: 0,
+            n: 3,
+            mode: 0,
+            view: 0,
+            promised: 0,
+            start_rows: 0,
+            rows,
+        }
+    }
+
     /// Where the body of a row begins, or, for the number of rows, where the image ends.
     pub fn body_place(&self, index: usize) -> usize {
         let earlier: usize = self.rows[..index].iter().map(Row::body_length).sum();
@@ -129,15 +142,7 @@ mod tests {
     /// counts 0 and 1, prepare 1, outcome 0; body 05 00 00 00 00 00 00 00 07."
     #[test]
     fn the_worked_table_has_the_image_of_the_paper() {
-        let table = Table {
-            box_number: 0,
-            n: 3,
-            mode: 0,
-            view: 0,
-            promised: 0,
-            start_rows: 0,
-            rows: vec![row_of_the_paper(1)],
-        };
+        let table = Table::in_view_0(vec![row_of_the_paper(1)]);
         let header = [&[1, 0, 3, 0, 0, 0, 0, 1][..], &[0; 12], &[0, 0, 0, 57]];
         let row = [
             &[0, 0, 0, 0, 0, 1, 0, 1][..],

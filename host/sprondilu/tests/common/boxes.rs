@@ -142,14 +142,5 @@ pub fn long_table(rows: u64) -> Vec<u8> {
         stamp: time * 65_536 + 1,
         ..samples::row_of_the_paper(1)
     };
-    samples::Table {
-        box_number: 0,
-        n: 3,
-        mode: 0,
-        view: 0,
-        promised: 0,
-        start_rows: 0,
-        rows: (1..=rows).map(row).collect(),
-    }
-    .image()
+    samples::Table::in_view_0((1..=rows).map(row).collect()).image()
 }

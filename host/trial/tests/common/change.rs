@@ -133,15 +133,7 @@ fn row_at(table: &mut Table, index: usize) -> &mut Row {
 
 /// The row as the second program reads it in a table of its own.
 fn add(table: &mut Table, row: &samples::Row) {
-    let alone = samples::Table {
-        box_number: 0,
-        n: 3,
-        mode: 0,
-        view: 0,
-        promised: 0,
-        start_rows: 0,
-        rows: vec![row.clone()],
-    };
+    let alone = samples::Table::in_view_0(vec![row.clone()]);
     let held = table
         .rows
         .insert(row.stamp, read(&alone).rows[&row.stamp].clone());
