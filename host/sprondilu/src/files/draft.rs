@@ -85,7 +85,9 @@ impl Draft {
             other => other?,
         };
         let about = empty.metadata()?;
-        let placed = self.place_over(place, |name| is_under(name, &about));
+        // Whoever may replace an empty file waits for its lock, and then sees that it is gone.
+        let locked = system::lock(&empty);
+        let placed = locked.and_then(|()| self.place_over(place, |name| is_under(name, &about)));
         if placed.is_err() && is_under(place, &about) {
             let _ = fs::remove_file(place);
         }

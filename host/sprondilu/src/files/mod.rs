@@ -5,7 +5,8 @@
 //! whole under its name, and when a command says that it is done, the new one is on the disk.
 //!
 //! Nothing is put in the place of a file that was not looked at before: if somebody else puts another one there meanwhile, with
-//! this program or without it, that one stays.
+//! this program or without it, that one stays. A run that is killed right then may leave it, or the old file, under the hidden
+//! name of the draft.
 //!
 //! - `draft`: what is new, until it has its place
 //! - `held`: a table file that one run alone may change
@@ -21,6 +22,7 @@ use crate::ends::Stop;
 use draft::Draft;
 use std::fs::{self, File, Metadata, OpenOptions};
 use std::io::{self, ErrorKind, Read, Seek};
+use std::os::unix::ffi::OsStrExt;
 use std::os::unix::fs::MetadataExt;
 use std::path::Path;
 
@@ -115,18 +117,22 @@ pub fn may_create(path: &Path, over: Over) -> Result<(), Stop> {
 /// Writes a new file, over nothing or over what may be replaced. If something else comes under the name meanwhile, all begins
 /// anew, and that is judged.
 pub fn create(path: &Path, bytes: &[u8], over: Over) -> Result<(), Stop> {
-    let cannot = |error: io::Error| trouble("write", path, &error);
-    loop {
+    for _ in 0..TURNS {
         let placed = match look(path, over)? {
             None => Draft::write(path, bytes, None).and_then(|draft| draft.place_new(path)),
             Some(seen) => seen.replaced(path, bytes),
         };
-        if placed.map_err(cannot)? {
-            break;
+        if placed.map_err(|error| trouble("write", path, &error))? {
+            let synced = sync_folder_of(path);
+            return synced.map_err(|error| trouble("sync the folder of", path, &error));
         }
     }
-    sync_folder_of(path).map_err(|error| trouble("sync the folder of", path, &error))
+    Err(cannot_write(path, "others put files there again and again"))
 }
+
+/// How often a run begins anew when something else has come under a name. It has never taken more than a few, and so a file
+/// system that answers strangely ends with an error, and not never.
+const TURNS: u32 = 1000;
 
 /// What may be replaced there, if anything is there.
 fn look(path: &Path, over: Over) -> Result<Option<Seen>, Stop> {
@@ -156,7 +162,9 @@ fn is_place(path: &Path) -> Result<(), Stop> {
     if path.is_dir() {
         return Err(cannot_write(path, "it is a folder"));
     }
-    if path.file_name().is_none() {
+    // A name that ends so is a folder's, or leads nowhere.
+    let ends_as_folder = path.as_os_str().as_bytes().ends_with(b"/");
+    if path.file_name().is_none() || ends_as_folder {
         return Err(Stop::Trouble(format!(
             "'{}' is no name for a file",
             path.display()
@@ -190,7 +198,10 @@ impl Seen {
         // Before it is opened: whoever opens a pipe waits for its other end.
         let there = fs::metadata(path).map_err(cannot)?;
         is_replaceable("write", &there, path)?;
-        let (file, _) = open_to_change(path).map_err(cannot)?;
+        let (file, is_writable) = open_to_change(path).map_err(cannot)?;
+        if !is_writable {
+            return Err(cannot(io::Error::from(ErrorKind::PermissionDenied)));
+        }
         let about = if name.file_type().is_symlink() {
             name.clone()
         } else {

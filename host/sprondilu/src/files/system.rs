@@ -1,4 +1,4 @@
-//! Functions of the C library that std of Rust 1.63 has no words for.
+//! Functions of the C library that std of Rust 1.63 has no words for. `renameat2` is Linux's own, in glibc since 2.28.
 
 use std::ffi::CString;
 use std::fs::{File, Metadata, Permissions};
@@ -38,7 +38,7 @@ pub fn lock(file: &File) -> io::Result<()> {
     }
 }
 
-/// Gives a file the owner, the group and the mode of another, as far as this user may, and lets nobody in whom the other kept out.
+/// Gives a file the owner, the group and the mode of another, as far as this user may, and lets nobody in whom the other's mode kept out.
 ///
 /// Whoever may not give files away keeps it, and whoever is not in that group leaves it to his own. Then the mode has nothing for
 /// the group, which is another one; and for others only what the old group had too, whose people are among them now.

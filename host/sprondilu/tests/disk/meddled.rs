@@ -147,11 +147,16 @@ fn a_table_that_is_removed_stays_away() {
     assert_eq!(case.folder.names(), ["his", "m"]);
 }
 
+/// The turn of the first call of this name in a run.
+fn turn_of(name: &str, case: &Case, line: &str, settings: &[(&str, &str)]) -> usize {
+    let (_, calls) = run_with(&case.folder, line, None, settings);
+    let place = calls.iter().position(|call| call.name == name);
+    1 + place.unwrap_or_else(|| panic!("no {} in {}", name, line))
+}
+
 /// The turn of the first exchange of two names in a run.
 fn exchange_of(case: &Case, line: &str) -> usize {
-    let (_, calls) = run_with(&case.folder, line, None, &[]);
-    let place = calls.iter().position(|call| call.name == "exchange");
-    1 + place.expect("an exchange")
+    turn_of("exchange", case, line, &[])
 }
 
 /// Two come, one before the names are exchanged and one before they are exchanged again: both tables are there, and the error
@@ -206,5 +211,24 @@ fn a_run_waits_for_a_table_that_may_not_stay() {
     let (ran, _) = run_with(&case.folder, "answer t m", second, &settings);
     ran.not_tried("moved or removed it");
     assert!(case.folder.bytes("t") == answered(&his(), &case.message).1);
+    assert_eq!(hidden(&case.folder), None);
+}
+
+/// Where the file system knows nothing better, an empty file keeps the name for a table. A run that may replace an empty file waits
+/// for it, and finds the table then.
+#[test]
+fn a_run_waits_for_a_name_that_is_kept_for_a_table() {
+    let line = "fresh --n 3 --box 0 x";
+    let lacks = ("SHIM_LACKS", "exchange link rename-new");
+    let case = begun(|_| {});
+    let second = Some(Spoilt {
+        turn: turn_of("rename", &begun(|_| {}), line, &[lacks]),
+        how: "RUN $PROGRAM message change-view 8 --out x --replace >out 2>/dev/null & sleep 0.3",
+    });
+    let (ran, _) = run_with(&case.folder, line, second, &[PROGRAM, lacks]);
+    ran.done();
+    assert_eq!(case.folder.bytes("x"), fresh(3, 0));
+    // What is done is said there.
+    assert_eq!(case.folder.bytes("out"), b"");
     assert_eq!(hidden(&case.folder), None);
 }

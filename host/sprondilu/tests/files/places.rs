@@ -76,6 +76,15 @@ fn links_are_not_written_over() {
             &words,
         );
     }
+    // With a stroke behind it a name is a folder's; that link leads to none.
+    for line in [
+        "fresh --n 3 --box 0 dangling/",
+        "message change-view 1 --out dangling/",
+        "message change-view 1 --out dangling/ --replace",
+        "message change-view 1 --out new/",
+    ] {
+        not_tried(&folder, line, "is no name for a file");
+    }
     assert!(!folder.has("nowhere"));
     // Replaced is the link, not what it leads to.
     let reply = folder.bytes("r");

@@ -187,6 +187,26 @@ fn a_table_that_may_only_be_read() {
     }
 }
 
+/// Nor is a message or a reply that may only be read.
+#[test]
+fn a_file_that_may_only_be_read_is_not_written_over() {
+    let user = Somebody::new();
+    for name in ["m", "r"] {
+        set_mode(&user.folder.at(name), 0o444);
+    }
+    let before = user.folder.state();
+    for line in [
+        "message change-view 7 --out m --replace",
+        "answer t read --reply r --replace",
+    ] {
+        if let Some(ran) = user.run(line) {
+            let ran = ran.not_tried("cannot write");
+            assert!(ran.err.contains("denied"), "{:?}", ran);
+        }
+        assert!(user.folder.state() == before, "{}", line);
+    }
+}
+
 /// A folder in which nothing may be made: tables there are read, and not changed.
 #[test]
 fn a_folder_that_may_not_be_written() {
