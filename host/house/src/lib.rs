@@ -168,34 +168,43 @@ fn declares(line: &str, item: &str) -> bool {
     word == Some(item) && words.next().is_some()
 }
 
-/// A change of one text of a source, as the prover or the cases are tried on it: a sentence that says what is changed, then the
-/// file, the old text and the new one, each on a line of its own.
+/// A change of a source, as the prover or the cases are tried on it: a sentence that says what is changed, then the file, and each
+/// text that is changed, the old one and the new one, on lines of their own.
 pub struct Edit<'a> {
     pub sentence: &'a str,
     pub file: &'a str,
-    pub old: &'a str,
-    pub new: &'a str,
+    pub changes: Vec<(&'a str, &'a str)>,
 }
 
 impl<'a> Edit<'a> {
     pub fn of(text: &'a str) -> Edit<'a> {
-        let behind = |word: &str| {
-            let said = text.lines().find_map(|line| line.strip_prefix(word));
-            said.unwrap_or_else(|| panic!("no {} in {}", word, text))
+        let behind = |word: &str| -> Vec<&'a str> {
+            let said = text.lines().filter_map(|line| line.strip_prefix(word));
+            said.collect()
         };
+        let (files, old, new) = (behind("file: "), behind("old: "), behind("new: "));
+        assert_eq!(files.len(), 1, "{}", text);
+        assert!(!old.is_empty() && old.len() == new.len(), "{}", text);
         Edit {
             sentence: text.lines().next().unwrap_or(""),
-            file: behind("file: "),
-            old: behind("old: "),
-            new: behind("new: "),
+            file: files[0],
+            changes: old.into_iter().zip(new).collect(),
         }
     }
 
-    /// Holds that the old text stands exactly once in the file, which is one of this folder of the repository.
+    /// Holds that each old text stands exactly once in the file, which is one of this folder of the repository.
     pub fn fits(&self, folder: &str) {
         let source = text(&format!("{}/{}", folder, self.file));
-        let found = source.matches(self.old).count();
-        assert_eq!(found, 1, "{}: {}", self.sentence, self.old);
-        assert_ne!(self.old, self.new, "{}", self.sentence);
+        for (old, new) in &self.changes {
+            assert_eq!(source.matches(old).count(), 1, "{}: {}", self.sentence, old);
+            assert_ne!(old, new, "{}", self.sentence);
+        }
+    }
+
+    /// The file with the changes made.
+    pub fn made(&self, folder: &str) -> String {
+        let source = text(&format!("{}/{}", folder, self.file));
+        let changes = self.changes.iter();
+        changes.fold(source, |source, (old, new)| source.replacen(old, new, 1))
     }
 }

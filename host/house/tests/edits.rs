@@ -117,6 +117,11 @@ fn those_of_the_crates_that_changed_since_a_commit_are_tried() {
     tree.write("crates/high/src/more.rt", "// something\n");
     tree.tries(&["--since", "HEAD"], SECOND);
     tree.tries(&["--since", "HEAD~1"], &format!("{} {}", SECOND, FIRST));
+
+    // a file that goes from one crate to another
+    tree.commit();
+    tree.git(&["mv", "crates/high/src/more.rt", "crates/other/src/more.rt"]);
+    tree.tries(&["--since", "HEAD"], SECOND);
 }
 
 #[test]

@@ -111,7 +111,7 @@ fn every_must_fail_edit_is_cited_by_a_claim() {
     }
 }
 
-/// The crates whose check takes less than ten seconds, as `docs/BENCHMARKS.md` has it. An edit costs a check of its crate.
+/// Crates whose check takes few seconds, as `docs/BENCHMARKS.md` has it. An edit costs a check of its crate.
 const QUICK: [&str; 6] = ["rules", "history", "histories", "quorums", "cases", "group"];
 
 #[test]
