@@ -158,7 +158,7 @@ void box_receive(struct box *box, const uint8_t *message, size_t length)
         fall_silent(box, "the table in memory is damaged");
         break;
     case SPRONDILU_OTHER_BODY:
-    case SPRONDILU_CONTRADICTION: /* nothing has changed; whoever sent it has to stop */
+    case SPRONDILU_CONTRADICTION: /* the table has not changed; whoever sent it has to stop */
         box_report(box->number, "a message against the rules was refused");
         break;
     case SPRONDILU_FULL: /* nothing is dropped silently: the sender hears of it, and so does the grower */
@@ -168,7 +168,7 @@ void box_receive(struct box *box, const uint8_t *message, size_t length)
     case SPRONDILU_CHANGING:
     case SPRONDILU_UNKNOWN:
     case SPRONDILU_OTHER_VIEW:
-    case SPRONDILU_OLD_VIEW: /* nothing has changed, so nothing is stored: what to do is the sender's affair */
+    case SPRONDILU_OLD_VIEW: /* the table has not changed, so nothing is stored: what to do is the sender's affair */
         break;
     default: /* SPRONDILU_WRONG_TABLES is a merge's, and there is no other number */
         fall_silent(box, "a number came that no answer has");
