@@ -291,14 +291,15 @@ static void take_record(struct transaction *t, const uint8_t *reply)
 }
 
 /*
- * What the grower is told. Only f+1 acceptances in one view make an entry recorded: an OK that was declared, and a
- * commit that the handset has stored, are lost with the handset, since nobody goes on in its place.
+ * What the grower is told, after each round of messages and not within it. Only f+1 acceptances in one view make an
+ * entry recorded: an OK that was declared, and a commit that the handset has stored, are lost with the handset, since
+ * nobody goes on in its place. What is told is stored first, so that it is not told again after a power cut.
  */
 static void tell(struct transaction *t)
 {
     enum told now = NOTHING_YET;
     if (t->recorded) {
-        now = RECORDED;
+        now = t->stopped ? RECORDED_RULE_BROKEN : RECORDED;
     } else if (t->stopped) {
         now = IN_DOUBT;
     } else if (t->outcome == SPRONDILU_OUTCOME_ABORT) {
@@ -308,6 +309,12 @@ static void tell(struct transaction *t)
     }
     if (t->told != now) {
         t->told = now;
+        /*
+         * Where this fails the grower is told all the same: what is recorded stands in the boxes. After a power cut the
+         * handset then goes on from what it had stored before. It may tell this step again, and may find recorded what
+         * it had called in doubt.
+         */
+        (void)handset_store(t);
         handset_show(t);
     }
 }
@@ -318,9 +325,6 @@ static void send_to(struct transaction *t, uint8_t box, const struct letter *let
     const uint8_t *reply = t->stopped ? NULL : ask(box, letter, &refusal);
     t->stopped = t->stopped || refusal == SPRONDILU_OTHER_BODY || refusal == SPRONDILU_CONTRADICTION;
     t->full[box] = refusal == SPRONDILU_FULL || (t->full[box] && reply == NULL);
-    if (t->stopped) {
-        tell(t);
-    }
     if (reply == NULL || stamp_of(reply) != t->stamp) {
         return; /* of another stamp, or late: nothing is taken from it */
     }
@@ -345,6 +349,22 @@ static void send_to(struct transaction *t, uint8_t box, const struct letter *let
     }
 }
 
+/* What the replies come to, if no result was sent in their view yet. */
+static void count(struct transaction *t)
+{
+    if (t->stopped || t->result != 0) {
+        return; /* rule 2: a result that was sent stays the only one in its view, whatever more replies come to */
+    }
+    uint64_t answer = sprondilu_count_records(BOXES, t->records, t->heard);
+    if (SPRONDILU_NUMBER_OF(answer) != SPRONDILU_DONE) {
+        t->stopped = true; /* 3: this program put the records together wrongly; 6: somebody broke a rule */
+    } else if (SPRONDILU_KIND_OF(answer) != SPRONDILU_WAIT) {
+        t->result = (uint8_t)SPRONDILU_RESULT_OF(answer);
+        t->retry = SPRONDILU_RETRY_OF(answer);
+        t->declared = SPRONDILU_KIND_OF(answer) == SPRONDILU_FAST;
+    }
+}
+
 /* Message 1 to all boxes, and what the replies come to. Who has the time waits for all of them before the count. */
 void prepare(struct transaction *t)
 {
@@ -360,17 +380,7 @@ void prepare(struct transaction *t)
     for (uint8_t box = 0; box < BOXES; box++) {
         send_to(t, box, &letter);
     }
-    if (t->stopped || t->result != 0) {
-        return; /* rule 2: a result that was sent stays the only one in its view, whatever more replies come to */
-    }
-    uint64_t answer = sprondilu_count_records(BOXES, t->records, t->heard);
-    if (SPRONDILU_NUMBER_OF(answer) != SPRONDILU_DONE) {
-        t->stopped = true; /* 3: this program put the records together wrongly; 6: somebody broke a rule */
-    } else if (SPRONDILU_KIND_OF(answer) != SPRONDILU_WAIT) {
-        t->result = (uint8_t)SPRONDILU_RESULT_OF(answer);
-        t->retry = SPRONDILU_RETRY_OF(answer);
-        t->declared = SPRONDILU_KIND_OF(answer) == SPRONDILU_FAST;
-    }
+    count(t);
     tell(t);
 }
 
@@ -457,6 +467,7 @@ static void finish(struct transaction *t, uint32_t view)
             send_to(t, box, &letter);
         }
     }
+    tell(t);
 }
 
 /* Messages 3 and 4, as often as it takes: to propose the same again is no harm, and finds who missed it. */
@@ -466,18 +477,20 @@ static void propose(struct transaction *t, uint8_t outcome)
     if (!take_outcome(t, outcome)) {
         return;
     }
-    tell(t);
     struct letter letter = letter_about(SPRONDILU_PROPOSE_OUTCOME, t->stamp);
     add(&letter, t->outcome, 1);
     add_body(&letter, &t->body);
-    for (uint8_t box = 0; box < BOXES; box++) {
+    for (uint8_t box = 0; box < BOXES && !t->stopped; box++) {
         if (t->outcome == SPRONDILU_OUTCOME_ABORT || may_commit(t, box)) {
             send_to(t, box, &letter);
         }
     }
-    if (accepted_in_one(t, &view)) {
-        t->recorded = t->outcome == SPRONDILU_OUTCOME_COMMIT; /* from here on every merge for a later view has it */
-        tell(t);
+    bool in_one = accepted_in_one(t, &view);
+    if (in_one && t->outcome == SPRONDILU_OUTCOME_COMMIT) {
+        t->recorded = true; /* f+1 boxes hold it, also where another one has refused it in the same round */
+    }
+    tell(t);
+    if (in_one) {
         finish(t, view);
     }
 }
@@ -501,7 +514,10 @@ void give_up(struct transaction *t)
     propose(t, SPRONDILU_OUTCOME_ABORT);
 }
 
-/* After a power cut of the handset, with what it has stored: that outcome again, or abort where it had stored none. */
+/*
+ * After a power cut of the handset, with what it has stored: that outcome again, or abort where it had stored none.
+ * What was told is stored too, and is not told again; and what was stopped stays so.
+ */
 void resume(struct transaction *t)
 {
     propose(t, t->outcome != NO_OUTCOME ? t->outcome : SPRONDILU_OUTCOME_ABORT);

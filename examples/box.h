@@ -56,13 +56,17 @@ struct body {
 
 #define NO_OUTCOME 0 /* where there is neither SPRONDILU_OUTCOME_COMMIT nor SPRONDILU_OUTCOME_ABORT */
 
-/* What the grower is told of an entry, in this order; the last two instead of RECORDED, and never after it. */
+/*
+ * What the grower is told of an entry, in this order. NOT_RECORDED and IN_DOUBT are told instead of RECORDED: neither
+ * comes after it, nor it after one of them.
+ */
 enum told {
     NOTHING_YET,
-    WILL_BE_RECORDED, /* OK was declared: it will be recorded, if the handset lives */
-    RECORDED,         /* f+1 different boxes have accepted its commit in one view, and not before */
-    NOT_RECORDED,     /* abort was proposed, also if OK had been declared: it has to be entered again */
-    IN_DOUBT          /* a rule was broken: somebody has to see to it */
+    WILL_BE_RECORDED,     /* OK was declared: it will be recorded, if the handset lives */
+    RECORDED,             /* f+1 different boxes have accepted its commit in one view, and not before */
+    RECORDED_RULE_BROKEN, /* the same, and by then or later a box refused it with 5 or 6: somebody has to see to it */
+    NOT_RECORDED,         /* abort was proposed, also if OK had been declared: it has to be entered again */
+    IN_DOUBT              /* a rule was broken, and it was not recorded by then: somebody has to see to it */
 };
 
 /* All that is known of one stamp. A coordinator that has lost a part of it leaves the stamp alone for good. */
@@ -100,13 +104,17 @@ bool read_register(uint8_t box, uint64_t stamp, uint8_t reg, uint64_t *version, 
 
 /*
  * Keeps what is known of a stamp through a power cut, and says whether it does. It is called before the first message
- * 1, so that the stamp is never used for another body, and before the first message 3, so that the handset goes on with
- * that outcome and never with the other. What it keeps is lost with the handset: because of it nobody is told
- * "recorded".
+ * 1, so that the stamp is never used for another body; before the first message 3, so that the handset goes on with
+ * that outcome and never with the other; and before the grower is told a step, so that no step is told twice and what
+ * was stopped stays so. Where it fails, or power is cut in the middle, what it kept before has to stay: two slots do
+ * that, as in a box. What it keeps is lost with the handset: because of it nobody is told "recorded".
  */
 bool handset_store(const struct transaction *t);
 
-/* Shows the grower what `told` says, each step once. */
+/*
+ * Shows the grower what `told` says, each step once. A handset that comes on after a power cut shows of each entry the
+ * `told` that it has stored, by itself: it may have lost power between the storing of a step and this call.
+ */
 void handset_show(const struct transaction *t);
 
 /* ---- The view change. */

@@ -141,11 +141,12 @@ static bool has_reported(uint8_t box)
 
 /* ---- In place of a handset: what it has stored, and what its grower was told of each entry. */
 
-#define ENTRIES 11 /* A to K, at the times 1 to 11 */
-#define LAST_VIEW 4
+#define ENTRIES 12 /* A to L, at the times 1 to 12 */
+#define LAST_VIEW 6
 #define WILL ": will be recorded, if the handset lives"
+#define BROKEN ": recorded, but a rule was broken, somebody has to see to it"
 #define NOT ": not recorded, to be entered again"
-static const char *const words[] = {"", WILL, ": recorded", NOT, ": in doubt, somebody has to see to it"};
+static const char *const words[] = {"", WILL, ": recorded", BROKEN, NOT, ": in doubt, somebody has to see to it"};
 
 static struct transaction stored[ENTRIES];
 static bool handset_fails; /* stores nothing any more */
@@ -203,14 +204,21 @@ static bool is_recorded(uint64_t stamp)
     return enough_hold(view, stamp);
 }
 
+static bool says_recorded(enum told step_told)
+{
+    return step_told == RECORDED || step_told == RECORDED_RULE_BROKEN;
+}
+
 /* "Recorded" comes behind "will be recorded", and only where it is true; and what was recorded stays so. */
 void handset_show(const struct transaction *t)
 {
     char line[120];
     size_t entry = entry_of(t);
-    bool in_order = told[entry] < t->told && told[entry] != RECORDED;
-    if (t->told == RECORDED) {
-        in_order = told[entry] == WILL_BE_RECORDED && is_recorded(t->stamp);
+    bool in_order = told[entry] < t->told;
+    if (says_recorded(t->told)) {
+        in_order = in_order && told[entry] != NOTHING_YET && is_recorded(t->stamp);
+    } else {
+        in_order = in_order && !says_recorded(told[entry]);
     }
     told[entry] = t->told;
     snprintf(line, sizeof line, "%c's grower is told%s", 'A' + (int)entry, words[t->told]);
@@ -235,8 +243,10 @@ static struct transaction i = {.stamp = STAMP(9, 1), .body = {0, 1, {{11, 5}}}};
 static struct transaction j = {.stamp = STAMP(10, 1), .body = {0, 1, {{12, 2}}}};
 static struct transaction k = {.stamp = STAMP(11, 3), .body = {0, 1, {{13, 4}}}};
 static struct transaction k_again = {.stamp = STAMP(11, 3), .body = {0, 1, {{13, 9}}}};
+static struct transaction l = {.stamp = STAMP(12, 4), .body = {0, 1, {{14, 8}}}};
+static struct transaction l_elsewhere = {.stamp = STAMP(12, 4), .body = {0, 1, {{14, 3}}}};
 
-/* What has become of a transaction, in a line, which has to be the expected one. */
+/* What has become of a transaction, in a line, which has to be the expected one. Who is stopped has told so. */
 static void show(const char *name, const struct transaction *t, const char *expected)
 {
     static const char *const results[] = {"no result", "OK", "ABORT", "ABSTAIN", "RETRY"};
@@ -247,7 +257,8 @@ static void show(const char *name, const struct transaction *t, const char *expe
              t->heard == 1 ? "reply" : "replies", t->view, how_many(t->confirmed), results[t->result],
              t->declared ? " declared" : t->result != 0 ? " not declared" : "", outcomes[t->outcome],
              how_many(t->accepted), how_many(t->done), words[t->told]);
-    step(!t->stopped && strcmp(line, expected) == 0, line);
+    bool told_so = t->told == RECORDED_RULE_BROKEN || t->told == IN_DOUBT;
+    step(t->stopped == told_so && strcmp(line, expected) == 0, line);
 }
 
 /* The version that a transaction reads is the one that a box names. */
@@ -490,6 +501,8 @@ static void two_views_are_not_one(void)
     step(start_view(0), "box 0 begins view 4");
     advance(&i);
     show("I", &i, "I: 3 replies in view 3, 0 confirmations, OK declared; commit accepted by 3, done by 3: recorded");
+    restart_handset(&i);
+    step(i.told == RECORDED, "I's handset lost power once more: it knows that I is recorded, and tells nobody again");
 }
 
 /* J is given up after OK was declared. K's handset is lost, and the one in its place counts its stamps anew. */
@@ -504,6 +517,39 @@ static void declared_is_not_recorded(void)
     to_report[0] = "a message against the rules was refused";
     advance(&k_again);
     step(has_reported(0) && k_again.told == IN_DOUBT, "K's stamp came once more, with another body");
+    restart_handset(&k_again);
+    step(k_again.told == IN_DOUBT, "that handset lost power: it sends nothing more, and tells nobody again");
+}
+
+/* Another handset has used L's stamp, and reached box 2 alone. The two others accept L's commit: so L is recorded. */
+static void recorded_though_a_rule_was_broken(void)
+{
+    reach[0] = OUT_OF_REACH;
+    reach[1] = OUT_OF_REACH;
+    prepare(&l_elsewhere);
+    reach[0] = IN_REACH;
+    reach[1] = IN_REACH;
+    reach[2] = OUT_OF_REACH;
+    prepare(&l);
+    confirm(&l);
+    reach[2] = IN_REACH;
+    to_report[2] = "a message against the rules was refused";
+    conclude(&l);
+    show("L", &l, "L: 2 replies in view 4, 2 confirmations, OK declared; commit accepted by 2, done by 0" BROKEN);
+    step(has_reported(2), "box 2 holds L's stamp with another body; but f+1 boxes have accepted L's commit");
+    restart_handset(&l);
+    step(l.told == RECORDED_RULE_BROKEN, "L's handset lost power: it sends nothing more, and tells nobody again");
+}
+
+/* What somebody sees to: no view begins with two bodies of one stamp; one that f+1 others begin mends box 2's table. */
+static void a_view_without_it(void)
+{
+    to_report[2] = "the tables could not be merged";
+    bool merged = merge_next_view(2, promised_by(2));
+    step(!merged && has_reported(2), "box 2 cannot begin view 5: there are two bodies of one stamp");
+    merged = merge_next_view(0, promised_by(0));
+    step(merged && start_view(0) && start_view(1) && start_view(2),
+         "all begin view 6 with the merge of the tables of boxes 0 and 1");
 }
 
 /* Whether a register, read in every box after a restart, has this version and this value. */
@@ -513,7 +559,7 @@ static bool all_read(uint8_t reg, uint64_t version, uint64_t value)
     for (uint8_t box = 0; box < BOXES; box++) {
         uint64_t version_there = 1;
         uint64_t value_there = 1;
-        all = restart(box) && read_register(box, STAMP(12, 1), reg, &version_there, &value_there) && all;
+        all = restart(box) && read_register(box, STAMP(13, 1), reg, &version_there, &value_there) && all;
         all = all && version_there == version && value_there == value;
     }
     return all;
@@ -525,12 +571,13 @@ static void end(void)
     uint64_t value;
     boxes[2].table[0] ^= 1;
     to_report[2] = "the table in memory is damaged";
-    bool silent = !read_register(2, STAMP(12, 1), 5, &version, &value) && !replied[2];
+    bool silent = !read_register(2, STAMP(13, 1), 5, &version, &value) && !replied[2];
     step(has_reported(2) && silent && restart(2),
          "a bit of box 2's memory has turned: it falls silent, and a restart loads its table");
     step(all_read(5, e.stamp, 12), "every box is restarted; register 5 is read in each: 12, as E wrote it");
     step(all_read(11, i.stamp, 5), "register 11 is read in each: 5, as I wrote it");
     step(all_read(13, 0, 0), "register 13, of K, is read in each: it was never written");
+    step(all_read(14, l.stamp, 8), "register 14 is read in each: 8, as L wrote it");
 }
 
 /* A line for the header, one for each row, and the bodies. */
@@ -561,6 +608,8 @@ int main(void)
     stored_is_not_recorded();
     two_views_are_not_one();
     declared_is_not_recorded();
+    recorded_though_a_rule_was_broken();
+    a_view_without_it();
     end();
     for (uint8_t box = 0; box < BOXES; box++) {
         print_image(box);

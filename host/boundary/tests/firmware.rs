@@ -105,13 +105,19 @@ impl Group {
         table[..length].to_vec()
     }
 
+    /// A box hears a message: the number, and the reply.
+    fn answer(&mut self, box_number: usize, message: &Message) -> (u8, Vec<u8>) {
+        let mut reply = vec![0; 24];
+        let table = &mut self.tables[box_number];
+        let number = reference::answer(table, &message.bytes(), &mut reply);
+        (number, reply)
+    }
+
     /// These boxes hear a message, and every one of them does it; their replies.
     fn hear(&mut self, boxes: &[usize], message: &Message) -> Vec<Vec<u8>> {
-        let bytes = message.bytes();
         let mut replies = Vec::new();
         for box_number in boxes {
-            let mut reply = vec![0; 24];
-            let number = reference::answer(&mut self.tables[*box_number], &bytes, &mut reply);
+            let (number, reply) = self.answer(*box_number, message);
             assert_eq!(number, 0, "box {}: {:?}", box_number, message);
             replies.push(reply);
         }
@@ -171,12 +177,18 @@ impl Group {
         decision
     }
 
-    /// Boxes promise a view; message 6 with the merge of the tables of two of them.
-    fn merged(&mut self, view: u32, boxes: &[usize], two: [usize; 2]) -> Message {
+    /// Boxes promise a view, and the tables of two of them are merged: the number, and the output.
+    fn merge(&mut self, view: u32, boxes: &[usize], two: [usize; 2]) -> (u8, Vec<u8>) {
         self.hear(boxes, &Message::ChangeView { view });
         let run = two.map(|box_number| self.image(box_number)).concat();
         let mut output = vec![0; 49_176];
-        assert_eq!(reference::merge(&run, view, &mut output), 0);
+        (reference::merge(&run, view, &mut output), output)
+    }
+
+    /// Message 6 with such a merge.
+    fn merged(&mut self, view: u32, boxes: &[usize], two: [usize; 2]) -> Message {
+        let (number, output) = self.merge(view, boxes, two);
+        assert_eq!(number, 0, "view {}", view);
         let (image, _) = Table::parse(&output).expect("an image");
         Message::StartView { view, image }
     }
@@ -264,6 +276,27 @@ fn tell_of_what_was_declared(group: &mut Group) {
     assert_eq!(group.prepare(&[0, 1, 2], stamp(11, 3), &k), fast);
 }
 
+/// L, whose stamp box 2 holds with another body: the others accept its commit. No view begins with both bodies.
+fn tell_of_the_broken_rule(group: &mut Group) {
+    let elsewhere = body(&[], &[(14, 3)]);
+    let decision = group.prepare(&[2], stamp(12, 4), &elsewhere);
+    assert_eq!(decision, Decision::Wait);
+    let (l, outcome) = (body(&[], &[(14, 8)]), Outcome::Commit);
+    let decision = group.prepare(&[0, 1], stamp(12, 4), &l);
+    assert_eq!(decision, Decision::Slow(PrepareResult::Ok));
+    group.finalise(&[0, 1], stamp(12, 4), 4, decision);
+    group.propose(&[0, 1], stamp(12, 4), outcome, &l);
+    let proposed = Message::ProposeOutcome {
+        stamp: stamp(12, 4),
+        outcome,
+        body: l,
+    };
+    assert_eq!(group.answer(2, &proposed).0, 5);
+    assert_eq!(group.merge(5, &[2, 0], [2, 0]).0, 5);
+    let start = group.merged(6, &[0, 1], [0, 1]);
+    group.hear(&[0, 1, 2], &start);
+}
+
 /// The story of the page, told to the second program: the images in the end.
 fn told() -> Vec<Vec<u8>> {
     let mut group = Group::fresh();
@@ -276,6 +309,7 @@ fn told() -> Vec<Vec<u8>> {
     let start = group.merged(3, &[0, 2], [0, 2]);
     group.hear(&[0, 1, 2], &start);
     tell_of_what_was_declared(&mut group);
+    tell_of_the_broken_rule(&mut group);
     (0..3).map(|box_number| group.image(box_number)).collect()
 }
 
@@ -305,14 +339,14 @@ fn the_tables_in_the_end_are_those_of_the_second_program() {
     for (box_number, image) in images.iter().enumerate() {
         let (table, _) = Table::parse(image).expect("an image");
         assert_eq!(usize::from(table.box_number), box_number);
-        assert_eq!((table.view, table.rows.len()), (4, 11));
+        assert_eq!((table.view, table.rows.len()), (6, 12));
     }
 }
 
 // ---- A wrong example is noticed, by itself.
 
 /// A file of the example, words that stand in it once, and what they are bent to.
-const BENT: [(&str, &str, &str); 37] = [
+const BENT: [(&str, &str, &str); 42] = [
     // a reply goes out though the table was not stored
     (
         "box.c",
@@ -465,15 +499,41 @@ const BENT: [(&str, &str, &str); 37] = [
     // "recorded" is said at f acceptances
     (
         "box.c",
-        "if (accepted_in_one(t, &view)) {",
-        "t->recorded = outcome == SPRONDILU_OUTCOME_COMMIT && how_many(t->accepted) >= QUORUM - 1;\n    tell(t);\n    \
-         if (accepted_in_one(t, &view)) {",
+        "if (in_one && t->outcome == SPRONDILU_OUTCOME_COMMIT) {",
+        "if (how_many(t->accepted) >= QUORUM - 1 && t->outcome == SPRONDILU_OUTCOME_COMMIT) {",
     ),
     // "recorded" is said at f+1 acceptances of two views
     (
         "box.c",
         "t->accepted[box] && t->accepted[other] && t->accepted_in[other] == t->accepted_in[box];",
         "t->accepted[box] && t->accepted[other];",
+    ),
+    // "in doubt" is said within the round that ends with "recorded"
+    (
+        "box.c",
+        "(t->full[box] && reply == NULL);",
+        "(t->full[box] && reply == NULL);\n    if (t->stopped) {\n        tell(t);\n    }",
+    ),
+    // "in doubt" is said of what f+1 boxes have accepted, because of another box
+    (
+        "box.c",
+        "if (t->recorded) {",
+        "if (t->recorded && !t->stopped) {",
+    ),
+    // "recorded" is said, and nobody hears that a rule was broken
+    (
+        "box.c",
+        "now = t->stopped ? RECORDED_RULE_BROKEN : RECORDED;",
+        "now = RECORDED;",
+    ),
+    // what was told is not stored, and is told again after a power cut
+    ("box.c", "(void)handset_store(t);", ""),
+    // a handset that lost power goes on with a stamp that was stopped
+    (
+        "box.c",
+        "propose(t, t->outcome != NO_OUTCOME ? t->outcome : SPRONDILU_OUTCOME_ABORT);",
+        "t->stopped = false;\n    \
+         propose(t, t->outcome != NO_OUTCOME ? t->outcome : SPRONDILU_OUTCOME_ABORT);",
     ),
     // the grower never hears that an OK that was declared is not recorded yet
     (
