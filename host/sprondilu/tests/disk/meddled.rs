@@ -223,12 +223,15 @@ fn a_run_waits_for_a_name_that_is_kept_for_a_table() {
     let case = begun(|_| {});
     let second = Some(Spoilt {
         turn: turn_of("rename", &begun(|_| {}), line, &[lacks]),
-        how: "RUN $PROGRAM message change-view 8 --out x --replace >out 2>/dev/null & sleep 0.3",
+        // The shell around it has the error output of the first, so that both are over when that is.
+        how: "RUN { $PROGRAM message change-view 8 --out x --replace >out 2>said; true; } & sleep 0.3",
     });
     let (ran, _) = run_with(&case.folder, line, second, &[PROGRAM, lacks]);
     ran.done();
     assert_eq!(case.folder.bytes("x"), fresh(3, 0));
-    // What is done is said there.
+    // What is done is said in the one, and what is not in the other.
     assert_eq!(case.folder.bytes("out"), b"");
+    let said = String::from_utf8(case.folder.bytes("said")).expect("words");
+    assert!(said.contains("no message"), "{}", said);
     assert_eq!(hidden(&case.folder), None);
 }
