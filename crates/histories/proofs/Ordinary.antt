@@ -1,51 +1,56 @@
--- The ordinary histories, computed: each keeps every rule, so the theorem speaks of it; then what was declared, accepted and refused in it, and what its merges hold of each stamp.
+-- The ordinary histories, computed: each keeps every rule, so the theorem speaks of it, and what was declared and accepted in it; then what was refused, and what its merges hold of each stamp.
 use mathlib.Core.Path.{_≡_, refl}
-use mathlib.Core.Bool.{true}
-use mathlib.Core.List.{[], _∷_, map, List·Memᴰ·head}
+use mathlib.Core.Bool.{Bool, true}
+use mathlib.Core.List.{List, [], _∷_, map, List·Memᴰ·head}
 use Prim.Native.Nat.{ℕ, _<_}
 use native.Mathlib.Omega.{arith}
 use lib.Dec.{eqb}
-use Rattle.rules.specs.Tests.{those}
+use Rattle.rules.specs.Tests.{every, those}
 use Rattle.rules.specs.Groups.{isGroup}
 use Rattle.rules.specs.Stamps.{Access}
 use Rattle.rules.specs.Tables.{Result.OK, Result.ABORT, Result.ABSTAIN, Result.RETRY, Prepare.noPrepare, Prepare.tentative, Prepare.final, Verdict, Verdict.commit, Verdict.abort, Outcome.noOutcome, Outcome.noted, Outcome.done, valley}
 use Rattle.rules.specs.Messages.{Message.proposeOutcome}
 use Rattle.rules.specs.Circumstances.{belowLimit}
 use Rattle.rules.specs.Check.{check, clash}
-use Rattle.rules.proofs.Lists.{_∈_, places}
-use Rattle.history.specs.Survival.{freshGroup, WasSent, QuorumOf, Accepted, Lawful, Survival}
+use Rattle.rules.proofs.Lists.{_∈_, places, every-one}
+use Rattle.history.specs.Survival.{Declared, Group, freshGroup, WasSent, QuorumOf, Accepted, Lawful, Survival}
 use Rattle.history.proofs.Survival.{survival}
 use Rattle.histories.specs.Histories.{History, ending, refusals, tablesAt, heldIn, heldInMerges}
 use Rattle.histories.specs.Ordinary.{written, readIt, writtenThenRead, finalisedInNextView, clientDies, skippedAndLate, inTheOlder, inTheNewer, competingViews, retryKept, abortedAfterOK}
-use Rattle.histories.proofs.RuleTests.{on-acceptances, lawful, lawful-is}
+use Rattle.histories.proofs.RuleTests.{onAcceptances, on-acceptances, lawful, lawful-is}
 use Rattle.histories.proofs.Computing.{computing}
 
--- it keeps every rule, and what was promised of such a history holds
-abbrev pub Ordinary : History → Type 0
-Ordinary h = Lawful valley belowLimit check (freshGroup (h .n)) (h .events) × Survival (ending h)
+-- an outcome of a stamp that boxes may have accepted in a view
+pub record AcceptedOutcome : Type 0 where
+  pub stamp : ℕ
+  pub view : ℕ
+  pub outcome : Verdict
 
-ordinary : (h : History) → isGroup (h .n) ≡ true → lawful valley belowLimit check (freshGroup (h .n)) (h .events) ≡ true → Ordinary h
-ordinary h group passed =
+-- it keeps every rule, and what was promised of such a history holds; these results were declared in it, and f+1 boxes have accepted each of these outcomes in its view
+pub record Ordinary (h : History) (declared : List Declared) (accepted : List AcceptedOutcome) : Type 0 where
+  pub keepsRules : Lawful valley belowLimit check (freshGroup (h .n)) (h .events)
+  pub survives : Survival (ending h)
+  pub wasDeclared : ending h .declared ≡ declared
+  pub byQuorum : (a : AcceptedOutcome) → a ∈ accepted → QuorumOf (ending h) (Accepted (ending h) (a .stamp) (a .view) (a .outcome))
+
+abbrev acceptedByQuorum : Group → AcceptedOutcome → Bool
+acceptedByQuorum G a = onAcceptances G (a .stamp) (a .view) (a .outcome)
+
+ordinary : (h : History) (declared : List Declared) (accepted : List AcceptedOutcome) → isGroup (h .n) ≡ true → lawful valley belowLimit check (freshGroup (h .n)) (h .events) ≡ true → ending h .declared ≡ declared → every (acceptedByQuorum (ending h)) accepted ≡ true → Ordinary h declared accepted
+ordinary h declared accepted group passed same all =
     let law = lawful-is valley belowLimit check (freshGroup (h .n)) (h .events) passed in
-    (law, survival (h .n) group valley belowLimit (h .events) law)
-
--- f+1 boxes have accepted this outcome in view v
-abbrev pub AcceptedByQuorum : History → (s v : ℕ) → Verdict → Type 0
-AcceptedByQuorum h s v o = QuorumOf (ending h) (Accepted (ending h) s v o)
+    record {
+      keepsRules = law;
+      survives = survival (h .n) group valley belowLimit (h .events) law;
+      wasDeclared = same;
+      byQuorum = λ a i. on-acceptances (ending h) (a .stamp) (a .view) (a .outcome) (every-one (acceptedByQuorum (ending h)) accepted all a i);
+    }
 
 -- ---- 1. what one transaction wrote, the next one reads, and both are committed
 
-pub written-then-read : Ordinary writtenThenRead
+pub written-then-read : Ordinary writtenThenRead (record { stamp = 10; view = 0; result = OK } ∷ record { stamp = 20; view = 0; result = OK } ∷ []) (record { stamp = 10; view = 0; outcome = commit } ∷ record { stamp = 20; view = 0; outcome = commit } ∷ [])
 unfolding computing
-written-then-read = ordinary writtenThenRead refl refl
-
-pub written-then-read-declared : ending writtenThenRead .declared ≡ record { stamp = 10; view = 0; result = OK } ∷ record { stamp = 20; view = 0; result = OK } ∷ []
-unfolding computing
-written-then-read-declared = refl
-
-pub written-then-read-accepted : AcceptedByQuorum writtenThenRead 10 0 commit × AcceptedByQuorum writtenThenRead 20 0 commit
-unfolding computing
-written-then-read-accepted = (on-acceptances (ending writtenThenRead) 10 0 commit refl, on-acceptances (ending writtenThenRead) 20 0 commit refl)
+written-then-read = ordinary writtenThenRead _ _ refl refl refl refl
 
 -- box 0 answered message 7 with version 10 and its value
 pub read-before : map {B = ℕ × ℕ} (λ a. (a .reply .stamp, a .reply .value)) (those (λ a. eqb (a .reply .kind) 7) (ending writtenThenRead .answers)) ≡ (10, 7) ∷ []
@@ -70,21 +75,13 @@ both-committed = ((0, search places depth 30), (0, search places depth 30), (_, 
 pub no-write-between : (read write : Access) → read ∈ readIt .reads → write ∈ written .writes → read .register ≡ write .register → read .number < 10 → ⊥
 no-write-between read write i j same below =
     let (sent20, sent10, more) = both-committed in
-    written-then-read .1 .noClash 20 10 readIt written sent20 sent10 read write i j same below (omega arith)
+    written-then-read .survives .noClash 20 10 readIt written sent20 sent10 read write i j same below (omega arith)
 
 -- ---- 2. a slow answer that too few confirm is asked for again in the next view, and a late box is told
 
-pub finalised-in-next-view : Ordinary finalisedInNextView
+pub finalised-in-next-view : Ordinary finalisedInNextView (record { stamp = 10; view = 1; result = OK } ∷ []) (record { stamp = 10; view = 1; outcome = commit } ∷ [])
 unfolding computing
-finalised-in-next-view = ordinary finalisedInNextView refl refl
-
-pub finalised-in-next-view-declared : ending finalisedInNextView .declared ≡ record { stamp = 10; view = 1; result = OK } ∷ []
-unfolding computing
-finalised-in-next-view-declared = refl
-
-pub finalised-in-next-view-accepted : AcceptedByQuorum finalisedInNextView 10 1 commit
-unfolding computing
-finalised-in-next-view-accepted = on-acceptances (ending finalisedInNextView) 10 1 commit refl
+finalised-in-next-view = ordinary finalisedInNextView _ _ refl refl refl refl
 
 -- in view 1 the boxes gathered hold one tentative OK of it, and the late box holds all in the end
 pub late-box-told :
@@ -100,17 +97,9 @@ finalised-in-next-view-merged = refl
 
 -- ---- 3. a client dies when one box has its message 1, and what clashes with it is committed
 
-pub client-dies : Ordinary clientDies
+pub client-dies : Ordinary clientDies (record { stamp = 10; view = 0; result = OK } ∷ []) (record { stamp = 10; view = 0; outcome = commit } ∷ [])
 unfolding computing
-client-dies = ordinary clientDies refl refl
-
-pub client-dies-declared : ending clientDies .declared ≡ record { stamp = 10; view = 0; result = OK } ∷ []
-unfolding computing
-client-dies-declared = refl
-
-pub client-dies-accepted : AcceptedByQuorum clientDies 10 0 commit
-unfolding computing
-client-dies-accepted = on-acceptances (ending clientDies) 10 0 commit refl
+client-dies = ordinary clientDies _ _ refl refl refl refl
 
 -- what the two boxes gathered hold
 pub client-dies-gathered :
@@ -128,9 +117,9 @@ client-dies-merged = (refl, refl)
 
 -- ---- 4. views are skipped, and messages come late and twice
 
-pub skipped-and-late : Ordinary skippedAndLate
+pub skipped-and-late : Ordinary skippedAndLate (record { stamp = 10; view = 0; result = OK } ∷ []) (record { stamp = 10; view = 0; outcome = commit } ∷ [])
 unfolding computing
-skipped-and-late = ordinary skippedAndLate refl refl
+skipped-and-late = ordinary skippedAndLate _ _ refl refl refl refl
 
 -- box 0 refuses the repeated message 6 as of an old view, and box 3 the late message 2 as of another view; nothing else is refused
 pub skipped-and-late-refused : refusals (ending skippedAndLate) ≡ (0, 6, 10) ∷ (3, 2, 9) ∷ []
@@ -147,23 +136,15 @@ pub skipped-and-late-gathered : map (λ T. T .view) (tablesAt (ending skippedAnd
 unfolding computing
 skipped-and-late-gathered = refl
 
-pub skipped-and-late-declared : ending skippedAndLate .declared ≡ record { stamp = 10; view = 0; result = OK } ∷ []
-unfolding computing
-skipped-and-late-declared = refl
-
-pub skipped-and-late-accepted : AcceptedByQuorum skippedAndLate 10 0 commit
-unfolding computing
-skipped-and-late-accepted = on-acceptances (ending skippedAndLate) 10 0 commit refl
-
 pub skipped-and-late-merged : heldInMerges (ending skippedAndLate) 10 ≡ (3, final OK, done commit) ∷ (5, final OK, done commit) ∷ []
 unfolding computing
 skipped-and-late-merged = refl
 
 -- ---- 5. two view changes compete
 
-pub competing-views : Ordinary competingViews
+pub competing-views : Ordinary competingViews (record { stamp = 10; view = 0; result = OK } ∷ record { stamp = 30; view = 2; result = OK } ∷ []) (record { stamp = 30; view = 2; outcome = commit } ∷ [])
 unfolding computing
-competing-views = ordinary competingViews refl refl
+competing-views = ordinary competingViews _ _ refl refl refl refl
 
 -- box 1 has promised view 2, and refuses to start view 1
 pub competing-views-refused : refusals (ending competingViews) ≡ (1, 6, 10) ∷ []
@@ -174,14 +155,6 @@ competing-views-refused = refl
 pub competing-views-gathered : map (λ T. T .view) (tablesAt (ending competingViews) (21 ∷ 22 ∷ [])) ≡ 1 ∷ 2 ∷ []
 unfolding computing
 competing-views-gathered = refl
-
-pub competing-views-declared : ending competingViews .declared ≡ record { stamp = 10; view = 0; result = OK } ∷ record { stamp = 30; view = 2; result = OK } ∷ []
-unfolding computing
-competing-views-declared = refl
-
-pub competing-views-accepted : AcceptedByQuorum competingViews 30 2 commit
-unfolding computing
-competing-views-accepted = on-acceptances (ending competingViews) 30 2 commit refl
 
 -- stamp 20, which clashes with stamp 30, is OK in the merge for view 1 alone
 pub competing-views-merged :
@@ -194,17 +167,9 @@ competing-views-merged = (refl, refl, refl, refl)
 
 -- ---- 6. RETRY is declared, and kept with its stamp
 
-pub retry-kept : Ordinary retryKept
+pub retry-kept : Ordinary retryKept (record { stamp = 30; view = 0; result = OK } ∷ record { stamp = 20; view = 0; result = RETRY 30 } ∷ []) (record { stamp = 30; view = 0; outcome = commit } ∷ [])
 unfolding computing
-retry-kept = ordinary retryKept refl refl
-
-pub retry-kept-declared : ending retryKept .declared ≡ record { stamp = 30; view = 0; result = OK } ∷ record { stamp = 20; view = 0; result = RETRY 30 } ∷ []
-unfolding computing
-retry-kept-declared = refl
-
-pub retry-kept-accepted : AcceptedByQuorum retryKept 30 0 commit
-unfolding computing
-retry-kept-accepted = on-acceptances (ending retryKept) 30 0 commit refl
+retry-kept = ordinary retryKept _ _ refl refl refl refl
 
 -- what the four boxes gathered hold of it
 pub retry-kept-gathered :
@@ -221,17 +186,9 @@ retry-kept-merged = (refl, refl)
 
 -- ---- 7. OK is declared, and then the transaction is aborted
 
-pub aborted-after-ok : Ordinary abortedAfterOK
+pub aborted-after-ok : Ordinary abortedAfterOK (record { stamp = 10; view = 0; result = OK } ∷ []) (record { stamp = 10; view = 0; outcome = abort } ∷ [])
 unfolding computing
-aborted-after-ok = ordinary abortedAfterOK refl refl
-
-pub aborted-after-ok-declared : ending abortedAfterOK .declared ≡ record { stamp = 10; view = 0; result = OK } ∷ []
-unfolding computing
-aborted-after-ok-declared = refl
-
-pub aborted-after-ok-accepted : AcceptedByQuorum abortedAfterOK 10 0 abort
-unfolding computing
-aborted-after-ok-accepted = on-acceptances (ending abortedAfterOK) 10 0 abort refl
+aborted-after-ok = ordinary abortedAfterOK _ _ refl refl refl refl
 
 -- both stand: the result that was declared, and the outcome that was accepted
 pub aborted-after-ok-merged : heldInMerges (ending abortedAfterOK) 10 ≡ (1, final OK, done abort) ∷ []

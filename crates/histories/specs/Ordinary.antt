@@ -8,6 +8,14 @@ use Rattle.rules.specs.Messages.{Message.proposePrepare, Message.finalisePrepar
 use Rattle.history.specs.Survival.{Event.sends, Event.arrives, Event.declares, Event.merges}
 use Rattle.histories.specs.Histories.{reads, writes, row, image, told, History}
 
+-- what most of them are about: a transaction that writes register 0,
+abbrev pub writesRegister0 : Body
+writesRegister0 = writes 0 7
+
+-- and one that read it as never written
+abbrev pub readsRegister0 : Body
+readsRegister0 = reads 0 0
+
 -- ---- 1. what one transaction wrote, the next one reads, and both are committed
 
 -- stamp 10
@@ -44,12 +52,8 @@ writtenThenRead =
 
 -- ---- 2. a slow answer that too few confirm is asked for again in the next view, and a late box is told
 
--- stamp 10
-abbrev pub askedAgain : Body
-askedAgain = writes 0 7
-
 abbrev pub askedAgainMerged : Table
-askedAgainMerged = image 3 1 (row 10 askedAgain (final OK) noOutcome ∷ [])
+askedAgainMerged = image 3 1 (row 10 writesRegister0 (final OK) noOutcome ∷ [])
 
 unfoldable pub finalisedInNextView : History
 finalisedInNextView =
@@ -57,7 +61,7 @@ finalisedInNextView =
       n = 3;
       events =
           -- two OKs are slow OK; box 0 confirms it, and then is away. What is sent to box 1 is lost, so nothing is declared in view 0
-          told 0 (0 ∷ 1 ∷ []) (proposePrepare 10 askedAgain)
+          told 0 (0 ∷ 1 ∷ []) (proposePrepare 10 writesRegister0)
           ++ told 2 (0 ∷ []) (finalisePrepare 10 0 OK)
           ++ (sends 1 (finalisePrepare 10 0 OK) ∷ [])
           -- view 1 from boxes 1 and 2: one tentative OK is below the agreement count, so the merge checks it
@@ -65,14 +69,14 @@ finalisedInNextView =
           ++ (merges 1 (6 ∷ 7 ∷ []) ∷ [])
           ++ told 6 (1 ∷ 2 ∷ []) (startView 1 askedAgainMerged)
           -- message 1 is sent again: both answer their final OK of view 1, which is slow OK; both confirm it, and it is declared in view 1
-          ++ told 8 (1 ∷ 2 ∷ []) (proposePrepare 10 askedAgain)
+          ++ told 8 (1 ∷ 2 ∷ []) (proposePrepare 10 writesRegister0)
           ++ told 10 (1 ∷ 2 ∷ []) (finalisePrepare 10 1 OK)
           ++ (declares 10 1 OK ∷ [])
-          ++ told 12 (1 ∷ 2 ∷ []) (proposeOutcome 10 commit askedAgain)
+          ++ told 12 (1 ∷ 2 ∷ []) (proposeOutcome 10 commit writesRegister0)
           ++ told 14 (1 ∷ 2 ∷ []) (finaliseOutcome 10 1 commit)
           -- box 0 comes back and starts view 1. Now that it has answered in the view of the declaration, it may be told the commit
           ++ told 16 (0 ∷ []) (startView 1 askedAgainMerged)
-          ++ told 17 (0 ∷ []) (proposeOutcome 10 commit askedAgain)
+          ++ told 17 (0 ∷ []) (proposeOutcome 10 commit writesRegister0)
           ++ told 18 (0 ∷ []) (finaliseOutcome 10 1 commit)
           -- view 2 from boxes 0 and 2
           ++ told 19 (0 ∷ 2 ∷ []) (changeView 2)
@@ -81,25 +85,18 @@ finalisedInNextView =
 
 -- ---- 3. a client dies when one box has its message 1, and what clashes with it is committed
 
--- stamp 20: it read register 0 as never written, and is heard of once
-abbrev pub orphan : Body
-orphan = reads 0 0
-
--- stamp 10: it writes that register below stamp 20
-abbrev pub overtaking : Body
-overtaking = writes 0 7
-
 unfoldable pub clientDies : History
 clientDies =
     record {
       n = 3;
       events =
-          told 0 (0 ∷ []) (proposePrepare 20 orphan)
-          -- stamp 10 lies below stamp 20, which is prepared in box 0. That box says ABSTAIN, as it will when B fires for any read or write above, since stamp 20 is only prepared; the others know nothing of stamp 20. Two OKs of three are slow OK
-          ++ told 1 (0 ∷ 1 ∷ 2 ∷ []) (proposePrepare 10 overtaking)
+          -- stamp 20 is heard of once
+          told 0 (0 ∷ []) (proposePrepare 20 readsRegister0)
+          -- stamp 10 writes what stamp 20 read, and lies below it; stamp 20 is prepared in box 0. That box says ABSTAIN, as it will when B fires for any read or write above, since stamp 20 is only prepared; the others know nothing of stamp 20. Two OKs of three are slow OK
+          ++ told 1 (0 ∷ 1 ∷ 2 ∷ []) (proposePrepare 10 writesRegister0)
           ++ told 4 (1 ∷ 2 ∷ []) (finalisePrepare 10 0 OK)
           ++ (declares 10 0 OK ∷ [])
-          ++ told 6 (1 ∷ 2 ∷ []) (proposeOutcome 10 commit overtaking)
+          ++ told 6 (1 ∷ 2 ∷ []) (proposeOutcome 10 commit writesRegister0)
           ++ told 8 (1 ∷ 2 ∷ []) (finaliseOutcome 10 0 commit)
           -- view 1 from boxes 0 and 1: one tentative OK of stamp 20 is open, and meets the commit of stamp 10 in its check
           ++ told 10 (0 ∷ 1 ∷ []) (changeView 1)
@@ -108,12 +105,8 @@ clientDies =
 
 -- ---- 4. views are skipped, and messages come late and twice
 
--- stamp 10
-abbrev pub delayed : Body
-delayed = writes 0 7
-
 abbrev pub skippedTo : Table
-skippedTo = image 5 3 (row 10 delayed (final OK) (done commit) ∷ [])
+skippedTo = image 5 3 (row 10 writesRegister0 (final OK) (done commit) ∷ [])
 
 unfoldable pub skippedAndLate : History
 skippedAndLate =
@@ -121,10 +114,10 @@ skippedAndLate =
       n = 5;
       events =
           -- four OKs are the fast count. Message 2 may be sent on it too: those to boxes 0 and 3 are on their way for long
-          told 0 (0 ∷ 1 ∷ 2 ∷ 3 ∷ []) (proposePrepare 10 delayed)
+          told 0 (0 ∷ 1 ∷ 2 ∷ 3 ∷ []) (proposePrepare 10 writesRegister0)
           ++ (declares 10 0 OK ∷ sends 0 (finalisePrepare 10 0 OK) ∷ sends 3 (finalisePrepare 10 0 OK) ∷ [])
           -- three boxes, which are f+1, accept the commit. After that message 2 arrives at box 0: it was sent before the outcome was proposed, and is taken
-          ++ told 6 (0 ∷ 1 ∷ 2 ∷ []) (proposeOutcome 10 commit delayed)
+          ++ told 6 (0 ∷ 1 ∷ 2 ∷ []) (proposeOutcome 10 commit writesRegister0)
           ++ (arrives 4 ∷ [])
           -- view 3 comes next, from boxes 1, 2 and 4. Boxes 0 and 3 start it without having promised it
           ++ told 9 (1 ∷ 2 ∷ 4 ∷ []) (changeView 3)
@@ -139,10 +132,6 @@ skippedAndLate =
 
 -- ---- 5. two view changes compete
 
--- stamp 10
-abbrev pub inBoth : Body
-inBoth = writes 0 7
-
 -- stamp 20
 abbrev pub inTheOlder : Body
 inTheOlder = writes 1 8
@@ -152,10 +141,10 @@ abbrev pub inTheNewer : Body
 inTheNewer = reads 1 0
 
 abbrev pub olderMerged : Table
-olderMerged = image 3 1 (row 10 inBoth (final OK) noOutcome ∷ row 20 inTheOlder (final OK) noOutcome ∷ [])
+olderMerged = image 3 1 (row 10 writesRegister0 (final OK) noOutcome ∷ row 20 inTheOlder (final OK) noOutcome ∷ [])
 
 abbrev pub newerMerged : Table
-newerMerged = image 3 2 (row 10 inBoth (final OK) noOutcome ∷ [])
+newerMerged = image 3 2 (row 10 writesRegister0 (final OK) noOutcome ∷ [])
 
 unfoldable pub competingViews : History
 competingViews =
@@ -163,7 +152,7 @@ competingViews =
       n = 3;
       events =
           -- stamp 10 is declared, and box 0 alone has heard of stamp 20
-          told 0 (0 ∷ 1 ∷ 2 ∷ []) (proposePrepare 10 inBoth)
+          told 0 (0 ∷ 1 ∷ 2 ∷ []) (proposePrepare 10 writesRegister0)
           ++ (declares 10 0 OK ∷ [])
           ++ told 3 (0 ∷ []) (proposePrepare 20 inTheOlder)
           -- boxes 0 and 1 promise view 1, boxes 1 and 2 promise view 2, and both are merged
@@ -185,26 +174,18 @@ competingViews =
 
 -- ---- 6. RETRY is declared, and kept with its stamp
 
--- stamp 30: it read register 0 as never written
-abbrev pub readEarly : Body
-readEarly = reads 0 0
-
--- stamp 20: it writes that register below stamp 30
-abbrev pub wroteLate : Body
-wroteLate = writes 0 7
-
 unfoldable pub retryKept : History
 retryKept =
     record {
       n = 7;
       events =
           -- box 6 is away. Six OKs are the fast count; the six accept the commit and finish it
-          told 0 (0 ∷ 1 ∷ 2 ∷ 3 ∷ 4 ∷ 5 ∷ []) (proposePrepare 30 readEarly)
+          told 0 (0 ∷ 1 ∷ 2 ∷ 3 ∷ 4 ∷ 5 ∷ []) (proposePrepare 30 readsRegister0)
           ++ (declares 30 0 OK ∷ [])
-          ++ told 6 (0 ∷ 1 ∷ 2 ∷ 3 ∷ 4 ∷ 5 ∷ []) (proposeOutcome 30 commit readEarly)
+          ++ told 6 (0 ∷ 1 ∷ 2 ∷ 3 ∷ 4 ∷ 5 ∷ []) (proposeOutcome 30 commit readsRegister0)
           ++ told 12 (0 ∷ 1 ∷ 2 ∷ 3 ∷ 4 ∷ 5 ∷ []) (finaliseOutcome 30 0 commit)
           -- stamp 20 lies below a committed read of its register. Each of the six says RETRY 30, as it will when the greatest committed or prepared access above is named, since there is no other. Six of one result are the fast count
-          ++ told 18 (0 ∷ 1 ∷ 2 ∷ 3 ∷ 4 ∷ 5 ∷ []) (proposePrepare 20 wroteLate)
+          ++ told 18 (0 ∷ 1 ∷ 2 ∷ 3 ∷ 4 ∷ 5 ∷ []) (proposePrepare 20 writesRegister0)
           ++ (declares 20 0 (RETRY 30) ∷ [])
           -- view 1 from boxes 2, 3, 4 and 6: RETRY 30 in three tables is the agreement count
           ++ told 24 (2 ∷ 3 ∷ 4 ∷ 6 ∷ []) (changeView 1)
@@ -213,19 +194,15 @@ retryKept =
 
 -- ---- 7. OK is declared, and then the transaction is aborted
 
--- stamp 10
-abbrev pub givenUp : Body
-givenUp = writes 0 7
-
 unfoldable pub abortedAfterOK : History
 abortedAfterOK =
     record {
       n = 5;
       events =
-          told 0 (0 ∷ 1 ∷ 2 ∷ 3 ∷ []) (proposePrepare 10 givenUp)
+          told 0 (0 ∷ 1 ∷ 2 ∷ 3 ∷ []) (proposePrepare 10 writesRegister0)
           ++ (declares 10 0 OK ∷ [])
           -- three boxes, which are f+1, accept the abort and finish it
-          ++ told 4 (0 ∷ 1 ∷ 2 ∷ []) (proposeOutcome 10 abort givenUp)
+          ++ told 4 (0 ∷ 1 ∷ 2 ∷ []) (proposeOutcome 10 abort writesRegister0)
           ++ told 7 (0 ∷ 1 ∷ 2 ∷ []) (finaliseOutcome 10 0 abort)
           -- view 1 from boxes 2, 3 and 4
           ++ told 10 (2 ∷ 3 ∷ 4 ∷ []) (changeView 1)
