@@ -338,10 +338,18 @@ fn the_constants_are_those_of_the_paper() {
     }
 }
 
+/// The pages of the claims, one behind the other.
+fn claims() -> String {
+    let pages = fs::read_dir(here("../../docs/CLAIMS")).expect("the claims");
+    pages
+        .map(|page| fs::read_to_string(page.expect("a page").path()).expect("its text"))
+        .collect()
+}
+
 /// Every constant of the header that is a number has a sentence, and every sentence is in the papers.
 #[test]
 fn no_constant_is_without_a_sentence() {
-    let claims = fs::read_to_string(here("../../docs/CLAIMS.md")).expect("the claims");
+    let claims = claims();
     for (sentence, _) in FIXED {
         assert!(claims.contains(sentence), "{}", sentence);
     }

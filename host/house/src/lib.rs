@@ -84,18 +84,43 @@ pub fn files(folder: &str, ending: &str) -> Vec<String> {
     found
 }
 
-/// The words that a paper sets in backticks, outside its blocks of code.
-pub fn cited(paper: &str) -> Vec<String> {
+/// The papers: README.md and every page below docs/.
+pub fn papers() -> Vec<String> {
+    let mut papers = files("docs", ".md");
+    papers.insert(0, "README.md".to_string());
+    papers
+}
+
+/// The pages of the claims, one for each chapter; the index is none of them.
+pub fn claim_pages() -> Vec<String> {
+    let pages = files("docs/CLAIMS", ".md").into_iter();
+    pages
+        .filter(|page| page != "docs/CLAIMS/README.md")
+        .collect()
+}
+
+/// The lines of a text outside its fenced blocks of code.
+pub fn outside_blocks(text: &str) -> Vec<&str> {
     let mut in_code = false;
     let mut found = Vec::new();
-    for line in text(paper).lines() {
+    for line in text.lines() {
         if line.trim_start().starts_with("```") {
             in_code = !in_code;
         } else if !in_code {
-            found.extend(line.split('`').skip(1).step_by(2).map(str::to_string));
+            found.push(line);
         }
     }
     found
+}
+
+/// The words that a paper sets in backticks, outside its blocks of code.
+pub fn cited(paper: &str) -> Vec<String> {
+    let text = text(paper);
+    let lines = outside_blocks(&text).into_iter();
+    lines
+        .flat_map(|line| line.split('`').skip(1).step_by(2))
+        .map(str::to_string)
+        .collect()
 }
 
 /// Whether what a citation names is there. `None` for words that name nothing of the tree.
