@@ -88,18 +88,18 @@ const fn about(kind: u8) -> &'static str {
     match kind {
         1 => {
             "\
-Message 1 with a new stamp, `sprondilu_answer` of the library against the same walks and moves in safe Rust. Input: a table
-by the rules whose rows are all committed and have 4 reads and 4 writes each, but for one row in the middle, which the
-message proposes: half of the rows are passed by the search, half of them move, and the check looks at all. The rows are
-counted with the new one. Each side answers in its own copies of the table, which are made before the clock runs. The second
-program parses the table into one of its own, and writes the image out anew."
+`sprondilu_answer` of the library answers message 1 with a new stamp, against the same walks and moves in safe Rust.
+The input is a table by the rules whose rows are all committed and have 4 reads and 4 writes each, but for one row in
+the middle, which the message proposes. Half of the rows are passed by the search, half of them move, and the check
+looks at all. The rows are counted with the new one. Each side answers in its own copies of the table, which are made
+before the clock runs. The second program parses the table into one of its own, and writes the image out anew."
         }
-        2 => "Message 2, which makes the prepare of the last row of such a table final.",
-        3 => "Message 3, which notes an outcome in the last row of such a table.",
-        4 => "Message 4, which makes the outcome of the last row of such a table done.",
-        5 => "Message 5, which has the box of such a table promise a view.",
-        6 => "Message 6, which puts another such table in the place of one.",
-        _ => "Message 7, which finds the newest write of a register in such a table.",
+        2 => "Message 2 makes the prepare of the last row of such a table final.",
+        3 => "Message 3 notes an outcome in the last row of such a table.",
+        4 => "Message 4 makes the outcome of the last row of such a table done.",
+        5 => "Message 5 has the box of such a table promise a view.",
+        6 => "Message 6 puts another such table in the place of one.",
+        _ => "Message 7 finds the newest write of a register in such a table.",
     }
 }
 

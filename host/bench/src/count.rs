@@ -46,20 +46,23 @@ impl<const SAME: bool, const RECORDS: bool> Work for Counting<SAME, RECORDS> {
     const ABOUT: &'static str = match (SAME, RECORDS) {
         (true, false) => {
             "\
-The count of replies that all agree, `sprondilu_count` of the library against the same walks in safe Rust. Input: a tentative
-OK of each box of the group in one view, so that the answer is fast OK. No buffer was cleared: the call writes nothing."
+`sprondilu_count` of the library counts replies that all agree, against the same walks in safe Rust. The input is a
+tentative OK of each box of the group in one view, so that the answer is fast OK. No buffer was cleared, since the
+call writes nothing."
         }
         (false, false) => {
-            "The count of replies of which no two agree: RETRY of each box with a stamp of its own, so that it is slow RETRY."
+            "\
+The same sides count replies of which no two agree. The input is RETRY of each box with a stamp of its own, so that
+the answer is slow RETRY."
         }
         (true, true) => {
             "\
-The count of the replies that all agree, lent as records: `sprondilu_count_records` of the library against the twin of
-`sprondilu_count`, which reads the same replies from their bytes, and against the second program, which makes each record
-into a reply of its own. The bytes printed are those of the records. Beside it, as bytes, `sprondilu_count` of the library."
+`sprondilu_count_records` of the library counts the replies that all agree, lent as records. The twin is that of
+`sprondilu_count`, which reads the same replies from their bytes. The second program makes each record into a reply of
+its own. The bytes printed are those of the records. Beside it stands, as bytes, `sprondilu_count` of the library."
         }
         (false, true) => {
-            "The count of the replies of which no two agree, lent as records, against the same sides."
+            "The same sides count the replies of which no two agree, lent as records."
         }
     };
 

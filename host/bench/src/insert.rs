@@ -21,9 +21,10 @@ impl Work for Inserting {
     const CALL: Option<&'static str> = None;
     const SIDES: &'static [Side] = &[LIBRARY, TWIN];
     const ABOUT: &'static str = "\
-A row added at the front of a table, the change that moves most: `trial_add_row`, which is no public call, against the same
-moves in safe Rust. The second program changes no table in its place. Input: a table by the rules whose rows have 4 reads and 4 writes each, and one row more. Each side adds the
-row to its own copies of the table, which are made before the clock runs, in the same buffers and in turns.";
+`trial_add_row`, which is no public call, adds a row at the front of a table, against the same moves in safe Rust.
+That is the change that moves most. The second program changes no table in its place. The input is a table by the
+rules whose rows have 4 reads and 4 writes each, and one row more. Each side adds the row to its own copies of the
+table, which are made before the clock runs, in the same buffers and in turns.";
 
     fn of(rows: usize) -> Inserting {
         let mut table = random::full_table(&mut Dice::seeded(1), rows + 1);

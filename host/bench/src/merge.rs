@@ -84,20 +84,21 @@ const fn about(same: bool, boxes: u8) -> &'static str {
     match (same, boxes) {
         (true, 3) => {
             "\
-The merge of f+1 tables with the same stamps in a group of 3 boxes, `sprondilu_merge` of the library against the same walks in
-safe Rust. Input: one table by the rules, which f+1 boxes of the group hold: every row tentative OK and without an outcome, so
-that it is agreed and checked; half of the rows have 4 reads and 4 writes, half one of each; nearly all read what was written
-last, so that nearly all checks find OK. The rows are those of one table, the bytes those of all. Each side writes its own
-outputs. The second program parses the tables into some of its own. Beside it, as cursors, a merge in safe Rust that goes up
-all tables with a cursor in each, once to decide and once to write."
+`sprondilu_merge` of the library merges f+1 tables with the same stamps in a group of 3 boxes, against the same walks
+in safe Rust. The input is one table by the rules, which f+1 boxes of the group hold. Every row is tentative OK and
+without an outcome, so that it is agreed and checked. Half of the rows have 4 reads and 4 writes, half one of each.
+Nearly all read what was written last, so that nearly all checks find OK. The rows are those of one table, the bytes
+those of all. Each side writes its own outputs. The second program parses the tables into some of its own. Beside it
+stands, as cursors, a merge in safe Rust that goes up all tables with a cursor in each, once to decide and once to
+write."
         }
         (false, 3) => {
             "\
-The merge of f+1 tables of a group of 3 boxes whose stamps are disjoint, with the same rows dealt out in turn: all are open
-and checked. The rows are those of all tables together."
+The same sides merge f+1 tables of a group of 3 boxes whose stamps are disjoint. The same rows are dealt out in turn,
+and all are open and checked. The rows are those of all tables together."
         }
-        (_, 5) => "The same in a group of 5 boxes, of which 3 tables are merged.",
-        _ => "The same in a group of 7 boxes, of which 4 tables are merged.",
+        (_, 5) => "The same is done in a group of 5 boxes, of which 3 tables are merged.",
+        _ => "The same is done in a group of 7 boxes, of which 4 tables are merged.",
     }
 }
 

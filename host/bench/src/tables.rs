@@ -4,6 +4,9 @@ use crate::{instructions, stack, works, Named, Section, Side};
 
 const ROUNDS: usize = 101;
 
+/// How long a line of the page may be.
+const LINE: usize = 118;
+
 /// On a machine that does nothing else it is less.
 const STEADY_SPREAD: f64 = 1.25;
 
@@ -11,7 +14,7 @@ pub fn print_all(sections: &[Section]) {
     for section in sections {
         println!("### {}\n", section.heading);
         for work in section.works {
-            println!("- {}: {}", work.name, work.about.replace('\n', " "));
+            println!("{}", described(work));
         }
         println!();
         print_row(&headings(&section.works[0]));
@@ -20,6 +23,23 @@ pub fn print_all(sections: &[Section]) {
         println!();
     }
     print_stack();
+}
+
+/// What a work is, as an item of a list whose lines fit a page.
+fn described(work: &Named) -> String {
+    let described = format!("- {}: {}", work.name, work.about);
+    let mut lines: Vec<String> = Vec::new();
+    for word in described.split_whitespace() {
+        match lines.last_mut() {
+            Some(line) if line.len() + 1 + word.len() <= LINE => {
+                line.push(' ');
+                line.push_str(word);
+            }
+            Some(_) => lines.push(format!("  {}", word)),
+            None => lines.push(word.into()),
+        }
+    }
+    lines.join("\n")
 }
 
 /// A measure is followed by its ratios.
@@ -124,8 +144,33 @@ pub fn grouped(number: usize) -> String {
 
 #[cfg(test)]
 mod tests {
-    use super::{grouped, headings, name_with_spread};
+    use super::{described, grouped, headings, name_with_spread, LINE};
     use crate::works;
+
+    const PAGE: &str = include_str!("../../../docs/BENCHMARKS.md");
+
+    #[test]
+    fn the_lines_that_describe_a_work_fit_a_page() {
+        for work in works() {
+            let described = described(work);
+            assert!(described.starts_with(&format!("- {}: ", work.name)));
+            for (place, line) in described.lines().enumerate() {
+                assert!(line.len() <= LINE, "{}", line);
+                let indented = line.starts_with("  ") && !line.starts_with("   ");
+                assert_eq!(indented, place > 0, "{}", line);
+            }
+            let words = |text: &str| text.split_whitespace().count();
+            assert_eq!(words(&described), words(work.about) + 2);
+        }
+    }
+
+    #[test]
+    fn the_page_describes_each_work_as_it_is_printed() {
+        for work in works() {
+            let lines = format!("\n{}\n", described(work));
+            assert_eq!(PAGE.matches(&lines).count(), 1, "{}", lines);
+        }
+    }
 
     #[test]
     fn numbers_are_grouped_by_three_digits() {

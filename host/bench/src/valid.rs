@@ -14,10 +14,10 @@ impl Work for Judging {
     const NAME: &'static str = "valid";
     const CALL: Option<&'static str> = Some("sprondilu_valid");
     const ABOUT: &'static str = "\
-Validity of an image, `sprondilu_valid` of the library against the same walk in safe Rust.
-Input: a table by the rules whose rows have 4 reads and 4 writes each, lent whole; all sides judge the same bytes, in
-turns. No buffer was cleared: the call writes nothing. The second program parses the image into a table of its own, and
-gives that up again.";
+`sprondilu_valid` of the library judges an image, against the same walk in safe Rust. The input is a table by the
+rules whose rows have 4 reads and 4 writes each, lent whole. All sides judge the same bytes, in turns. No buffer was
+cleared, since the call writes nothing. The second program parses the image into a table of its own, and gives that up
+again.";
 
     fn of(rows: usize) -> Judging {
         let image = random::full_table(&mut Dice::seeded(1), rows).image();
