@@ -1,6 +1,6 @@
 /*
  * Sprondilu's calls, as C11 and C++11 link them from libsprondilu.a. "01" is the paper that fixes every number and
- * every byte: docs/CLAIMS.md has it sentence by sentence.
+ * every byte: docs/CLAIMS has it sentence by sentence, and docs/FORMAT.md byte by byte.
  *
  * A call works on buffers that its caller lends, keeps nothing between two calls, and ends with a number of 01's list.
  * What a call promises stands above it, and holds where all of this does:

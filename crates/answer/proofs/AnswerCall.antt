@@ -125,7 +125,7 @@ module _ (M : Model) (table message reply : List ℕ) where
     pub heard : Message
     pub read : parse formatOne M table ≡ some before
     pub told : messageAt formatOne message ≡ some heard
-    pub lawful : messageByRule M (before .n) heard ≡ true
+    pub keepsRules : messageByRule M (before .n) heard ≡ true
     -- the buffer then begins with the table after the message, which is by the rules and of the same box and group
     pub after : parse formatOne M (callTable M table message reply) ≡ some (tableAfter check before heard)
     pub byRule : tableByRule M (tableAfter check before heard) ≡ true
@@ -165,7 +165,7 @@ module _ (M : Model) (table message reply : List ℕ) where
         heard = m;
         read = a;
         told = b;
-        lawful = taken-by-rule M belowLimit T m d;
+        keepsRules = taken-by-rule M belowLimit T m d;
         after = rw (taken-table m e b) (edited-parses formatOne M (λ T. tableAfter check T m) table sound (rw i r) ∙ ap (λ U. some (tableAfter check U m)) i);
         byRule = r;
         box = rw same at x;

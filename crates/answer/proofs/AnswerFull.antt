@@ -22,7 +22,7 @@ use Rattle.table.specs.Images.{formatOne}
 use Rattle.table.specs.Parse.{parse}
 use Rattle.table.proofs.Images.{parse-by-rule}
 use Rattle.message.specs.Messages.{messageAt}
-use Rattle.transact.specs.Served.{servedNumber}
+use Rattle.transact.specs.Inner.Served.{servedNumber}
 use Rattle.transact.proofs.Proposals.{new-unheld}
 use Rattle.transact.proofs.Serving.{number-1, number-3}
 use Rattle.answer.specs.Calls.{callNumber}

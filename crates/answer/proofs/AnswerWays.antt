@@ -7,7 +7,7 @@ use mathlib.Core.Option.{Option, none, some}
 use Prim.Native.Nat.{ℕ, _≤_, _<_}
 use lib.ListN.{length}
 use borrow.Author.Tests.{ltb-true, ltb-false, lt-ltb, le-ltb}
-use Rattle.wire.specs.Numbers.{AllBytes}
+use Rattle.wire.specs.Inner.ByteLists.{AllBytes}
 use Rattle.rules.specs.Tests.{both, either}
 use Rattle.rules.specs.Tables.{Model, Table}
 use Rattle.rules.specs.Numbers.{Number.smallBuffer, Number.badTable, Number.badMessage, applies, first, number}
@@ -19,9 +19,10 @@ use Rattle.rules.proofs.NumberExactly.{number-exactly, number-not-given}
 use Rattle.table.specs.Images.{formatOne}
 use Rattle.table.specs.Parse.{parse}
 use Rattle.table.proofs.Images.{Sound}
-use Rattle.message.specs.Messages.{messageBytes, messageAt}
+use Rattle.message.specs.Inner.MessageBytes.{messageBytes}
+use Rattle.message.specs.Messages.{messageAt}
 use Rattle.message.proofs.Forms.{message-read, message-bytes}
-use Rattle.transact.specs.Served.{servedNumber}
+use Rattle.transact.specs.Inner.Served.{servedNumber}
 use Rattle.answer.specs.Calls.{callNumber}
 use Rattle.answer.proofs.AnswerCall.{numberFor, call-number}
 

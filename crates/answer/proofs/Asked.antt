@@ -8,7 +8,8 @@ use native.Mathlib.Omega.{arith}
 use lib.ListN.{length, take, drop, length-append, length-drop}
 use lib.Seq.{drop-at, take-all}
 use borrow.Author.Tests.{eqb-true}
-use Rattle.wire.specs.Numbers.{AllBytes, bytes}
+use Rattle.wire.specs.Inner.ByteLists.{AllBytes}
+use Rattle.wire.specs.Numbers.{bytes}
 use Rattle.wire.proofs.Numbers.{length-bytes}
 use Rattle.rules.specs.Tests.{both}
 use Rattle.rules.specs.Stamps.{Body, isStamp, countsByRule, bodyByRule}
@@ -25,20 +26,20 @@ use Rattle.rows.proofs.Bodies.{length-accessesAt, lengthOf-bodyAt}
 use Rattle.table.specs.declared.header.Header.{Header}
 use Rattle.table.specs.Headers.{headerAt}
 use Rattle.table.specs.Images.{formatOne, image, imageLength}
-use Rattle.table.specs.Parse.{parse, tableAt}
+use Rattle.table.specs.Parse.{parse, tableAt, BeginsWithImage}
 use Rattle.table.proofs.Images.{bodies-at-most, one-sound, parsed}
 use Rattle.edit.proofs.Holding.{one-starts}
-use Rattle.message.specs.Messages.{messageBytes, messageAt}
-use Rattle.message.specs.Read.{lawful, messageTo}
+use Rattle.message.specs.Inner.MessageBytes.{messageBytes}
+use Rattle.message.specs.Messages.{messageAt, keepingRules, messageTo}
 use Rattle.message.proofs.Forms.{message-bytes, length-counts}
-use Rattle.seek.specs.Lent.{limited, Lawful}
+use Rattle.seek.specs.Inner.Limits.{limited}
 
 module _ (M : Model) (n : ℕ) (s : List ℕ) (m : Message) (told : some m ≡ messageTo formatOne M n s) where
   read-so : (messageAt formatOne s ≡ some m) × (messageByRule M n m ≡ true)
   unfolding messageTo
   read-so = go (messageAt formatOne s) told
     where
-      go : (o : Option Message) → some m ≡ lawful M n o → (o ≡ some m) × (messageByRule M n m ≡ true)
+      go : (o : Option Message) → some m ≡ keepingRules M n o → (o ≡ some m) × (messageByRule M n m ≡ true)
       go none e = none-some (sym e)
       go (some q) e = let (b, same) = provided-some (messageByRule M n q) q m (sym e) in (ap some same, rw (← same) b)
 
@@ -87,7 +88,7 @@ up-to-end s n = take-all (length s - n) (drop n s) (rw (length-drop n s) (omega 
 
 -- what message 6 asks of the image that follows its view
 abbrev pub ImageGiven : List ℕ → ℕ → ℕ → Type 0
-ImageGiven s v limit = (5 ≤ length s) × Lawful valley (drop 5 s) × (headerAt (drop 5 s) .view ≡ v) × (headerAt (drop 5 s) .length ≤ 24 + 96 * limit)
+ImageGiven s v limit = (5 ≤ length s) × BeginsWithImage valley (drop 5 s) × (headerAt (drop 5 s) .view ≡ v) × (headerAt (drop 5 s) .length ≤ 24 + 96 * limit)
 
 module _ (limit n : ℕ) (s : List ℕ) (all : AllBytes s) (v : ℕ) (kind : limit ≤ 512) (told : some (startView v (tableAt formatOne (drop 5 s))) ≡ messageTo formatOne (limited limit) n s) where
   abbrev I : Table
@@ -117,7 +118,7 @@ module _ (limit n : ℕ) (s : List ℕ) (all : AllBytes s) (v : ℕ) (kind : lim
   begun : begins (drop 5 s) (image formatOne I) ≡ true
   begun = ap (λ z. begins z (image formatOne I)) (behind ∙ sym (append-nil (image formatOne I))) ∙ begins-with (image formatOne I) []
 
-  parsed-as : (M : Model) → tableByRule M I ≡ true → Lawful M (drop 5 s)
+  parsed-as : (M : Model) → tableByRule M I ≡ true → BeginsWithImage M (drop 5 s)
   unfolding parse both
   parsed-as M byRule = rw (byRule, begun)
 
@@ -126,8 +127,8 @@ module _ (limit n : ℕ) (s : List ℕ) (all : AllBytes s) (v : ℕ) (kind : lim
   start-given =
       let (regular, few) = table-facts (limited limit) I image-rule in
       let wide : tableByRule valley I ≡ true = table-by valley regular (omega arith) in
-      let lawful = parsed-as (limited limit) image-rule in
-      let said : headerAt (drop 5 s) .length ≡ imageLength formatOne I = ap (λ (h : Header). h .length) (parsed formatOne (limited limit) (drop 5 s) I (one-sound (limited limit) (omega arith)) lawful .header) in
+      let keepingRules = parsed-as (limited limit) image-rule in
+      let said : headerAt (drop 5 s) .length ≡ imageLength formatOne I = ap (λ (h : Header). h .length) (parsed formatOne (limited limit) (drop 5 s) I (one-sound (limited limit) (omega arith)) keepingRules .header) in
       let b = bodies-at-most (I .rows) (regular .rows) in
       let l : 5 + length (image formatOne I) ≡ length s = rw (length-append, five) at (ap length is-image) in
       (omega arith, parsed-as valley wide, its-view, omega arith)

@@ -14,11 +14,12 @@ use Rattle.rows.specs.Read.{rowsAt}
 use Rattle.table.specs.Headers.{headerAt}
 use Rattle.table.specs.Images.{formatOne}
 use Rattle.table.specs.Parse.{tableAt}
-use Rattle.edit.specs.Edited.{Holds}
+use Rattle.edit.specs.Inner.Holding.{Holds}
 use Rattle.edit.proofs.EditedBuffers.{edited-same}
 use Rattle.seek.proofs.SoughtRows.{said-changing, said-normal}
-use Rattle.transact.specs.Replies.{replyAs, doneReply}
-use Rattle.transact.specs.Served.{servedBuffer}
+use Rattle.transact.specs.Replies.{replyAs}
+use Rattle.transact.specs.Inner.DoneReplies.{doneReply}
+use Rattle.transact.specs.Inner.Served.{servedBuffer}
 use Rattle.transact.proofs.Serving.{number-7, Kept, kept-refused, kept-taken}
 
 module _ (M : Model) (s : List ℕ) (stamp k : ℕ) (holds : Holds formatOne s) where

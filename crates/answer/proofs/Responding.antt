@@ -22,18 +22,18 @@ use Rattle.rules.proofs.Tables.{table-by}
 use Rattle.table.specs.declared.image.Found.the-variants.{Image, Nothing}
 use Rattle.table.specs.Headers.{headerAt}
 use Rattle.table.specs.Images.{formatOne}
-use Rattle.table.specs.Parse.{parse, tableAt, imageFound}
+use Rattle.table.specs.Parse.{parse, tableAt, imageFound, BeginsWithImage}
 use Rattle.table.proofs.Images.{parse-reads}
-use Rattle.edit.specs.Edited.{Holds, edited}
+use Rattle.edit.specs.Inner.Holding.{Holds}
+use Rattle.edit.specs.Edited.{edited}
 use Rattle.edit.proofs.EditedBuffers.{edited-same, edited-as}
-use Rattle.message.specs.Messages.{messageAt}
-use Rattle.message.specs.Read.{lawful, messageTo}
-use Rattle.seek.specs.Lent.{limited, Lawful}
-use Rattle.seek.proofs.HeldRows.{lawful-holds, lawful-regular}
+use Rattle.message.specs.Messages.{messageAt, keepingRules, messageTo}
+use Rattle.seek.specs.Inner.Limits.{limited}
+use Rattle.seek.proofs.HeldRows.{image-holds, image-regular}
 use Rattle.transact.specs.declared.reply.Reply.{Reply}
 use Rattle.transact.specs.Replies.{replyAs, replyBytes}
-use Rattle.transact.specs.Served.{servedNumber, served}
-use Rattle.answer.specs.Heard.{answerTo, answerReply, answerBuffer, heard, heardReply, heardBuffer}
+use Rattle.transact.specs.Inner.Served.{servedNumber, served}
+use Rattle.answer.specs.Inner.BoxAnswers.{answerTo, answerReply, answerBuffer, heard, heardReply, heardBuffer}
 use Rattle.answer.specs.Calls.{callNumber, callTable, callReply, changeBy}
 use Rattle.answer.proofs.AnswerCall.{numberFor, call-number, to-refusal}
 use Rattle.answer.proofs.AnswerWays.{own-rule, served-other, AnswerWay.small, way-exactly}
@@ -45,24 +45,24 @@ found-nothing none e = refl
 found-nothing (some T) e = let z : _≡_ {A = ℕ} 0 1 = cc in absurd (omega arith)
 
 module _ (M : Model) (s : List ℕ) (l : ℕ) (found : Image l ≡ imageFound formatOne (parse formatOne M s)) where
-  pub found-lawful : Lawful M s
-  found-lawful = go (parse formatOne M s) refl found
+  pub found-begins : BeginsWithImage M s
+  found-begins = go (parse formatOne M s) refl found
     where
       go : (o : Option Table) → parse formatOne M s ≡ o → Image l ≡ imageFound formatOne o → parse formatOne M s ≡ some (tableAt formatOne s)
       go none e f = let z : _≡_ {A = ℕ} 0 1 = cc in absurd (omega arith)
       go (some T) e f = e ∙ ap some (sym (parse-reads formatOne M s T e .0))
 
-pub widened : (limit : ℕ) (s : List ℕ) → limit ≤ 512 → Lawful (limited limit) s → Lawful valley s
+pub widened : (limit : ℕ) (s : List ℕ) → limit ≤ 512 → BeginsWithImage (limited limit) s → BeginsWithImage valley s
 unfolding parse both
-widened limit s kind lawful =
-    let (regular, few) = lawful-regular (limited limit) s lawful in
+widened limit s kind keepingRules =
+    let (regular, few) = image-regular (limited limit) s keepingRules in
     let b : tableByRule valley (tableAt formatOne s) ≡ true = table-by valley regular (omega arith) in
-    rw (b, lawful-holds (limited limit) s lawful)
+    rw (b, image-holds (limited limit) s keepingRules)
 
 -- a group has boxes
-pub some-boxes : (M : Model) (s : List ℕ) → Lawful M s → 0 < headerAt s .n
+pub some-boxes : (M : Model) (s : List ℕ) → BeginsWithImage M s → 0 < headerAt s .n
 unfolding tableAt
-some-boxes M s lawful = group-bounds (headerAt s .n) (lawful-regular M s lawful .0 .group) .0
+some-boxes M s keepingRules = group-bounds (headerAt s .n) (image-regular M s keepingRules .0 .group) .0
 
 -- no message: 3, and nothing is changed
 pub none-answered : (M : Model) (s : List ℕ) → Holds formatOne s → (replyAs (refusal 3) ≡ answerReply M none s) × (s ≡ answerBuffer M none s)
@@ -71,14 +71,14 @@ none-answered M s holds = (refl, sym (edited-same formatOne (λ T. T) s holds re
 
 -- ---- what was heard is what was read of the message
 
-module _ (M : Model) (s message : List ℕ) (asked : Option Message) (lawful : Lawful M s) (told : asked ≡ messageTo formatOne M (headerAt s .n) message) where
+module _ (M : Model) (s message : List ℕ) (asked : Option Message) (keepingRules : BeginsWithImage M s) (told : asked ≡ messageTo formatOne M (headerAt s .n) message) where
   same-heard : answerTo M asked (tableAt formatOne s) ≡ heard M message (tableAt formatOne s)
   unfolding tableAt
   same-heard = ap (λ o. answerTo M o (tableAt formatOne s)) told
 
   pub heard-so : (answerReply M asked s ≡ heardReply M message (parse formatOne M s)) × (answerBuffer M asked s ≡ heardBuffer M message s (parse formatOne M s))
   heard-so =
-      rw lawful (
+      rw keepingRules (
         ap (λ (a : Answer). replyAs (a .reply)) same-heard,
         edited-as formatOne (λ U. answerTo M asked U .table) (λ U. heard M message U .table) s (ap (λ (a : Answer). a .table) same-heard),
       )
@@ -110,13 +110,13 @@ module _ (M : Model) (table message reply : List ℕ) where
       read-off : tableAt formatOne table ≡ T
       read-off = parse-reads formatOne M table T parses .0
 
-      lawful-here : Lawful M table
-      lawful-here = parses ∙ ap some (sym read-off)
+      begins-here : BeginsWithImage M table
+      begins-here = parses ∙ ap some (sym read-off)
 
       -- the buffer stays where the table does
       stays : (a : Answer) → heard M message T ≡ a → a .table ≡ T → heardBuffer M message table (some T) ≡ table
       stays a e same =
-          edited-same formatOne (λ U. heard M message U .table) table (lawful-holds M table lawful-here)
+          edited-same formatOne (λ U. heard M message U .table) table (image-holds M table begins-here)
           (ap (λ U. heard M message U .table) read-off ∙ ap (λ (a : Answer). a .table) e ∙ same ∙ sym read-off)
 
       refuses : (k : ℕ) → eqb k 0 ≡ false → eqb k 1 ≡ false → callNumber M table message reply ≡ k → heard M message T ≡ refused k T → Left (heardReply M message (some T)) (heardBuffer M message table (some T))

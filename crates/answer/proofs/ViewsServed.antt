@@ -12,8 +12,9 @@ use Rattle.rules.specs.Answers.{refusal, replyFrom, stateByte, replyStamp, repl
 use Rattle.table.specs.Headers.{headerAt}
 use Rattle.table.specs.Images.{formatOne}
 use Rattle.table.specs.Parse.{tableAt}
-use Rattle.edit.specs.Changes.{taking}
-use Rattle.edit.specs.Edited.{Holds, edited}
+use Rattle.edit.specs.Inner.Changes.{taking}
+use Rattle.edit.specs.Inner.Holding.{Holds}
+use Rattle.edit.specs.Edited.{edited}
 use Rattle.transact.specs.Replies.{replyAs}
 use Rattle.transact.proofs.Serving.{number-5, number-6, Kept, kept-refused, kept-taken}
 

@@ -1,2 +1,2 @@
-pub mod Heard
 pub mod Calls
+pub mod Inner

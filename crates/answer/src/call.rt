@@ -12,8 +12,8 @@ ghost use lib.ListN.{length};
 ghost use Rattle.rules.specs.Tables.{valley};
 ghost use Rattle.table.specs.Images.{formatOne};
 ghost use Rattle.table.specs.Parse.{parse};
-ghost use Rattle.seek.specs.Lent.{limited};
-ghost use Rattle.answer.specs.Heard.{heardReply, heardBuffer};
+ghost use Rattle.seek.specs.Inner.Limits.{limited};
+ghost use Rattle.answer.specs.Inner.BoxAnswers.{heardReply, heardBuffer};
 ghost use Rattle.answer.specs.Calls.{callNumber, callTable, callReply};
 
 // The reply to any bytes of a message, by the table of at most `limit` rows that a buffer begins with, or by none.

@@ -4,12 +4,12 @@ use transact::reply::Reply;
 ghost use mathlib.Core.Path.{_≡_};
 ghost use Rattle.rules.specs.Tables.{valley};
 ghost use Rattle.rules.specs.Messages.{Message.readRegister};
-ghost use Rattle.seek.specs.Lent.{Lawful};
-ghost use Rattle.transact.specs.Served.{servedReply};
+ghost use Rattle.table.specs.Parse.{BeginsWithImage};
+ghost use Rattle.transact.specs.Inner.Served.{servedReply};
 
 // The greatest done-commit write of a register at or below a stamp. The table is only looked at.
 pub fn read_register(table: &[u8], stamp: u64, register: u8) -> Reply
-    requires { ⌜ Lawful valley (now table) ⌝ }
+    requires { ⌜ BeginsWithImage valley (now table) ⌝ }
     ensures { λ r. ⌜ r ≡ servedReply valley (readRegister stamp register) (now (table .entry)) ⌝ }
 {
     let h = header::read(table);

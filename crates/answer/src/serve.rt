@@ -11,13 +11,15 @@ ghost use lib.ListN.{length};
 ghost use Rattle.rules.specs.Tables.{valley};
 ghost use Rattle.table.specs.Headers.{headerAt};
 ghost use Rattle.table.specs.Images.{formatOne};
-ghost use Rattle.message.specs.Read.{meant, messageTo, Coded};
-ghost use Rattle.seek.specs.Lent.{limited, Lawful};
-ghost use Rattle.answer.specs.Heard.{answerReply, answerBuffer};
+ghost use Rattle.message.specs.Inner.MeantMessages.{meant, Coded};
+ghost use Rattle.message.specs.Messages.{messageTo};
+ghost use Rattle.seek.specs.Inner.Limits.{limited};
+ghost use Rattle.table.specs.Parse.{BeginsWithImage};
+ghost use Rattle.answer.specs.Inner.BoxAnswers.{answerReply, answerBuffer};
 
 // The answer to one of the seven messages, or to none.
 pub fn serve(table: &mut [u8], message: &[u8], asked: Message, limit: u16) -> Reply
-    requires { ⌜ Lawful valley (now table) × (limit ≤ 512) × (24 + 96 * limit ≤ length (now table)) ⌝ }
+    requires { ⌜ BeginsWithImage valley (now table) × (limit ≤ 512) × (24 + 96 * limit ≤ length (now table)) ⌝ }
     requires { ⌜ (meant formatOne (now message) asked ≡ messageTo formatOne (limited limit) (headerAt (now table) .n) (now message)) × Coded asked ⌝ }
     ensures { λ r. ⌜ r ≡ answerReply (limited limit) (meant formatOne (now (message .entry)) asked) (now (table .entry)) ⌝ }
     ensures { λ _. ⌜ now (table .exit) ≡ answerBuffer (limited limit) (meant formatOne (now (message .entry)) asked) (now (table .entry)) ⌝ }

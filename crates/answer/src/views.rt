@@ -8,13 +8,12 @@ ghost use Rattle.rules.specs.Messages.{Message.changeView, Message.startView};
 ghost use lib.ListN.{length};
 ghost use Rattle.table.specs.Headers.{headerAt};
 ghost use Rattle.table.specs.Images.{formatOne};
-ghost use Rattle.table.specs.Parse.{tableAt};
-ghost use Rattle.seek.specs.Lent.{Lawful};
-ghost use Rattle.transact.specs.Served.{servedReply, servedBuffer};
+ghost use Rattle.table.specs.Parse.{tableAt, BeginsWithImage};
+ghost use Rattle.transact.specs.Inner.Served.{servedReply, servedBuffer};
 
 // Message 5: a view above the promised one is promised.
 pub fn change_view(table: &mut [u8], view: u32) -> Reply
-    requires { ⌜ Lawful valley (now table) ⌝ }
+    requires { ⌜ BeginsWithImage valley (now table) ⌝ }
     ensures { λ r. ⌜ r ≡ servedReply valley (changeView view) (now (table .entry)) ⌝ }
     ensures { λ _. ⌜ now (table .exit) ≡ servedBuffer valley (changeView view) (now (table .entry)) ⌝ }
 {
@@ -36,7 +35,7 @@ pub fn change_view(table: &mut [u8], view: u32) -> Reply
 
 // Message 6: the image is taken whole, if its view is neither below the promised one nor at or below the box's.
 pub fn start_view(table: &mut [u8], image: &[u8], view: u32) -> Reply
-    requires { ⌜ Lawful valley (now table) × Lawful valley (now image) × (headerAt (now image) .view ≡ view) × (headerAt (now image) .length ≤ length (now table)) ⌝ }
+    requires { ⌜ BeginsWithImage valley (now table) × BeginsWithImage valley (now image) × (headerAt (now image) .view ≡ view) × (headerAt (now image) .length ≤ length (now table)) ⌝ }
     ensures { λ r. ⌜ r ≡ servedReply valley (startView view (tableAt formatOne (now (image .entry)))) (now (table .entry)) ⌝ }
     ensures { λ _. ⌜ now (table .exit) ≡ servedBuffer valley (startView view (tableAt formatOne (now (image .entry)))) (now (table .entry)) ⌝ }
 {

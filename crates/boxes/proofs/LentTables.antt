@@ -20,7 +20,7 @@ use Rattle.table.specs.Fresh.{freshBuffer}
 use Rattle.table.proofs.FreshCall.{small-or-bad, fresh-past}
 use Rattle.answer.specs.Calls.{callNumber, callTable, callReply}
 use Rattle.answer.proofs.Responding.{left-small}
-use Rattle.boxes.specs.Lent.{bufferOf, withBuffer, startNumber, freshFirst, startTables}
+use Rattle.boxes.specs.Inner.OneBuffer.{bufferOf, withBuffer, startNumber, freshFirst, startTables}
 
 -- ---- places
 

@@ -23,11 +23,12 @@ use Rattle.table.specs.Images.{formatOne, imageLength, image}
 use Rattle.table.specs.Parse.{parse, imageFound}
 use Rattle.table.proofs.Images.{Sound, length-image, parse-begins, parsed}
 use Rattle.table.proofs.Found.{found-table}
-use Rattle.run.specs.Runs.{laidOut, before, images, orNone, oneOrMore, runTables}
-use Rattle.run.proofs.RunTurns.{images-none}
+use Rattle.image_run.specs.Inner.WholeRuns.{laidOut}
+use Rattle.image_run.specs.Runs.{before, images, orNone, oneOrMore, runTables}
+use Rattle.image_run.proofs.RunTurns.{images-none}
 use Rattle.merge.specs.Calls as merge
 use Rattle.merge.proofs.MergeCall.{merge-number, merge-refused}
-use Rattle.boxes.specs.Lent.{bufferOf, joined, tablesNamed, runNamed, noRunRoom, mergeBoxesNumber, mergeBoxesOutput, mergeBoxesRun}
+use Rattle.boxes.specs.Inner.OneBuffer.{bufferOf, joined, tablesNamed, runNamed, noRunRoom, mergeBoxesNumber, mergeBoxesOutput, mergeBoxesRun}
 use Rattle.boxes.proofs.LentTables.{ends-before}
 
 module _ (M : Model) (tables boxes : List ℕ) (i : ℕ) where

@@ -1,1 +1,1 @@
-pub mod Lent
+pub mod Inner

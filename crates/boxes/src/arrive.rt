@@ -4,7 +4,7 @@ use table::model;
 ghost use mathlib.Core.Path.{_≡_};
 ghost use Rattle.rules.specs.Tables.{valley};
 ghost use Rattle.answer.specs.Calls.{callNumber, callTable, callReply};
-ghost use Rattle.boxes.specs.Lent.{bufferOf, withBuffer};
+ghost use Rattle.boxes.specs.Inner.OneBuffer.{bufferOf, withBuffer};
 
 // The box answers it by its own table buffer, with the number and the reply of the answer call; 1 if the lent buffer has no whole table buffer for the box. That of no other box is lent to the call.
 pub fn arrive(tables: &mut [u8], boxnumber: u8, message: &[u8], reply: &mut [u8]) -> u8

@@ -3,7 +3,7 @@ use table::model;
 ghost use mathlib.Core.Path.{_≡_};
 ghost use Prim.Native.Nat.{_*_, min};
 ghost use Rattle.rules.specs.Tables.{valley};
-ghost use Rattle.boxes.specs.Lent.{bufferOf};
+ghost use Rattle.boxes.specs.Inner.OneBuffer.{bufferOf};
 
 // The first byte of a box's table buffer: each of them has the least length that a valley box's may have.
 pub fn place(boxnumber: u8) -> usize

@@ -7,7 +7,7 @@ ghost use mathlib.Core.Path.{_≡_};
 ghost use Prim.Native.Nat.{_*_, _≤_};
 ghost use lib.ListN.{length};
 ghost use Rattle.rules.specs.Tables.{valley};
-ghost use Rattle.boxes.specs.Lent.{startNumber, startTables, freshFirst};
+ghost use Rattle.boxes.specs.Inner.OneBuffer.{startNumber, startTables, freshFirst};
 
 // Box after box, where there is room for all. What number each call ends with need not be looked at: their group and their buffers are good.
 fn fresh_boxes(tables: &mut [u8], n: u8)

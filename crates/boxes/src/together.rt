@@ -12,7 +12,7 @@ ghost use lib.ListN.{length};
 ghost use Rattle.wire.specs.Parts.{replaced};
 ghost use Rattle.rules.specs.Tests.{isSome};
 ghost use Rattle.rules.specs.Tables.{valley};
-ghost use Rattle.boxes.specs.Lent.{tablesNamed, runNamed, mergeBoxesNumber, mergeBoxesRun, mergeBoxesOutput};
+ghost use Rattle.boxes.specs.Inner.OneBuffer.{tablesNamed, runNamed, mergeBoxesNumber, mergeBoxesRun, mergeBoxesOutput};
 
 // Whether each box that is named has a table: its buffer begins with an image.
 fn all_whole(tables: &[u8], boxes: &[u8]) -> bool

@@ -11,17 +11,18 @@ use borrow.Author.Tests.{lt-ltb, le-ltb}
 use Rattle.rules.specs.Tests.{both, either, any}
 use Rattle.rules.specs.Stamps.{Access, Body}
 use Rattle.rules.specs.Messages.{Found, nothingFound, writeOf}
-use Rattle.rules.specs.Check.{overwrites, clash}
+use Rattle.rules.specs.Check.{overwrites}
+use Rattle.rules.specs.Inner.Clashes.{clash}
 use Rattle.rules.proofs.Logic.{cases, both-false, either-none, eqb-sym}
 use Rattle.rules.proofs.Lists.{none-any}
 use Rattle.rules.proofs.Check.{overwrites-below}
 use Rattle.rows.specs.declared.row.RowFields.{RowFields}
 use Rattle.rows.specs.Read.{accessesAt, bodyAt, rowOf}
-use Rattle.rows.specs.Rows.{BodyInside, bodyPart}
+use Rattle.rows.specs.Inner.Rows.{BodyInside, bodyPart}
 use Rattle.rows.proofs.Turns.{body-of-part}
 use Rattle.checks.specs.declared.accesses.Write.{Write}
 use Rattle.checks.specs.declared.accesses.Write.the-variants.{Value, Missing}
-use Rattle.checks.specs.Sought.{writeTo}
+use Rattle.checks.specs.Inner.RegisterWrites.{writeTo}
 
 -- ---- searching
 

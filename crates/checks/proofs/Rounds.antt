@@ -9,14 +9,15 @@ use borrow.Author.Tests.{lt-ltb, le-ltb, eqb-true, lt-leb}
 use Rattle.rules.specs.Tests.{both, either, any, kept, those, greatest}
 use Rattle.rules.specs.Stamps.{Body}
 use Rattle.rules.specs.Tables.{Row, outcomeCode}
-use Rattle.rules.specs.Check.{committed, prepared, overwrites, ruleA, ruleB, ruleC, retryStamp, check, clash, accepted}
+use Rattle.rules.specs.Check.{committed, prepared, overwrites, ruleA, ruleB, ruleC, retryStamp, check}
+use Rattle.rules.specs.Inner.Clashes.{clash, accepted}
 use Rattle.rules.specs.Messages.{found, later, nothingFound, writeOf}
 use Rattle.rules.proofs.Logic.{impossible, both-false}
 use Rattle.rules.proofs.Check.{overwrites-below, retry-fires}
 use Rattle.rows.specs.declared.row.RowFields.{RowFields}
 use Rattle.rows.specs.Read.{rowOf}
 use Rattle.checks.specs.declared.pass.Seen.{Seen}
-use Rattle.checks.specs.Passed.{seenOf, withClash, rowClashes, seenWith, answerOf, foundIn}
+use Rattle.checks.specs.Inner.Passed.{seenOf, withClash, rowClashes, seenWith, answerOf, foundIn}
 use Rattle.checks.proofs.StateBytes.{committed-byte}
 
 -- ---- the check

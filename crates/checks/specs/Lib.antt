@@ -1,3 +1,1 @@
-pub mod Sought
-pub mod Given
-pub mod Passed
+pub mod Inner

@@ -3,7 +3,7 @@ ghost use mathlib.Core.Path.{_≡_};
 ghost use Prim.Native.Nat.{_+_, _*_, _≤_};
 ghost use lib.ListN.{length};
 ghost use Rattle.rows.specs.Read.{accessesAt};
-ghost use Rattle.checks.specs.Sought.{writeTo};
+ghost use Rattle.checks.specs.Inner.RegisterWrites.{writeTo};
 
 // What a search for a register among writes gives: the value, or that none is there.
 pub enum Write {

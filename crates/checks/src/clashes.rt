@@ -4,7 +4,8 @@ use crate::accesses::Write;
 ghost use mathlib.Core.Path.{_≡_};
 ghost use Prim.Native.Nat.{_+_, _*_, _≤_, _<_};
 ghost use lib.ListN.{length};
-ghost use Rattle.rules.specs.Check.{overwrites, clash};
+ghost use Rattle.rules.specs.Check.{overwrites};
+ghost use Rattle.rules.specs.Inner.Clashes.{clash};
 ghost use Rattle.rows.specs.Read.{accessesAt, bodyAt};
 
 // Whether one of the reads of a body is of a version below `w` and of a register that a transaction at `w` writes; the reader's stamp `s` is above.

@@ -6,9 +6,9 @@ use rows::row::RowFields;
 ghost use mathlib.Core.Path.{_≡_};
 ghost use Rattle.rules.specs.Messages.{found, later, writeOf};
 ghost use Rattle.rows.specs.Read.{rowOf, rowsAt};
-ghost use Rattle.rows.specs.Rows.{BodyInside, RowsInside};
-ghost use Rattle.checks.specs.Given.{foundAs};
-ghost use Rattle.checks.specs.Passed.{asFound, foundIn};
+ghost use Rattle.rows.specs.Inner.Rows.{BodyInside, RowsInside};
+ghost use Rattle.checks.specs.Inner.Given.{foundAs};
+ghost use Rattle.checks.specs.Inner.Passed.{asFound, foundIn};
 
 // A version and its value; both 0 if none was found.
 pub struct Found {

@@ -8,9 +8,9 @@ ghost use lib.Dec.{eqb};
 ghost use lib.ListN.{length};
 ghost use Rattle.rules.specs.Check.{check};
 ghost use Rattle.rows.specs.Read.{rowOf, rowsAt, bodyAt};
-ghost use Rattle.rows.specs.Rows.{BodyInside, RowsInside};
-ghost use Rattle.checks.specs.Given.{checkedAs};
-ghost use Rattle.checks.specs.Passed.{acceptedBytes, withClash, rowClashes, seenWith, answerOf};
+ghost use Rattle.rows.specs.Inner.Rows.{BodyInside, RowsInside};
+ghost use Rattle.checks.specs.Inner.Given.{checkedAs};
+ghost use Rattle.checks.specs.Inner.Passed.{acceptedBytes, withClash, rowClashes, seenWith, answerOf};
 
 // The check's result as a row has it: its code and its retry stamp.
 pub struct Checked {

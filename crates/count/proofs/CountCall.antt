@@ -15,7 +15,8 @@ use Rattle.rules.specs.Stamps.{isStamp}
 use Rattle.rules.specs.Tables.{Result, Result.OK, Result.ABORT, Result.ABSTAIN, Result.RETRY, resultCode, resultRetry, sameResult, resultByRule}
 use Rattle.rules.specs.Numbers.{Number.badMessage, Number.contradiction, number, first, applies}
 use Rattle.rules.specs.Count as rules
-use Rattle.rules.specs.Count.{Heard, badReplies, agreeing, isFast, unequalFinalHeard, fastBesideFinal, countCircumstances, countNumber, Counted.fast, Counted.slow, Counted.wait, Counted.refused, fastOf, finalHeard, greatestRetry, slowResult, slowOr, fastOr, decided, counted, countedNumber}
+use Rattle.rules.specs.Count.{Heard, badReplies, agreeing, isFast, unequalFinalHeard, fastBesideFinal, countCircumstances, countNumber, Counted.fast, Counted.slow, Counted.wait, Counted.refused, fastOf, finalHeard, greatestRetry, slowResult, slowOr, fastOr, decided, counted}
+use Rattle.rules.specs.Inner.CountAnswers.{countedNumber}
 use Rattle.rules.proofs.Logic.{cases}
 use Rattle.rules.proofs.Lists.{_∈_, greatest-is}
 use Rattle.rules.proofs.Groups.{fast-quorum}
@@ -26,10 +27,12 @@ use Rattle.rules.proofs.Orders as orders
 use Rattle.message.proofs.Forms.{result-read}
 use Rattle.replies.specs.declared.held.Reply.{Reply}
 use Rattle.count.specs.declared.answer.Counted.{Counted}
-use Rattle.replies.specs.Heard.{resultRead, heard, allHeard}
-use Rattle.count.specs.Calls.{countOf, replyOf, allBytes, countBytes}
-use Rattle.count.specs.Answers.{answerAs, meant}
-use Rattle.count.proofs.HeardBytes.{Lawful, ResultsByRule, count-of-records, count-of-bytes}
+use Rattle.replies.specs.PlainReplies.{resultRead, heard, allHeard}
+use Rattle.count.specs.Calls.{countOf, countBytes}
+use Rattle.count.specs.Inner.RecordBytes.{replyOf, allBytes}
+use Rattle.count.specs.Answers.{answerAs}
+use Rattle.count.specs.Inner.MeantAnswers.{meant}
+use Rattle.count.proofs.HeardBytes.{EachFits, ResultsByRule, count-of-records, count-of-bytes}
 use Rattle.count.proofs.Decisions.{by-rule, chosen-by-rule, results-good, any-retried}
 use Rattle.count.proofs.CountWays.{Lent, Lent.records, Lent.laid, Whole, lentReplies, lentHeard, countLent, BadLent, GoodLent, good-none, bad-or-good, good-lent, whole-lent}
 
@@ -190,7 +193,7 @@ count-any-lent n lent other w v p = whole-lent n lent w ∙ count-any-order n p 
 says : (n : ℕ) (lent : Lent) {c : rules.Counted} → countLent n lent ≡ c → {a : Counted} → a ≡ answerAs (countLent n lent) → (a ≡ answerAs c) × (meant a ≡ c)
 says n lent k e = (e ∙ ap answerAs k, ap meant e ∙ answer-meant n lent ∙ k)
 
-pub counted-heard : (n : ℕ) (hs : List Heard) → Lawful hs → {a : Counted} → a ≡ answerAs (countBytes n (allBytes hs)) → (a ≡ answerAs (counted n hs)) × (meant a ≡ counted n hs)
+pub counted-heard : (n : ℕ) (hs : List Heard) → EachFits hs → {a : Counted} → a ≡ answerAs (countBytes n (allBytes hs)) → (a ≡ answerAs (counted n hs)) × (meant a ≡ counted n hs)
 counted-heard n hs k = says n (laid (allBytes hs)) (count-of-bytes n hs k)
 
 pub counted-records : (n : ℕ) (hs : List Heard) → ResultsByRule hs → {a : Counted} → a ≡ answerAs (countOf n (map replyOf hs)) → (a ≡ answerAs (counted n hs)) × (meant a ≡ counted n hs)

@@ -13,11 +13,11 @@ use Rattle.rules.specs.Numbers.{Number.badMessage, Number.contradiction, number
 use Rattle.rules.specs.Count.{badReplies, countCircumstances, countNumber, decided, counted, Counted.refused}
 use Rattle.rules.proofs.Logic.{cases}
 use Rattle.replies.specs.declared.held.Reply.{Reply}
-use Rattle.replies.specs.Heard.{resultRead, allHeard}
-use Rattle.count.specs.Answers.{contradicting}
+use Rattle.replies.specs.PlainReplies.{resultRead, allHeard}
+use Rattle.count.specs.Inner.MeantAnswers.{contradicting}
 use Rattle.count.specs.Calls.{countOf}
-use Rattle.replies.specs.Held.{repliesIn, noneHeld, withReplies}
-use Rattle.replies.specs.Bad.{areBad}
+use Rattle.replies.specs.Inner.HeldReplies.{repliesIn, noneHeld, withReplies}
+use Rattle.replies.specs.Inner.Bad.{areBad}
 use Rattle.replies.proofs.BadReplies.{good-facts, too-many}
 use Rattle.replies.proofs.HeldAll.{length-replies, held-few, held-many}
 
@@ -39,11 +39,11 @@ good-counted n rs h = rw (good-facts n rs h .read) refl
 
 pub contradicted : (n : ℕ) (rs : List Reply) → areBad n rs ≡ false → contradicting n (allHeard rs) ≡ true → countOf n rs ≡ refused (numberCode contradiction)
 unfolding counted countNumber countCircumstances number first applies either both
-contradicted n rs h c = good-counted n rs h ∙ rw (good-facts n rs h .lawful, c) refl
+contradicted n rs h c = good-counted n rs h ∙ rw (good-facts n rs h .not-bad, c) refl
 
 pub clear : (n : ℕ) (rs : List Reply) → areBad n rs ≡ false → contradicting n (allHeard rs) ≡ false → countOf n rs ≡ decided n (allHeard rs)
 unfolding counted countNumber countCircumstances number first applies either both
-clear n rs h c = good-counted n rs h ∙ rw (good-facts n rs h .lawful, c) refl
+clear n rs h c = good-counted n rs h ∙ rw (good-facts n rs h .not-bad, c) refl
 
 pub many-bad : (n : ℕ) (rs : List Reply) → 7 < length rs → countOf n rs ≡ refused (numberCode badMessage)
 many-bad n rs l = bad-refused n rs (sym (too-many n rs l))

@@ -24,8 +24,9 @@ use Rattle.message.specs.Messages.{resultByCode}
 use Rattle.message.proofs.Forms.{result-read}
 use Rattle.replies.specs.declared.said.Said.{Said}
 use Rattle.count.specs.declared.answer.Counted.the-variants.{Fast, Slow, Wait}
-use Rattle.replies.specs.Results.{saidAs, resultOf}
-use Rattle.count.specs.Answers.{contradicting, answerAs}
+use Rattle.replies.specs.Inner.Results.{saidAs, resultOf}
+use Rattle.count.specs.Inner.MeantAnswers.{contradicting}
+use Rattle.count.specs.Answers.{answerAs}
 
 not-first : {a : Bool} (b : Bool) → a ≡ false → both a b ≡ false
 unfolding both

@@ -22,8 +22,9 @@ use Rattle.rules.proofs.Logic.{same?, both-true}
 use Rattle.rules.proofs.Lists.{_∈_}
 use Rattle.message.proofs.Forms.{result-small, result-read}
 use Rattle.replies.specs.declared.held.Reply.{Reply}
-use Rattle.replies.specs.Heard.{resultRead, heard, allHeard}
-use Rattle.count.specs.Calls.{countOf, replyOf, recordBytes, recordsBytes, allBytes, replyAt, repliesOf, countBytes}
+use Rattle.replies.specs.PlainReplies.{resultRead, heard, allHeard}
+use Rattle.count.specs.Calls.{countOf, replyAt, repliesOf, countBytes}
+use Rattle.count.specs.Inner.RecordBytes.{replyOf, recordBytes, recordsBytes, allBytes}
 use Rattle.count.proofs.Counts.{many-bad}
 
 -- ---- a walk over the bytes
@@ -138,8 +139,8 @@ pub record Fits (h : rules.Heard) : Type 0 where
   pub result : resultByRule (h .result) ≡ true
 
 -- so does all of a list
-abbrev pub Lawful : List rules.Heard → Type 0
-Lawful hs = (h : rules.Heard) → h ∈ hs → Fits h
+abbrev pub EachFits : List rules.Heard → Type 0
+EachFits hs = (h : rules.Heard) → h ∈ hs → Fits h
 
 -- "final or not" is 1 or 0
 final-read : (b : Bool) → (eqb (bit b) 1 ≡ b) × (leb (bit b) 1 ≡ true)
@@ -156,7 +157,7 @@ heard-fits h k =
     bit-small true = omega arith
     bit-small false = omega arith
 
-all-fit : (hs : List rules.Heard) → Lawful hs → AllFit (map replyOf hs)
+all-fit : (hs : List rules.Heard) → EachFits hs → AllFit (map replyOf hs)
 all-fit [] k r m = absurd (List·Memᴰ·not-nil m)
 all-fit (h ∷ hs) k r m = go (List·Memᴰ·cases-cons m) (all-fit hs (λ g j. k g (List·Memᴰ·tail j)) r)
   where
@@ -193,9 +194,9 @@ unfolding countOf
 count-of-records n hs k = rw (none-bad hs k, all-said hs k)
 
 -- replies that were written as bytes are read back
-pub bytes-read : (hs : List rules.Heard) → Lawful hs → allHeard (repliesOf (length hs) (allBytes hs)) ≡ hs
+pub bytes-read : (hs : List rules.Heard) → EachFits hs → allHeard (repliesOf (length hs) (allBytes hs)) ≡ hs
 bytes-read hs k = rw (← length-map hs replyOf, replies-read (map replyOf hs) (all-fit hs k)) (all-said hs (λ h m. k h m .result))
 
 -- and counted as `rules` counts the list
-pub count-of-bytes : (n : ℕ) (hs : List rules.Heard) → Lawful hs → countBytes n (allBytes hs) ≡ rules.counted n hs
+pub count-of-bytes : (n : ℕ) (hs : List rules.Heard) → EachFits hs → countBytes n (allBytes hs) ≡ rules.counted n hs
 count-of-bytes n hs k = same-count n (map replyOf hs) (all-fit hs k) ∙ count-of-records n hs (λ h m. k h m .result)

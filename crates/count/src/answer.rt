@@ -8,10 +8,11 @@ ghost use mathlib.Core.Bool.{false};
 ghost use mathlib.Core.Option.{some};
 ghost use Rattle.rules.specs.Count as rules;
 ghost use Rattle.count.specs.Calls.{countOf};
-ghost use Rattle.replies.specs.Held.{repliesIn, heardIn};
-ghost use Rattle.replies.specs.Bad.{areBad};
-ghost use Rattle.replies.specs.Results.{saidAs};
-ghost use Rattle.count.specs.Answers.{contradicting, answerAs};
+ghost use Rattle.replies.specs.Inner.HeldReplies.{repliesIn, heardIn};
+ghost use Rattle.replies.specs.Inner.Bad.{areBad};
+ghost use Rattle.replies.specs.Inner.Results.{saidAs};
+ghost use Rattle.count.specs.Inner.MeantAnswers.{contradicting};
+ghost use Rattle.count.specs.Answers.{answerAs};
 
 // What a count answers: a result with its retry stamp, to wait for more, or a refusal.
 pub enum Counted {

@@ -6,7 +6,7 @@ use replies::held::Reply;
 ghost use mathlib.Core.Path.{_≡_};
 ghost use Prim.Native.Nat.{_≤_, _+_, _*_, _/_};
 ghost use lib.ListN.{length};
-ghost use Rattle.replies.specs.Held.{noneHeld, withReplies};
+ghost use Rattle.replies.specs.Inner.HeldReplies.{noneHeld, withReplies};
 ghost use Rattle.count.specs.Answers.{answerAs};
 ghost use Rattle.count.specs.Calls.{replyAt, repliesOf, countBytes};
 

@@ -4,7 +4,7 @@ use crate::answer::Counted;
 use replies::held::Replies;
 use replies::held::Reply;
 ghost use mathlib.Core.Path.{_≡_};
-ghost use Rattle.replies.specs.Held.{noneHeld, withReplies};
+ghost use Rattle.replies.specs.Inner.HeldReplies.{noneHeld, withReplies};
 ghost use Rattle.count.specs.Answers.{answerAs};
 ghost use Rattle.count.specs.Calls.{countOf};
 

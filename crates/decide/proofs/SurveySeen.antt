@@ -15,10 +15,10 @@ use Rattle.rules.proofs.Logic.{cases, either-none}
 use Rattle.rules.proofs.Lists.{_∈_, any-append}
 use Rattle.rules.proofs.Stamps.{RisingFrom}
 use Rattle.rules.proofs.Merge.{some-row}
-use Rattle.gather.specs.Stamps.{nextAfter}
+use Rattle.gather.specs.Inner.Stamps.{nextAfter}
 use Rattle.gather.proofs.NextStamps.{AllRegular, stamps-stamped, stamps-from-one}
 use Rattle.decide.specs.declared.survey.Survey.{Survey}
-use Rattle.decide.specs.Surveyed.{surveyed, withStamp}
+use Rattle.decide.specs.Inner.Surveyed.{surveyed, withStamp}
 use Rattle.gather.proofs.StampsInTurn.{below, below-all, below-first, below-next, next-in}
 
 -- ---- one stamp more

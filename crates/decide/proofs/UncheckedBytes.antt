@@ -16,11 +16,11 @@ use Rattle.rules.proofs.Standings.{NoneOrDone, outcome-cases, standing-says}
 use Rattle.rows.specs.Fields.{prepareNumbered, outcomeNumbered, retryByCode}
 use Rattle.rows.proofs.Codes.{prepare-read, outcome-read, retry-of-code, prepare-code-limit, outcome-code-limit}
 use Rattle.gather.specs.declared.agreed.Agreed.{Agreed}
-use Rattle.gather.specs.State.{finalCode, stateOf, outcomeHeld}
-use Rattle.gather.specs.Agreed.{agreedAs}
+use Rattle.gather.specs.Inner.State.{finalCode, stateOf, outcomeHeld}
+use Rattle.gather.specs.Inner.Agreed.{agreedAs}
 use Rattle.gather.proofs.StateSeen.{state-outcome}
 use Rattle.decide.specs.declared.unchecked.Unchecked.{Unchecked}
-use Rattle.decide.specs.Unsettled.{agreedByte, openByte, withoutFinal, uncheckedAs}
+use Rattle.decide.specs.Inner.Unsettled.{agreedByte, openByte, withoutFinal, uncheckedAs}
 
 -- a prepare with an outcome byte
 abbrev coded : Prepare → ℕ → Unchecked

@@ -1,2 +1,1 @@
-pub mod Surveyed
-pub mod Unsettled
+pub mod Inner

@@ -7,9 +7,9 @@ ghost use Prim.Native.Nat.{_^_, _<_};
 ghost use lib.ListN.{length};
 ghost use Rattle.rules.specs.Tables.{valley};
 ghost use Rattle.rules.specs.Merge.{rowsOf, stamps};
-ghost use Rattle.run.specs.Runs.{tablesOf, Images};
-ghost use Rattle.gather.specs.Held.{usedOf};
-ghost use Rattle.decide.specs.Surveyed.{surveyed, withStamp, surveyNumber};
+ghost use Rattle.image_run.specs.Inner.WholeRuns.{tablesOf, Images};
+ghost use Rattle.gather.specs.Inner.UsedTables.{usedOf};
+ghost use Rattle.decide.specs.Inner.Surveyed.{surveyed, withStamp, surveyNumber};
 
 // Whether a stamp has two bodies, whether one is held with a contradiction, and how many stamps there are.
 pub struct Survey {

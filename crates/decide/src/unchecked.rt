@@ -7,9 +7,9 @@ ghost use mathlib.Core.Path.{_≡_};
 ghost use Prim.Native.Nat.{_≤_};
 ghost use Rattle.rules.specs.Tables.{valley};
 ghost use Rattle.rules.specs.Merge.{rowsOf};
-ghost use Rattle.run.specs.Runs.{tablesOf, Images};
-ghost use Rattle.gather.specs.Held.{usedOf};
-ghost use Rattle.decide.specs.Unsettled.{agreedByte, openByte, withoutFinal, uncheckedAs};
+ghost use Rattle.image_run.specs.Inner.WholeRuns.{tablesOf, Images};
+ghost use Rattle.gather.specs.Inner.UsedTables.{usedOf};
+ghost use Rattle.decide.specs.Inner.Unsettled.{agreedByte, openByte, withoutFinal, uncheckedAs};
 
 // A row's state: the prepare byte with its retry stamp, and the outcome byte.
 pub struct Unchecked {

@@ -17,7 +17,7 @@ use Rattle.table.specs.Headers.{headerBytes}
 use Rattle.table.specs.Images.{Form, bodiesAt, imageLength, headerOf, image}
 use Rattle.table.proofs.Headers.{length-header}
 use Rattle.table.proofs.Images.{Starts, length-image}
-use Rattle.edit.specs.Parts.{slipped, laid}
+use Rattle.edit.specs.Inner.Parts.{slipped, laid}
 use Rattle.edit.proofs.RowsJoined.{rows-joined, bodies-joined, bodies-length-joined}
 use Rattle.edit.proofs.ChangedParts.{header-over, up-to-rows}
 use Rattle.edit.proofs.Slipped.{slipped-between}

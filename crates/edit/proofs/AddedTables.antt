@@ -7,7 +7,7 @@ use native.Mathlib.Omega.{arith}
 use lib.ListN.{length, drop, length-append}
 use borrow.Author.Tests.{lt-ltb, le-ltb, leb-true}
 use Rattle.wire.specs.Parts.{replaced}
-use Rattle.wire.specs.Numbers.{AllBytes}
+use Rattle.wire.specs.Inner.ByteLists.{AllBytes}
 use Rattle.wire.proofs.Stands.{stands-left}
 use Rattle.wire.proofs.Fields.{stands-bytes}
 use Rattle.rules.specs.Stamps.{countsByRule}
@@ -20,19 +20,20 @@ use Rattle.rows.specs.declared.lookup.Place.the-variants.{Absent}
 use Rattle.rows.specs.Bytes.{lengthOf, bodiesBytes, bodiesLength, rowBytes, rowsBytes}
 use Rattle.rows.specs.Fields.{fieldsOf, fieldsBytes}
 use Rattle.rows.specs.Read.{bodyAt, rowOf}
-use Rattle.rows.specs.Rows.{sizeOf, bodyPart, BodyInside}
-use Rattle.rows.specs.Places.{placeOf}
+use Rattle.rows.specs.Inner.Rows.{sizeOf, bodyPart, BodyInside}
+use Rattle.rows.specs.Inner.Places.{placeOf}
 use Rattle.rows.proofs.Bodies.{lengthOf-bodyAt, length-accessesAt, body-part}
 use Rattle.rows.proofs.FieldsRead.{row-bytes, fields-of-row}
-use Rattle.table.specs.Headers as headers
+use Rattle.table.specs.Inner.ChangedHeaders as headers
 use Rattle.table.specs.declared.header.Header.{Header}
 use Rattle.table.specs.Headers.{headerBytes, headerAt}
 use Rattle.table.specs.Images.{Form, bodiesAt, imageLength, headerOf, image}
 use Rattle.table.specs.Parse.{tableAt}
 use Rattle.table.proofs.Images.{Starts, image-behind}
-use Rattle.edit.specs.Changes.{Storable, adding}
-use Rattle.edit.specs.Edited.{Holds, edited}
-use Rattle.edit.specs.Parts.{bodyPlace, placed}
+use Rattle.edit.specs.Inner.Changes.{Storable, adding}
+use Rattle.edit.specs.Inner.Holding.{Holds}
+use Rattle.edit.specs.Edited.{edited}
+use Rattle.edit.specs.Inner.Parts.{bodyPlace, placed}
 use Rattle.edit.proofs.Holding.{holds-is, holds-stands, holds-header, holds-rows}
 use Rattle.edit.proofs.EditedBuffers.{edited-grown}
 use Rattle.edit.proofs.RowsJoined.{bodies-length-joined}

@@ -12,11 +12,11 @@ use Rattle.rules.proofs.Answers.{changed-rule, added-rule, promising-rule, keep
 use Rattle.rules.proofs.Rows.{length-changed, length-added}
 use Rattle.rules.proofs.Tables.{Regular, table-facts, table-by}
 use Rattle.rows.specs.declared.lookup.Place.the-variants.{Held}
-use Rattle.rows.specs.Places.{placeOf}
+use Rattle.rows.specs.Inner.Places.{placeOf}
 use Rattle.table.specs.Images.{Form}
 use Rattle.table.specs.Parse.{tableAt, parse}
 use Rattle.table.proofs.Images.{Sound, parse-by-rule, parse-reads}
-use Rattle.edit.specs.Changes.{withViews, onRow, adding, taking}
+use Rattle.edit.specs.Inner.Changes.{withViews, onRow, adding, taking}
 use Rattle.edit.specs.Edited.{edited}
 use Rattle.edit.proofs.EditedBuffers.{edited-parses}
 use Rattle.edit.proofs.Indexes.{changed-at}

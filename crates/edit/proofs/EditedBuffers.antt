@@ -7,7 +7,7 @@ use Prim.Native.Nat.{ℕ, _+_, _-_, _≤_}
 use native.Mathlib.Omega.{arith}
 use lib.ListN.{length, drop, replicate, length-append, length-replicate}
 use Rattle.wire.specs.Parts.{part, replaced}
-use Rattle.wire.specs.Numbers.{AllBytes}
+use Rattle.wire.specs.Inner.ByteLists.{AllBytes}
 use Rattle.wire.proofs.Parts.{replaced-over, replaced-start, replaced-between, length-replaced, above-stays}
 use Rattle.wire.proofs.Stands.{Stands, stands-between}
 use Rattle.rules.specs.Tables.{Table, Model, tableByRule}
@@ -16,7 +16,8 @@ use Rattle.rows.proofs.Begins.{begins-with, begins-stands}
 use Rattle.table.specs.Images.{Form, imageLength, image}
 use Rattle.table.specs.Parse.{tableAt, parse}
 use Rattle.table.proofs.Images.{image-among, Starts, Sound, length-image, image-parses}
-use Rattle.edit.specs.Edited.{Holds, edited}
+use Rattle.edit.specs.Inner.Holding.{Holds}
+use Rattle.edit.specs.Edited.{edited}
 use Rattle.edit.proofs.Holding.{holds-is, holds-long}
 
 -- ---- for the proofs of the changes

@@ -6,12 +6,13 @@ use Prim.Native.Nat.{ℕ, _+_, _-_, _*_, _≤_, _<_}
 use native.Mathlib.Omega.{arith}
 use lib.ListN.{length, drop}
 use Rattle.wire.specs.Parts.{replaced}
-use Rattle.wire.specs.Numbers.{AllBytes}
+use Rattle.wire.specs.Inner.ByteLists.{AllBytes}
 use Rattle.wire.proofs.Stands.{Stands, stands-left, stands-right}
 use Rattle.rules.specs.Tables.{Prepare, Outcome, Row, Table}
 use Rattle.rules.specs.Messages.{withPrepare, withOutcome, withRows, promising}
 use Rattle.rows.specs.Bytes.{bodiesBytes, bodiesLength, rowBytes, rowsBytes}
-use Rattle.rows.specs.Fields.{fieldsAt, fieldsOf, fieldsBytes, withPrepareByte, withOutcomeByte, prepareNumbered, outcomeNumbered, retryByCode}
+use Rattle.rows.specs.Fields.{fieldsAt, fieldsOf, fieldsBytes, prepareNumbered, outcomeNumbered, retryByCode}
+use Rattle.rows.specs.Inner.ChangedFields.{withPrepareByte, withOutcomeByte}
 use Rattle.rows.proofs.Codes.{prepare-numbered, outcome-numbered}
 use Rattle.rows.proofs.FieldsRead.{row-bytes, fields-among}
 use Rattle.rows.proofs.RowsRead.{length-rows}
@@ -19,8 +20,9 @@ use Rattle.table.specs.Headers.{headerBytes, headerAt}
 use Rattle.table.specs.Images.{Form, bodiesAt, imageLength, headerOf, image}
 use Rattle.table.specs.Parse.{tableAt}
 use Rattle.table.proofs.Images.{Starts, length-image, image-behind}
-use Rattle.edit.specs.Changes.{withViews, atIndex, onRow}
-use Rattle.edit.specs.Edited.{Holds, edited}
+use Rattle.edit.specs.Inner.Changes.{withViews, atIndex, onRow}
+use Rattle.edit.specs.Inner.Holding.{Holds}
+use Rattle.edit.specs.Edited.{edited}
 use Rattle.edit.proofs.Holding.{holds-is, holds-stands, holds-rows}
 use Rattle.edit.proofs.EditedBuffers.{edited-as, edited-grown, image-over}
 use Rattle.edit.proofs.RowsJoined.{rows-joined}

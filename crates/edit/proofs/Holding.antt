@@ -4,7 +4,7 @@ use mathlib.Core.List.{List, _++_}
 use Prim.Native.Nat.{ℕ, _+_, _*_, _≤_, _<_}
 use native.Mathlib.Omega.{arith}
 use lib.ListN.{length, drop}
-use Rattle.wire.specs.Numbers.{AllBytes}
+use Rattle.wire.specs.Inner.ByteLists.{AllBytes}
 use Rattle.wire.proofs.Stands.{Stands, stands-inside, stands-left}
 use Rattle.rows.specs.Read.{rowsAt}
 use Rattle.rows.proofs.RowsRead.{length-rowsAt}
@@ -14,7 +14,7 @@ use Rattle.table.specs.Images.{Form, formatOne, imageLength, headerOf, image}
 use Rattle.table.specs.Parse.{tableAt}
 use Rattle.table.proofs.Headers.{header-among}
 use Rattle.table.proofs.Images.{Starts, length-image}
-use Rattle.edit.specs.Edited.{Holds}
+use Rattle.edit.specs.Inner.Holding.{Holds}
 
 pub holds-is : (F : Form) (s : List ℕ) → Holds F s → s ≡ image F (tableAt F s) ++ drop (length (image F (tableAt F s))) s
 holds-is F s h = begins-is s (image F (tableAt F s)) h

@@ -15,9 +15,9 @@ use Rattle.rules.proofs.Rows.{changed-held}
 use Rattle.rules.proofs.Logic.{both-left, both-right, cases}
 use Rattle.rows.specs.declared.lookup.Place.{Place}
 use Rattle.rows.specs.declared.lookup.Place.the-variants.{Held, Absent}
-use Rattle.rows.specs.Places.{placeOf}
+use Rattle.rows.specs.Inner.Places.{placeOf}
 use Rattle.rows.proofs.Sought.{sought, place-sought, not-absent}
-use Rattle.edit.specs.Changes.{atIndex}
+use Rattle.edit.specs.Inner.Changes.{atIndex}
 
 -- ---- the row at an index
 

@@ -5,7 +5,8 @@ use Prim.Native.Nat.{ℕ, suc, _+_, _-_, _*_, _<_}
 use native.Mathlib.Omega.{arith}
 use lib.ListN.{length, length-append}
 use Rattle.wire.specs.Parts.{replaced}
-use Rattle.wire.specs.Numbers.{bytes, AllBytes}
+use Rattle.wire.specs.Numbers.{bytes}
+use Rattle.wire.specs.Inner.ByteLists.{AllBytes}
 use Rattle.wire.proofs.Parts.{replaced-between}
 use Rattle.wire.proofs.Numbers.{length-bytes, all-joined}
 use Rattle.wire.proofs.Stands.{stands-right, stands-between}
@@ -13,9 +14,9 @@ use Rattle.wire.proofs.Fields.{field-read}
 use Rattle.rules.specs.Tables.{Row, prepareCode, prepareRetry, outcomeCode}
 use Rattle.rows.specs.Bytes.{lengthOf, rowBytes, rowsBytes}
 use Rattle.rows.specs.Fields.{fieldsAt, fieldsOf, fieldsBytes}
-use Rattle.rows.specs.Rows.{sizeOf}
+use Rattle.rows.specs.Inner.Rows.{sizeOf}
 use Rattle.rows.proofs.FieldsRead.{row-bytes, length-row, fields-told}
-use Rattle.edit.specs.Parts.{laid}
+use Rattle.edit.specs.Inner.Parts.{laid}
 
 -- the bytes of rows, each with some offset
 pub data AnyOffsets : List Row → List ℕ → Type 0 where

@@ -11,15 +11,15 @@ use Rattle.rules.specs.Tables.{Table, Model}
 use Rattle.rules.proofs.Logic.{both-left, both-right}
 use Rattle.rules.proofs.Tables.{table-facts}
 use Rattle.rows.specs.declared.row.RowFields.{RowFields}
-use Rattle.rows.specs.Fields.{codesByRule, fieldsByRule}
-use Rattle.rows.specs.Rows.{sizeOf}
+use Rattle.rows.specs.Inner.FieldTests.{codesByRule, fieldsByRule}
+use Rattle.rows.specs.Inner.Rows.{sizeOf}
 use Rattle.rows.proofs.Turns.{fields-facts}
 use Rattle.table.specs.declared.header.Header.{Header}
 use Rattle.table.specs.Headers.{headerAt}
 use Rattle.table.specs.Images.{Form, imageLength}
 use Rattle.table.specs.Parse.{parse}
 use Rattle.table.proofs.Images.{Sound, bodies-at-most, parsed, parse-by-rule}
-use Rattle.edit.specs.Changes.{Storable}
+use Rattle.edit.specs.Inner.Changes.{Storable}
 
 -- fields by the rules can be stored
 pub storable : (row : RowFields) → fieldsByRule row ≡ true → Storable row

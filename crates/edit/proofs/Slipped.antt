@@ -7,7 +7,7 @@ use lib.ListN.{length, drop, length-append}
 use lib.Seq.{take-at, drop-at, take-append-seam, drop-append-add}
 use Rattle.wire.specs.Parts.{part, replaced}
 use Rattle.wire.proofs.Parts.{length-part, below-stays, replaced-before}
-use Rattle.edit.specs.Parts.{slipped}
+use Rattle.edit.specs.Inner.Parts.{slipped}
 
 -- each write stands right before what the ones before it wrote
 pub slipped-steps : (s : List ℕ) (at middle end : ℕ) (row body : List ℕ) → length row ≡ 24 → at ≤ middle → middle ≤ end → end + 24 + length body ≤ length s →

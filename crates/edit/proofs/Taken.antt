@@ -6,17 +6,19 @@ use native.Mathlib.Omega.{arith}
 use native.Mathlib.Nat.{zero-add}
 use lib.ListN.{length, drop, replicate}
 use Rattle.wire.specs.Parts.{part, replaced}
-use Rattle.wire.specs.Numbers.{AllBytes}
+use Rattle.wire.specs.Inner.ByteLists.{AllBytes}
 use Rattle.wire.proofs.Parts.{replaced-start, replaced-joined}
 use Rattle.wire.proofs.Stands.{Stands}
 use Rattle.rules.specs.Tables.{Table}
 use Rattle.rules.specs.Messages.{keepingBox}
-use Rattle.table.specs.Headers.{headerBytes, headerAt, withBox}
+use Rattle.table.specs.Headers.{headerBytes, headerAt}
+use Rattle.table.specs.Inner.ChangedHeaders.{withBox}
 use Rattle.table.specs.Images.{Form, imageLength, headerOf, image}
 use Rattle.table.specs.Parse.{tableAt}
 use Rattle.table.proofs.Images.{Starts, length-image}
-use Rattle.edit.specs.Changes.{taking}
-use Rattle.edit.specs.Edited.{Holds, edited}
+use Rattle.edit.specs.Inner.Changes.{taking}
+use Rattle.edit.specs.Inner.Holding.{Holds}
+use Rattle.edit.specs.Edited.{edited}
 use Rattle.edit.proofs.Holding.{holds-stands, holds-header}
 use Rattle.edit.proofs.ChangedParts.{header-replaced}
 

@@ -1,18 +1,11 @@
 -- A table changed in its buffer: every byte of the buffer after it.
-use mathlib.Core.Path.{_≡_}
-use mathlib.Core.Bool.{true}
 use mathlib.Core.List.{List, _++_}
 use Prim.Native.Nat.{ℕ, _-_}
 use lib.ListN.{replicate}
 use Rattle.wire.specs.Parts.{replaced}
 use Rattle.rules.specs.Tables.{Table}
-use Rattle.rows.specs.Read.{begins}
 use Rattle.table.specs.Images.{Form, image, imageLength}
 use Rattle.table.specs.Parse.{tableAt}
-
--- bytes that begin with the image of the table that is read off them. Whether that table is by the rules is not asked.
-abbrev pub Holds : Form → List ℕ → Type 0
-Holds F s = begins s (image F (tableAt F s)) ≡ true
 
 -- "After a call, bytes past the longer of the old and new image are unchanged; if the image shrank, the bytes given up are zero."
 unfoldable pub edited : Form → (Table → Table) → List ℕ → List ℕ

@@ -1,3 +1,2 @@
-pub mod Changes
 pub mod Edited
-pub mod Parts
+pub mod Inner

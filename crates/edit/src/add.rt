@@ -9,15 +9,16 @@ ghost use lib.ListN.{length};
 ghost use Rattle.rules.specs.Tables.{rising};
 ghost use Rattle.rows.specs.Fields.{fieldsBytes};
 ghost use Rattle.rows.specs.Read.{rowOf};
-ghost use Rattle.rows.specs.Rows.{sizeOf, BodyInside};
-ghost use Rattle.rows.specs.Places.{placeOf};
+ghost use Rattle.rows.specs.Inner.Rows.{sizeOf, BodyInside};
+ghost use Rattle.rows.specs.Inner.Places.{placeOf};
 ghost use Rattle.rows.specs.declared.lookup.Place.the-variants.{Absent};
 ghost use Rattle.table.specs.Headers.{headerAt};
 ghost use Rattle.table.specs.Images.{formatOne};
 ghost use Rattle.table.specs.Parse.{tableAt};
-ghost use Rattle.edit.specs.Changes.{Storable, adding};
-ghost use Rattle.edit.specs.Edited.{Holds, edited};
-ghost use Rattle.edit.specs.Parts.{slipped, laid, bodyPlace, placed};
+ghost use Rattle.edit.specs.Inner.Changes.{Storable, adding};
+ghost use Rattle.edit.specs.Inner.Holding.{Holds};
+ghost use Rattle.edit.specs.Edited.{edited};
+ghost use Rattle.edit.specs.Inner.Parts.{slipped, laid, bodyPlace, placed};
 
 // Where the body of a row that comes to an index goes: before that of the row that stands there, or after all of them.
 fn body_place(image: &[u8], begin: usize, rows: usize, index: usize, end: usize) -> usize

@@ -8,8 +8,9 @@ ghost use Rattle.rules.specs.Messages.{withPrepare, withOutcome};
 ghost use Rattle.rows.specs.Fields.{prepareNumbered, outcomeNumbered, retryByCode};
 ghost use Rattle.table.specs.Headers.{headerAt};
 ghost use Rattle.table.specs.Images.{formatOne};
-ghost use Rattle.edit.specs.Changes.{onRow};
-ghost use Rattle.edit.specs.Edited.{Holds, edited};
+ghost use Rattle.edit.specs.Inner.Changes.{onRow};
+ghost use Rattle.edit.specs.Inner.Holding.{Holds};
+ghost use Rattle.edit.specs.Edited.{edited};
 
 // Stores a prepare byte and its retry stamp in the row at an index.
 pub fn set_prepare(table: &mut [u8], index: usize, prepare: u8, retry: u64)

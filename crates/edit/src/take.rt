@@ -7,8 +7,9 @@ ghost use Rattle.wire.specs.Parts.{replaced};
 ghost use Rattle.table.specs.Headers.{headerAt};
 ghost use Rattle.table.specs.Images.{formatOne};
 ghost use Rattle.table.specs.Parse.{tableAt};
-ghost use Rattle.edit.specs.Changes.{taking};
-ghost use Rattle.edit.specs.Edited.{Holds, edited};
+ghost use Rattle.edit.specs.Inner.Changes.{taking};
+ghost use Rattle.edit.specs.Inner.Holding.{Holds};
+ghost use Rattle.edit.specs.Edited.{edited};
 
 // Clears what an image that now ends at `end` gave up, if it ended at `old` before.
 fn clear_given_up(table: &mut [u8], end: usize, old: usize)

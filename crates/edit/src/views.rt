@@ -3,8 +3,9 @@ use table::header;
 ghost use mathlib.Core.Path.{_≡_};
 ghost use Rattle.rules.specs.Messages.{promising};
 ghost use Rattle.table.specs.Images.{formatOne};
-ghost use Rattle.edit.specs.Changes.{withViews};
-ghost use Rattle.edit.specs.Edited.{Holds, edited};
+ghost use Rattle.edit.specs.Inner.Changes.{withViews};
+ghost use Rattle.edit.specs.Inner.Holding.{Holds};
+ghost use Rattle.edit.specs.Edited.{edited};
 
 // Sets mode, view and promise at once. That promised and view fit the mode is for the caller to see to.
 pub fn set_views(table: &mut [u8], mode: u8, view: u32, promised: u32)

@@ -8,17 +8,17 @@ use Prim.Native.Nat.{ℕ, _+_, _*_, _<_, _≤_}
 use native.Mathlib.Omega.{arith}
 use lib.Dec.{eqb, leb}
 use borrow.Author.Tests.{ne-eqb, ltb-true}
-use Rattle.wire.specs.Numbers.{AllBytes}
+use Rattle.wire.specs.Inner.ByteLists.{AllBytes}
 use Rattle.rules.specs.Tests.{both, count, provided, orElse, firstOf}
 use Rattle.rules.specs.Tables.{Result, Result.OK, Result.ABORT, Result.ABSTAIN, Result.RETRY, Prepare, Prepare.noPrepare, Prepare.tentative, Prepare.final, Row, Table, valley, resultCode, resultRetry, prepareCode, prepareRetry, sameResult}
 use Rattle.rules.specs.Merge.{holdsTentative, isAgreed, tentativeResult, ifAgreed, agreedOf}
 use Rattle.rules.proofs.Logic.{eqb-sym, both-left}
 use Rattle.rows.specs.Fields.{fieldsAt}
 use Rattle.rows.specs.Read.{rowOf}
-use Rattle.seek.specs.Lent.{Lawful}
+use Rattle.table.specs.Parse.{BeginsWithImage}
 use Rattle.seek.proofs.HeldRows.{prepare-here, retry-here}
 use Rattle.gather.specs.declared.agreed.Agreed.{Agreed}
-use Rattle.gather.specs.Agreed.{isTentative, holdsCodes, isEnough, agreedAs}
+use Rattle.gather.specs.Inner.Agreed.{isTentative, holdsCodes, isEnough, agreedAs}
 use Rattle.gather.proofs.UsedRows.{rowsNow, rowsLater, fields, Told, told}
 
 -- ---- a result by its codes
@@ -95,17 +95,17 @@ nothing-agreed : (agreement retry : ℕ) (all : List Row) → isEnough agreement
 unfolding both
 nothing-agreed agreement retry all = refl
 
-module _ (newest stamp : ℕ) (s : List ℕ) (bytes : AllBytes s) (lawful : Lawful valley s) (Ts : List Table) where
+module _ (newest stamp : ℕ) (s : List ℕ) (bytes : AllBytes s) (has-image : BeginsWithImage valley s) (Ts : List Table) where
   pub agreed-turn : (agreement : ℕ) (all : List Row) →
-      let f = fields newest stamp s bytes lawful Ts in
-      agreedAs (agreedAmong agreement all (rowsNow newest stamp s bytes lawful Ts)) ≡ cond (isEnough agreement all (f .prepare) (f .retry)) (record { code = f .prepare; retry = f .retry }) (agreedAs (agreedAmong agreement all (rowsLater newest stamp s bytes lawful Ts)))
-  agreed-turn agreement all = go (told newest stamp s bytes lawful Ts)
+      let f = fields newest stamp s bytes has-image Ts in
+      agreedAs (agreedAmong agreement all (rowsNow newest stamp s bytes has-image Ts)) ≡ cond (isEnough agreement all (f .prepare) (f .retry)) (record { code = f .prepare; retry = f .retry }) (agreedAs (agreedAmong agreement all (rowsLater newest stamp s bytes has-image Ts)))
+  agreed-turn agreement all = go (told newest stamp s bytes has-image Ts)
     where
-      go : Told newest stamp s bytes lawful Ts →
-          let f = fields newest stamp s bytes lawful Ts in
-          agreedAs (agreedAmong agreement all (rowsNow newest stamp s bytes lawful Ts)) ≡ cond (isEnough agreement all (f .prepare) (f .retry)) (record { code = f .prepare; retry = f .retry }) (agreedAs (agreedAmong agreement all (rowsLater newest stamp s bytes lawful Ts)))
+      go : Told newest stamp s bytes has-image Ts →
+          let f = fields newest stamp s bytes has-image Ts in
+          agreedAs (agreedAmong agreement all (rowsNow newest stamp s bytes has-image Ts)) ≡ cond (isEnough agreement all (f .prepare) (f .retry)) (record { code = f .prepare; retry = f .retry }) (agreedAs (agreedAmong agreement all (rowsLater newest stamp s bytes has-image Ts)))
       go (inr (i, w)) = rw (w .place, w .rows, nothing-agreed agreement 0 all) refl
-      go (inl (i, h)) = rw (h .place, h .rows) (row-agreed agreement all (rowOf s (fieldsAt s (24 + 24 * i))) _ _ (rowsLater newest stamp s bytes lawful Ts) (prepare-here valley s stamp i bytes lawful (h .index)) (retry-here valley s stamp i bytes lawful (h .index)))
+      go (inl (i, h)) = rw (h .place, h .rows) (row-agreed agreement all (rowOf s (fieldsAt s (24 + 24 * i))) _ _ (rowsLater newest stamp s bytes has-image Ts) (prepare-here valley s stamp i bytes has-image (h .index)) (retry-here valley s stamp i bytes has-image (h .index)))
 
 -- ---- by the bytes of a row
 

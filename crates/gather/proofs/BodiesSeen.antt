@@ -15,7 +15,7 @@ use Rattle.rules.specs.Merge.{rowsOf, twoBodies}
 use Rattle.rules.proofs.Logic.{impossible, cases, same-test}
 use Rattle.rules.proofs.Lists.{_∈_, any-some, some-any}
 use Rattle.rules.proofs.Same.{same-body, body-same}
-use Rattle.gather.specs.Held.{usedOf, otherIn}
+use Rattle.gather.specs.Inner.UsedTables.{usedOf, otherIn}
 use Rattle.gather.proofs.UsedRows.{used-not, used-too}
 
 -- the rows of a stamp, table by table

@@ -11,12 +11,11 @@ use Rattle.rules.proofs.Rows.{held-from}
 use Rattle.rows.specs.declared.row.RowFields.{RowFields}
 use Rattle.rows.specs.Fields.{fieldsAt}
 use Rattle.rows.specs.Read.{bodyAt, rowOf}
-use Rattle.rows.specs.Rows.{BodyInside}
+use Rattle.rows.specs.Inner.Rows.{BodyInside}
 use Rattle.table.specs.Images.{formatOne}
-use Rattle.table.specs.Parse.{tableAt}
-use Rattle.seek.specs.Lent.{Lawful}
+use Rattle.table.specs.Parse.{tableAt, BeginsWithImage}
 use Rattle.seek.proofs.HeldRows.{held-here}
-use Rattle.gather.specs.Held.{usedOf, placeIn, fieldsFor, otherIn}
+use Rattle.gather.specs.Inner.UsedTables.{usedOf, placeIn, fieldsFor, otherIn}
 use Rattle.gather.proofs.UsedRows.{FirstHeld}
 use Rattle.gather.proofs.BodiesSeen.{others-rows, first-other}
 use Rattle.gather.proofs.OneTable.{body-there}
@@ -27,19 +26,19 @@ other-than-first first f others = first-other (rowOf first f) others
 
 -- `first` is that image, and f are the fields that were read there
 module _ (newest stamp : ℕ) (Ts : List Table) (s t : List ℕ) (held : FirstHeld newest stamp Ts s t) (first : List ℕ) (same : first ≡ t) where
-  pub first-lawful : Lawful valley first
-  first-lawful = rw same (held .lawful)
+  pub first-begins : BeginsWithImage valley first
+  first-begins = rw same (held .has-image)
 
   module _ (f : RowFields) (told : f ≡ fieldsFor first (placeIn newest (tableAt formatOne first) stamp)) where
     pub first-fields : f ≡ fieldsAt t (24 + 24 * held .i)
     first-fields = told ∙ rw (same, held .place) refl
 
     pub first-body : BodyInside first f
-    first-body = rw (first-fields, same) (body-there t newest stamp (held .i) (held .bytes) (held .lawful) (held .place))
+    first-body = rw (first-fields, same) (body-there t newest stamp (held .i) (held .bytes) (held .has-image) (held .place))
 
     pub first-stamp : f .stamp ≡ stamp
     unfolding rowOf
-    first-stamp = ap (λ (x : RowFields). x .stamp) first-fields ∙ held-from (tableAt formatOne t .rows) stamp _ (held-here valley t stamp (held .i) (held .bytes) (held .lawful) (held .index)) .1
+    first-stamp = ap (λ (x : RowFields). x .stamp) first-fields ∙ held-from (tableAt formatOne t .rows) stamp _ (held-here valley t stamp (held .i) (held .bytes) (held .has-image) (held .index)) .1
 
     -- the first of the stamp's rows, as it is read there
     pub first-row : rowsOf (usedOf newest Ts) stamp ≡ rowOf first f ∷ held .others

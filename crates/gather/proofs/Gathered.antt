@@ -7,7 +7,7 @@ use native.Mathlib.Omega.{arith}
 use lib.Dec.{eqb}
 use lib.ListN.{length, take, drop}
 use lib.Seq.{drop-drop}
-use Rattle.wire.specs.Numbers.{AllBytes}
+use Rattle.wire.specs.Inner.ByteLists.{AllBytes}
 use Rattle.wire.proofs.Numbers.{all-drop}
 use Rattle.rules.specs.Tests.{both, either, any, bit, count, those, allOf}
 use Rattle.rules.specs.Stamps.{Body}
@@ -18,17 +18,16 @@ use Rattle.rows.specs.declared.row.RowFields.{RowFields}
 use Rattle.table.specs.declared.header.Header.{Header}
 use Rattle.table.specs.Headers.{headerAt}
 use Rattle.table.specs.Images.{formatOne, imageLength}
-use Rattle.table.specs.Parse.{tableAt}
+use Rattle.table.specs.Parse.{tableAt, BeginsWithImage}
 use Rattle.table.proofs.Images.{valley-sound, parsed}
-use Rattle.seek.specs.Lent.{Lawful}
-use Rattle.seek.proofs.HeldRows.{lawful-regular}
-use Rattle.run.specs.Runs.{tablesOf, Images}
-use Rattle.run.proofs.RunTurns.{Turn, turn, rest-of, walked, laid-images}
+use Rattle.seek.proofs.HeldRows.{image-regular}
+use Rattle.image_run.specs.Inner.WholeRuns.{tablesOf, Images}
+use Rattle.image_run.proofs.RunTurns.{Turn, turn, rest-of, walked, laid-images}
 use Rattle.gather.specs.declared.state.State.{State}
-use Rattle.gather.specs.Held.{usedOf, placeIn, isHeld, fieldsFor, fromFirst, otherIn}
-use Rattle.gather.specs.Stamps.{nextAfter, stampAbove}
-use Rattle.gather.specs.State.{sawPrepare, sawOutcome}
-use Rattle.gather.specs.Agreed.{holdsCodes, isEnough, agreedAs}
+use Rattle.gather.specs.Inner.UsedTables.{usedOf, placeIn, isHeld, fieldsFor, fromFirst, otherIn}
+use Rattle.gather.specs.Inner.Stamps.{nextAfter, stampAbove}
+use Rattle.gather.specs.Inner.State.{sawPrepare, sawOutcome}
+use Rattle.gather.specs.Inner.Agreed.{holdsCodes, isEnough, agreedAs}
 use Rattle.gather.proofs.StateSeen.{sawRows}
 use Rattle.gather.proofs.UsedRows.{state-turn, votes-turn}
 use Rattle.gather.proofs.AgreedSeen.{agreedAmong, agreed-none, agreed-turn}
@@ -52,8 +51,8 @@ fieldsLeft newest stamp s at = fieldsFor (partAt s at) (placeIn newest (tableAt 
 pub all-regular : (s : List ℕ) → Images valley s → AllRegular (tablesOf valley s)
 all-regular s are T m = table-facts valley T (laid-images valley s (tablesOf valley s) are .1 T m) .0
 
-pub lawful-part : (s : List ℕ) (at : ℕ) → at < length s → Images valley (drop at s) → Lawful valley (partAt s at)
-lawful-part s at more are = rw (rest-of s at) (turn s at more are .lawful)
+pub image-part : (s : List ℕ) (at : ℕ) → at < length s → Images valley (drop at s) → BeginsWithImage valley (partAt s at)
+image-part s at more are = rw (rest-of s at) (turn s at more are .has-image)
 
 -- the header h was read there
 module _ (newest stamp : ℕ) (s : List ℕ) (bytes : AllBytes s) (at : ℕ) (more : at < length s) (are : Images valley (drop at s)) (h : Header) (told : h ≡ headerAt (partAt s at)) where
@@ -67,13 +66,13 @@ module _ (newest stamp : ℕ) (s : List ℕ) (bytes : AllBytes s) (at : ℕ) (mo
   tables-on = rw (told ∙ ap headerAt (rest-of s at)) (t .here)
 
   pub state-on : (x : State) (f : RowFields) → f ≡ fieldsLeft newest stamp s at → sawRows x (rowsLeft newest stamp s at) ≡ sawRows (sawOutcome (f .outcome) (sawPrepare (f .prepare) (f .retry) x)) (rowsLeft newest stamp s (at + h .length))
-  state-on x f e = rw (e, rest-of s at, tables-on) (state-turn newest stamp (drop at s) bytes-left (t .lawful) (left s (at + h .length)) x)
+  state-on x f e = rw (e, rest-of s at, tables-on) (state-turn newest stamp (drop at s) bytes-left (t .has-image) (left s (at + h .length)) x)
 
   pub votes-on : (prepare retry : ℕ) (f : RowFields) → 0 < prepare → f ≡ fieldsLeft newest stamp s at → count (holdsCodes prepare retry) (rowsLeft newest stamp s at) ≡ bit (both (eqb (f .prepare) prepare) (eqb (f .retry) retry)) + count (holdsCodes prepare retry) (rowsLeft newest stamp s (at + h .length))
-  votes-on prepare retry f l e = rw (e, rest-of s at, tables-on) (votes-turn newest stamp (drop at s) bytes-left (t .lawful) (left s (at + h .length)) prepare retry l)
+  votes-on prepare retry f l e = rw (e, rest-of s at, tables-on) (votes-turn newest stamp (drop at s) bytes-left (t .has-image) (left s (at + h .length)) prepare retry l)
 
   agreed-on : (agreement : ℕ) (all : List Row) (f : RowFields) → f ≡ fieldsLeft newest stamp s at → agreedAs (agreedAmong agreement all (rowsLeft newest stamp s at)) ≡ cond (isEnough agreement all (f .prepare) (f .retry)) (record { code = f .prepare; retry = f .retry }) (agreedAs (agreedAmong agreement all (rowsLeft newest stamp s (at + h .length))))
-  agreed-on agreement all f e = rw (e, rest-of s at, tables-on) (agreed-turn newest stamp (drop at s) bytes-left (t .lawful) (left s (at + h .length)) agreement all)
+  agreed-on agreement all f e = rw (e, rest-of s at, tables-on) (agreed-turn newest stamp (drop at s) bytes-left (t .has-image) (left s (at + h .length)) agreement all)
 
   pub agreed-is : (agreement : ℕ) (all : List Row) (f : RowFields) → f ≡ fieldsLeft newest stamp s at → isEnough agreement all (f .prepare) (f .retry) ≡ true → record { code = f .prepare; retry = f .retry } ≡ agreedAs (agreedAmong agreement all (rowsLeft newest stamp s at))
   agreed-is agreement all f e enough = sym (agreed-on agreement all f e ∙ rw enough refl)
@@ -90,7 +89,7 @@ module _ (newest stamp : ℕ) (s : List ℕ) (bytes : AllBytes s) (at : ℕ) (mo
   other-next x e = rw tables-on (rw (rw (rest-of s at) at e) refl)
 
   length-told : imageLength formatOne (tableAt formatOne (drop at s)) ≡ h .length
-  length-told = rw (told ∙ ap headerAt (rest-of s at)) (sym (ap (λ (x : Header). x .length) (parsed formatOne valley (drop at s) (tableAt formatOne (drop at s)) valley-sound (t .lawful) .header)))
+  length-told = rw (told ∙ ap headerAt (rest-of s at)) (sym (ap (λ (x : Header). x .length) (parsed formatOne valley (drop at s) (tableAt formatOne (drop at s)) valley-sound (t .has-image) .header)))
 
   pub first-is : isHeld (placeIn newest (tableAt formatOne (partAt s at)) stamp) ≡ true → partAt s at ≡ fromFirst newest stamp (left s at) (drop at s)
   unfolding fromFirst
@@ -104,7 +103,7 @@ module _ (newest stamp : ℕ) (s : List ℕ) (bytes : AllBytes s) (at : ℕ) (mo
   next-on : nextAfter stamp (stamps (usedOf newest (left s at))) ≡ min (stampAbove newest (tableAt formatOne (partAt s at)) stamp) (nextAfter stamp (stamps (usedOf newest (left s (at + h .length)))))
   next-on =
       let o : Images valley (drop (at + h .length) s) = rw (told ∙ ap headerAt (rest-of s at)) (t .onward) in
-      rw (rest-of s at, tables-on) (next-turn newest stamp (tableAt formatOne (drop at s)) (left s (at + h .length)) (lawful-regular valley (drop at s) (t .lawful) .0) (all-regular (drop (at + h .length) s) o))
+      rw (rest-of s at, tables-on) (next-turn newest stamp (tableAt formatOne (drop at s)) (left s (at + h .length)) (image-regular valley (drop at s) (t .has-image) .0) (all-regular (drop (at + h .length) s) o))
 
   pub next-step : (next above : ℕ) → above ≡ stampAbove newest (tableAt formatOne (partAt s at)) stamp → min (min next above) (nextAfter stamp (stamps (usedOf newest (left s (at + h .length))))) ≡ min next (nextAfter stamp (stamps (usedOf newest (left s at))))
   next-step next above e = rw next-on (let f = e in omega arith)

@@ -20,11 +20,11 @@ use Rattle.rules.proofs.Tables.{Regular, row-facts}
 use Rattle.rows.specs.declared.lookup.Place.{Place}
 use Rattle.rows.specs.declared.lookup.Place.the-variants.{Held, Absent}
 use Rattle.rows.specs.Fields.{fieldsAt}
-use Rattle.rows.specs.Places.{placeOf}
+use Rattle.rows.specs.Inner.Places.{placeOf}
 use Rattle.rows.specs.Read.{rowOf, rowsAt}
 use Rattle.rows.proofs.Sought.{sought, place-sought}
-use Rattle.gather.specs.Held.{usedOf}
-use Rattle.gather.specs.Stamps.{nextAfter, stampAbove, indexOf}
+use Rattle.gather.specs.Inner.UsedTables.{usedOf}
+use Rattle.gather.specs.Inner.Stamps.{nextAfter, stampAbove, indexOf}
 
 abbrev pub AllRegular : List Table → Type 0
 AllRegular Ts = (T : Table) → T ∈ Ts → Regular T

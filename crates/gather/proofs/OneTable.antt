@@ -6,7 +6,7 @@ use Prim.Native.Nat.{ℕ, _+_, _*_, _≤_, _<_, _^_}
 use lib.Dec.{eqb}
 use lib.ListN.{length}
 use borrow.Author.Tests.{eq-eqb, ne-eqb}
-use Rattle.wire.specs.Numbers.{AllBytes}
+use Rattle.wire.specs.Inner.ByteLists.{AllBytes}
 use Rattle.rules.specs.Tests.{both}
 use Rattle.rules.specs.Stamps.{Body}
 use Rattle.rules.specs.Tables.{valley, rising}
@@ -14,26 +14,25 @@ use Rattle.rules.specs.Circumstances.{heldWithOtherBody}
 use Rattle.rows.specs.declared.lookup.Place.{Place}
 use Rattle.rows.specs.declared.lookup.Place.the-variants.{Held, Absent}
 use Rattle.rows.specs.Fields.{fieldsAt}
-use Rattle.rows.specs.Places.{placeOf}
+use Rattle.rows.specs.Inner.Places.{placeOf}
 use Rattle.rows.specs.Read.{rowsAt}
-use Rattle.rows.specs.Rows.{BodyInside}
+use Rattle.rows.specs.Inner.Rows.{BodyInside}
 use Rattle.rows.proofs.Sought.{not-absent}
 use Rattle.table.specs.declared.header.Header.{Header}
 use Rattle.table.specs.Headers.{headerAt}
 use Rattle.table.specs.Images.{formatOne}
-use Rattle.table.specs.Parse.{tableAt}
+use Rattle.table.specs.Parse.{tableAt, BeginsWithImage}
 use Rattle.table.proofs.Images.{valley-sound}
 use Rattle.edit.proofs.Holding.{one-starts, holds-least, holds-rows-at, holds-row-inside}
-use Rattle.seek.specs.Lent.{Lawful}
-use Rattle.seek.proofs.HeldRows.{lawful-holds, index-here}
+use Rattle.seek.proofs.HeldRows.{image-holds, index-here}
 use Rattle.seek.proofs.SoughtRows.{can-be-sought, rows-inside}
-use Rattle.gather.specs.Held.{placeIn, otherIn}
-use Rattle.gather.specs.Stamps.{stampAbove, indexOf}
+use Rattle.gather.specs.Inner.UsedTables.{placeIn, otherIn}
+use Rattle.gather.specs.Inner.Stamps.{stampAbove, indexOf}
 use Rattle.gather.proofs.UsedRows.{place-not, place-too}
 use Rattle.gather.proofs.NextStamps.{index-above}
 
-pub header-inside : (s : List ℕ) → Lawful valley s → 24 ≤ length s
-header-inside s lawful = holds-least formatOne s one-starts (lawful-holds valley s lawful)
+pub header-inside : (s : List ℕ) → BeginsWithImage valley s → 24 ≤ length s
+header-inside s has-image = holds-least formatOne s one-starts (image-holds valley s has-image)
 
 module _ (s : List ℕ) (h : Header) (told : h ≡ headerAt s) (newest : ℕ) where
   pub other-view : (h .view ≡ newest → ⊥) → eqb (tableAt formatOne s .view) newest ≡ false
@@ -44,8 +43,8 @@ module _ (s : List ℕ) (h : Header) (told : h ≡ headerAt s) (newest : ℕ) wh
   unfolding tableAt
   this-view e = eq-eqb _ _ (sym (ap (λ (x : Header). x .view) told) ∙ e)
 
-  pub sought-in : Lawful valley s → (24 + 24 * h .rows ≤ length s) × (rising 0 (rowsAt s 24 (h .rows)) ≡ true)
-  sought-in lawful = rw told (can-be-sought valley s valley-sound lawful)
+  pub sought-in : BeginsWithImage valley s → (24 + 24 * h .rows ≤ length s) × (rising 0 (rowsAt s 24 (h .rows)) ≡ true)
+  sought-in has-image = rw told (can-be-sought valley s valley-sound has-image)
 
   -- the rows are the table's
   pub rows-told : rowsAt s 24 (h .rows) ≡ tableAt formatOne s .rows
@@ -61,16 +60,16 @@ module _ (s : List ℕ) (h : Header) (told : h ≡ headerAt s) (newest : ℕ) wh
   above-elsewhere last d = rw (other-view d) refl
 
   -- the row that the look-up for last + 1 points at, or none
-  module _ (last : ℕ) (lawful : Lawful valley s) (e : h .view ≡ newest) (p : Place) (found : p ≡ placeOf (rowsAt s 24 (h .rows)) (last + 1)) (i : ℕ) (index : i ≡ indexOf p) where
+  module _ (last : ℕ) (has-image : BeginsWithImage valley s) (e : h .view ≡ newest) (p : Place) (found : p ≡ placeOf (rowsAt s 24 (h .rows)) (last + 1)) (i : ℕ) (index : i ≡ indexOf p) where
     pub above-there : i < h .rows → fieldsAt s (24 + 24 * i) .stamp ≡ stampAbove newest (tableAt formatOne s) last
     above-there l =
-        let a = index-above s 24 (h .rows) last (sought-in lawful .1) in
+        let a = index-above s 24 (h .rows) last (sought-in has-image .1) in
         let f : i ≡ indexOf (placeOf (rowsAt s 24 (h .rows)) (last + 1)) = index ∙ ap indexOf found in
         rw (this-view e, ← rows-told) (rw (← f) at (a .there) l)
 
     pub above-none : h .rows ≤ i → 2 ^ 48 ≡ stampAbove newest (tableAt formatOne s) last
     above-none l =
-        let a = index-above s 24 (h .rows) last (sought-in lawful .1) in
+        let a = index-above s 24 (h .rows) last (sought-in has-image .1) in
         let f : i ≡ indexOf (placeOf (rowsAt s 24 (h .rows)) (last + 1)) = index ∙ ap indexOf found in
         rw (this-view e, ← rows-told) (sym (rw (← f) at (a .none-there) l))
 
@@ -92,12 +91,12 @@ held-used s newest stamp i h = go (eqb (tableAt formatOne s .view) newest) refl
     go true e = sym (place-too newest stamp (tableAt formatOne s) e) ∙ h
     go false e = absurd (not-absent (sym h ∙ place-not newest stamp (tableAt formatOne s) e))
 
-module _ (s : List ℕ) (newest stamp i : ℕ) (bytes : AllBytes s) (lawful : Lawful valley s) (place : placeIn newest (tableAt formatOne s) stamp ≡ Held i) where
+module _ (s : List ℕ) (newest stamp i : ℕ) (bytes : AllBytes s) (has-image : BeginsWithImage valley s) (place : placeIn newest (tableAt formatOne s) stamp ≡ Held i) where
   index-there : i < headerAt s .rows
-  index-there = index-here valley s stamp i bytes lawful (held-used s newest stamp i place)
+  index-there = index-here valley s stamp i bytes has-image (held-used s newest stamp i place)
 
   pub row-there : 24 + 24 * i + 24 ≤ length s
-  row-there = holds-row-inside formatOne s i one-starts (lawful-holds valley s lawful) index-there
+  row-there = holds-row-inside formatOne s i one-starts (image-holds valley s has-image) index-there
 
   pub body-there : BodyInside s (fieldsAt s (24 + 24 * i))
-  body-there = rows-inside valley s valley-sound lawful .1 i index-there
+  body-there = rows-inside valley s valley-sound has-image .1 i index-there

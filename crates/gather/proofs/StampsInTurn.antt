@@ -11,7 +11,7 @@ use Rattle.rules.specs.Tests.{kept, those}
 use Rattle.rules.proofs.Logic.{cases}
 use Rattle.rules.proofs.Lists.{_∈_}
 use Rattle.rules.proofs.Stamps.{RisingFrom, rising-least}
-use Rattle.gather.specs.Stamps.{nextAfter}
+use Rattle.gather.specs.Inner.Stamps.{nextAfter}
 use Rattle.gather.proofs.NextStamps.{Stamped, next-here, next-past}
 
 -- the stamps below one

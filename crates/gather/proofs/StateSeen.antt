@@ -16,7 +16,7 @@ use Rattle.rules.proofs.Logic.{impossible, none-some, cases, same-test, both-le
 use Rattle.rules.proofs.Lists.{_∈_, any-some, some-any, none-pair}
 use Rattle.rules.proofs.Same.{same-result, result-same}
 use Rattle.gather.specs.declared.state.State.{State}
-use Rattle.gather.specs.State.{finalCode, finalRetry, stateOf, sawFinal, sawTentative, sawPrepare, sawCommit, sawAbort, sawOutcome, contradicts, outcomeHeld}
+use Rattle.gather.specs.Inner.State.{finalCode, finalRetry, stateOf, sawFinal, sawTentative, sawPrepare, sawCommit, sawAbort, sawOutcome, contradicts, outcomeHeld}
 
 -- nothing seen
 abbrev pub nothing : State

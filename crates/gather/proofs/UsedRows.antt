@@ -9,7 +9,7 @@ use native.Mathlib.Omega.{arith}
 use lib.Dec.{eqb}
 use lib.ListN.{length, drop}
 use borrow.Author.Tests.{ne-eqb}
-use Rattle.wire.specs.Numbers.{AllBytes}
+use Rattle.wire.specs.Inner.ByteLists.{AllBytes}
 use Rattle.wire.proofs.Numbers.{all-drop}
 use Rattle.rules.specs.Tests.{both, bit, count, those, andAlso, allOf}
 use Rattle.rules.specs.Tables.{Row, Table, valley, prepareCode, prepareRetry, outcomeCode}
@@ -20,20 +20,19 @@ use Rattle.rows.specs.declared.row.RowFields.{RowFields}
 use Rattle.rows.specs.declared.lookup.Place.{Place}
 use Rattle.rows.specs.declared.lookup.Place.the-variants.{Held, Absent}
 use Rattle.rows.specs.Fields.{fieldsAt}
-use Rattle.rows.specs.Places.{placeOf}
+use Rattle.rows.specs.Inner.Places.{placeOf}
 use Rattle.rows.specs.Read.{rowOf}
 use Rattle.rows.proofs.Sought.{absent-none}
 use Rattle.table.specs.Images.{formatOne, imageLength}
-use Rattle.table.specs.Parse.{parse, tableAt}
+use Rattle.table.specs.Parse.{parse, tableAt, BeginsWithImage}
 use Rattle.table.proofs.Images.{parse-reads}
-use Rattle.seek.specs.Lent.{Lawful}
 use Rattle.seek.proofs.HeldRows.{held-here, prepare-here, retry-here, outcome-here}
-use Rattle.run.specs.Runs.{images}
-use Rattle.run.proofs.RunTurns.{First, first, some-bytes}
+use Rattle.image_run.specs.Runs.{images}
+use Rattle.image_run.proofs.RunTurns.{First, first, some-bytes}
 use Rattle.gather.specs.declared.state.State.{State}
-use Rattle.gather.specs.Held.{usedOf, placeIn, fieldsFor, fromFirst}
-use Rattle.gather.specs.State.{sawPrepare, sawOutcome}
-use Rattle.gather.specs.Agreed.{holdsCodes}
+use Rattle.gather.specs.Inner.UsedTables.{usedOf, placeIn, fieldsFor, fromFirst}
+use Rattle.gather.specs.Inner.State.{sawPrepare, sawOutcome}
+use Rattle.gather.specs.Inner.Agreed.{holdsCodes}
 use Rattle.gather.proofs.StateSeen.{sawRow, sawRows}
 
 -- ---- a table that is used, and one that is not
@@ -65,7 +64,7 @@ row-seen q prepare retry outcome x rs p t o = rw (← p, ← t, ← o) refl
 
 -- ---- a table that stands at the start of bytes, before others
 
-module _ (newest stamp : ℕ) (s : List ℕ) (bytes : AllBytes s) (lawful : Lawful valley s) (Ts : List Table) where
+module _ (newest stamp : ℕ) (s : List ℕ) (bytes : AllBytes s) (has-image : BeginsWithImage valley s) (Ts : List Table) where
   abbrev pub here : Table
   here = tableAt formatOne s
 
@@ -94,7 +93,7 @@ module _ (newest stamp : ℕ) (s : List ℕ) (bytes : AllBytes s) (lawful : Lawf
     where
       go : (eqb (here .view) newest ≡ true) ⊎ (eqb (here .view) newest ≡ false) → (p : Place) → placeOf (here .rows) stamp ≡ p → Told
       go (inr e) p k = inr (0, record { place = place-not newest stamp here e; rows = used-not newest stamp here Ts e })
-      go (inl e) (Held i) k = inl (i, record { place = place-too newest stamp here e ∙ k; index = k; rows = used-too newest stamp here Ts e ∙ rw (held-here valley s stamp i bytes lawful k) refl })
+      go (inl e) (Held i) k = inl (i, record { place = place-too newest stamp here e ∙ k; index = k; rows = used-too newest stamp here Ts e ∙ rw (held-here valley s stamp i bytes has-image k) refl })
       go (inl e) (Absent i) k = inr (i, record { place = place-too newest stamp here e ∙ k; rows = used-too newest stamp here Ts e ∙ rw (absent-none (here .rows) stamp i k) refl })
 
   abbrev pub fields : RowFields
@@ -108,7 +107,7 @@ module _ (newest stamp : ℕ) (s : List ℕ) (bytes : AllBytes s) (lawful : Lawf
       go (inr (i, w)) = rw (w .place, w .rows, seen-nothing x) refl
       go (inl (i, h)) =
           let k = h .index in
-          rw (h .place, h .rows) (row-seen (rowOf s (fieldsAt s (24 + 24 * i))) _ _ _ x rowsLater (prepare-here valley s stamp i bytes lawful k) (retry-here valley s stamp i bytes lawful k) (outcome-here valley s stamp i bytes lawful k))
+          rw (h .place, h .rows) (row-seen (rowOf s (fieldsAt s (24 + 24 * i))) _ _ _ x rowsLater (prepare-here valley s stamp i bytes has-image k) (retry-here valley s stamp i bytes has-image k) (outcome-here valley s stamp i bytes has-image k))
 
   -- and what is counted by its bytes is counted of its row
   pub votes-turn : (prepare retry : ℕ) → 0 < prepare → count (holdsCodes prepare retry) rowsNow ≡ bit (both (eqb (fields .prepare) prepare) (eqb (fields .retry) retry)) + count (holdsCodes prepare retry) rowsLater
@@ -119,12 +118,12 @@ module _ (newest stamp : ℕ) (s : List ℕ) (bytes : AllBytes s) (lawful : Lawf
       go (inr (i, w)) = let n : eqb 0 prepare ≡ false = ne-eqb 0 prepare (λ e. absurd (omega arith)) in rw (w .place, w .rows, n) (omega arith)
       go (inl (i, h)) =
           let k = h .index in
-          rw (h .place, h .rows, prepare-here valley s stamp i bytes lawful k, retry-here valley s stamp i bytes lawful k) refl
+          rw (h .place, h .rows, prepare-here valley s stamp i bytes has-image k, retry-here valley s stamp i bytes has-image k) refl
 
 -- ---- the first image that holds a stamp
 
 pub record FirstHeld (newest stamp : ℕ) (Ts : List Table) (s t : List ℕ) : Type 0 where
-  pub lawful : Lawful valley t
+  pub has-image : BeginsWithImage valley t
   pub bytes : AllBytes t
   pub i : ℕ
   pub place : placeIn newest (tableAt formatOne t) stamp ≡ Held i
@@ -157,16 +156,16 @@ first-held newest stamp (T ∷ Ts) s bytes h l =
     go : parse formatOne valley s ≡ some T → (0 < length (rowsOf (usedOf newest Ts) stamp) → FirstHeld newest stamp Ts (drop (imageLength formatOne T) s) (fromFirst newest stamp Ts (drop (imageLength formatOne T) s))) → FirstHeld newest stamp (T ∷ Ts) s (fromFirst newest stamp (T ∷ Ts) s)
     go p later =
         let e : tableAt formatOne s ≡ T = parse-reads formatOne valley s T p .0 in
-        let lawful : Lawful valley s = p ∙ ap some (sym e) in
-        by lawful e (told newest stamp s bytes lawful Ts)
+        let has-image : BeginsWithImage valley s = p ∙ ap some (sym e) in
+        by has-image e (told newest stamp s bytes has-image Ts)
       where
-        by : (lawful : Lawful valley s) → tableAt formatOne s ≡ T → Told newest stamp s bytes lawful Ts → FirstHeld newest stamp (T ∷ Ts) s (fromFirst newest stamp (T ∷ Ts) s)
-        by lawful e (inl (i, w)) =
+        by : (has-image : BeginsWithImage valley s) → tableAt formatOne s ≡ T → Told newest stamp s bytes has-image Ts → FirstHeld newest stamp (T ∷ Ts) s (fromFirst newest stamp (T ∷ Ts) s)
+        by has-image e (inl (i, w)) =
             let k : placeIn newest T stamp ≡ Held i = rw e at (w .place) in
-            rw (from-here newest stamp i T Ts s k) (record { lawful = lawful; bytes = bytes; i = i; place = w .place; index = w .index; others = rowsOf (usedOf newest Ts) stamp; rows = rw e at (w .rows) })
-        by lawful e (inr (i, w)) =
+            rw (from-here newest stamp i T Ts s k) (record { has-image = has-image; bytes = bytes; i = i; place = w .place; index = w .index; others = rowsOf (usedOf newest Ts) stamp; rows = rw e at (w .rows) })
+        by has-image e (inr (i, w)) =
             let k : placeIn newest T stamp ≡ Absent i = rw e at (w .place) in
             let m : rowsOf (usedOf newest (T ∷ Ts)) stamp ≡ rowsOf (usedOf newest Ts) stamp = rw e at (w .rows) in
             let n : 0 < length (rowsOf (usedOf newest Ts) stamp) = rw m at l in
             let u = later n in
-            rw (from-later newest stamp i T Ts s k) (record { lawful = u .lawful; bytes = u .bytes; i = u .i; place = u .place; index = u .index; others = u .others; rows = m ∙ u .rows })
+            rw (from-later newest stamp i T Ts s k) (record { has-image = u .has-image; bytes = u .bytes; i = u .i; place = u .place; index = u .index; others = u .others; rows = m ∙ u .rows })

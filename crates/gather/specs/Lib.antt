@@ -1,4 +1,1 @@
-pub mod Held
-pub mod Stamps
-pub mod State
-pub mod Agreed
+pub mod Inner

@@ -8,9 +8,9 @@ ghost use lib.Dec.{eqb};
 ghost use Rattle.rules.specs.Tests.{both, count};
 ghost use Rattle.rules.specs.Tables.{valley};
 ghost use Rattle.rules.specs.Merge.{rowsOf, agreedOf};
-ghost use Rattle.run.specs.Runs.{tablesOf, Images};
-ghost use Rattle.gather.specs.Held.{usedOf};
-ghost use Rattle.gather.specs.Agreed.{isTentative, holdsCodes, isEnough, agreedAs};
+ghost use Rattle.image_run.specs.Inner.WholeRuns.{tablesOf, Images};
+ghost use Rattle.gather.specs.Inner.UsedTables.{usedOf};
+ghost use Rattle.gather.specs.Inner.Agreed.{isTentative, holdsCodes, isEnough, agreedAs};
 
 // A result's code and its retry stamp; 0 if none is agreed.
 pub struct Agreed {

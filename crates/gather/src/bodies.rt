@@ -10,16 +10,15 @@ ghost use Rattle.rules.specs.Tests.{any};
 ghost use Rattle.rules.specs.Tables.{valley};
 ghost use Rattle.rules.specs.Merge.{rowsOf, twoBodies};
 ghost use Rattle.rows.specs.Read.{bodyAt};
-ghost use Rattle.rows.specs.Rows.{BodyInside};
+ghost use Rattle.rows.specs.Inner.Rows.{BodyInside};
 ghost use Rattle.table.specs.Images.{formatOne};
-ghost use Rattle.table.specs.Parse.{tableAt};
-ghost use Rattle.seek.specs.Lent.{Lawful};
-ghost use Rattle.run.specs.Runs.{tablesOf, Images};
-ghost use Rattle.gather.specs.Held.{usedOf, otherIn};
+ghost use Rattle.table.specs.Parse.{tableAt, BeginsWithImage};
+ghost use Rattle.image_run.specs.Inner.WholeRuns.{tablesOf, Images};
+ghost use Rattle.gather.specs.Inner.UsedTables.{usedOf, otherIn};
 
 // Whether a used table holds a row's stamp with another body than the row has in its own image.
 fn other_in<'a>(image: &'a [u8], newest: u32, first: &'a [u8], given: RowFields) -> bool
-    requires { ⌜ Lawful valley (now image) × BodyInside (now first) given ⌝ }
+    requires { ⌜ BeginsWithImage valley (now image) × BodyInside (now first) given ⌝ }
     ensures { λ r. ⌜ r ≡ otherIn newest (given .stamp) (bodyAt (now (first .entry)) (given .offset) (given .reads) (given .writes)) (tableAt formatOne (now (image .entry))) ⌝ }
 {
     let h = header::read(image);

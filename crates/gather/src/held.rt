@@ -7,14 +7,13 @@ use table::header;
 ghost use mathlib.Core.Path.{_≡_};
 ghost use Rattle.rules.specs.Tables.{valley};
 ghost use Rattle.table.specs.Images.{formatOne};
-ghost use Rattle.table.specs.Parse.{tableAt};
-ghost use Rattle.seek.specs.Lent.{Lawful};
-ghost use Rattle.run.specs.Runs.{tablesOf, Images};
-ghost use Rattle.gather.specs.Held.{placeIn, isHeld, fieldsFor, fromFirst};
+ghost use Rattle.table.specs.Parse.{tableAt, BeginsWithImage};
+ghost use Rattle.image_run.specs.Inner.WholeRuns.{tablesOf, Images};
+ghost use Rattle.gather.specs.Inner.UsedTables.{placeIn, isHeld, fieldsFor, fromFirst};
 
 // Where a table holds a stamp, if it is used. One of an older view holds nothing for a merge.
 fn place_in(image: &[u8], newest: u32, stamp: u64) -> Place
-    requires { ⌜ Lawful valley (now image) ⌝ }
+    requires { ⌜ BeginsWithImage valley (now image) ⌝ }
     ensures { λ r. ⌜ r ≡ placeIn newest (tableAt formatOne (now (image .entry))) stamp ⌝ }
 {
     let h = header::read(image);
@@ -26,7 +25,7 @@ fn place_in(image: &[u8], newest: u32, stamp: u64) -> Place
 
 // The fields of a stamp's row in a used table; zeros if there is none, which say nothing.
 pub fn fields_in(image: &[u8], newest: u32, stamp: u64) -> RowFields
-    requires { ⌜ Lawful valley (now image) ⌝ }
+    requires { ⌜ BeginsWithImage valley (now image) ⌝ }
     ensures { λ r. ⌜ r ≡ fieldsFor (now (image .entry)) (placeIn newest (tableAt formatOne (now (image .entry))) stamp) ⌝ }
 {
     let Place::Held { row: index } = place_in(image, newest, stamp) else {
@@ -45,7 +44,7 @@ pub fn fields_in(image: &[u8], newest: u32, stamp: u64) -> RowFields
 
 // Whether a used table holds a stamp.
 fn is_held(image: &[u8], newest: u32, stamp: u64) -> bool
-    requires { ⌜ Lawful valley (now image) ⌝ }
+    requires { ⌜ BeginsWithImage valley (now image) ⌝ }
     ensures { λ r. ⌜ r ≡ isHeld (placeIn newest (tableAt formatOne (now (image .entry))) stamp) ⌝ }
 {
     match place_in(image, newest, stamp) {

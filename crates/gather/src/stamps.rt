@@ -8,11 +8,10 @@ ghost use Prim.Native.Nat.{_^_, _<_};
 ghost use Rattle.rules.specs.Tables.{valley};
 ghost use Rattle.rules.specs.Merge.{stamps};
 ghost use Rattle.table.specs.Images.{formatOne};
-ghost use Rattle.table.specs.Parse.{tableAt};
-ghost use Rattle.seek.specs.Lent.{Lawful};
-ghost use Rattle.run.specs.Runs.{tablesOf, Images};
-ghost use Rattle.gather.specs.Held.{usedOf};
-ghost use Rattle.gather.specs.Stamps.{nextAfter, stampAbove, indexOf};
+ghost use Rattle.table.specs.Parse.{tableAt, BeginsWithImage};
+ghost use Rattle.image_run.specs.Inner.WholeRuns.{tablesOf, Images};
+ghost use Rattle.gather.specs.Inner.UsedTables.{usedOf};
+ghost use Rattle.gather.specs.Inner.Stamps.{nextAfter, stampAbove, indexOf};
 
 // No stamp: above all of them.
 pub const NO_STAMP: u64 = 0x1_0000_0000_0000;
@@ -29,7 +28,7 @@ fn index_of(place: Place) -> usize
 
 // The least stamp of a table above the last one, if it is used.
 fn stamp_above(image: &[u8], newest: u32, last: u64) -> u64
-    requires { ⌜ Lawful valley (now image) × (last < 2 ^ 48) ⌝ }
+    requires { ⌜ BeginsWithImage valley (now image) × (last < 2 ^ 48) ⌝ }
     ensures { λ r. ⌜ r ≡ stampAbove newest (tableAt formatOne (now (image .entry))) last ⌝ }
 {
     let h = header::read(image);

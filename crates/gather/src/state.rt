@@ -5,9 +5,9 @@ use table::header;
 ghost use mathlib.Core.Path.{_≡_};
 ghost use Rattle.rules.specs.Tables.{valley};
 ghost use Rattle.rules.specs.Merge.{rowsOf};
-ghost use Rattle.run.specs.Runs.{tablesOf, Images};
-ghost use Rattle.gather.specs.Held.{usedOf};
-ghost use Rattle.gather.specs.State.{stateOf, sawFinal, sawPrepare, sawOutcome, contradicts, outcomeHeld};
+ghost use Rattle.image_run.specs.Inner.WholeRuns.{tablesOf, Images};
+ghost use Rattle.gather.specs.Inner.UsedTables.{usedOf};
+ghost use Rattle.gather.specs.Inner.State.{stateOf, sawFinal, sawPrepare, sawOutcome, contradicts, outcomeHeld};
 
 // The first final result, with its retry stamp, or 0; whether a prepare byte is held at all; whether another final result is held; whether a commit is, and whether an abort is.
 pub struct State {

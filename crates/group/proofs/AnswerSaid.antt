@@ -23,14 +23,14 @@ use Rattle.rules.proofs.Answers.{answer-same-box}
 use Rattle.table.specs.Images.{formatOne}
 use Rattle.table.specs.Parse.{parse}
 use Rattle.table.proofs.Images.{Sound, parse-by-rule}
-use Rattle.message.specs.Messages.{messageAt}
-use Rattle.message.specs.Read.{messageTo}
+use Rattle.message.specs.Messages.{messageAt, messageTo}
 use Rattle.transact.specs.Replies.{replyAs, replyBytes}
 use Rattle.answer.specs.Calls.{callNumber, callTable, callReply}
 use Rattle.answer.proofs.AnswerCall.{refusal-bytes, answer-refused, refused-reply, answer-as-rules, answer-length}
 use Rattle.answer.proofs.AnswerWays.{Large, AnswerWay.noMessage, AnswerWay.breaksRule, AnswerWay.served, own-rule, served-other, way-exactly}
-use Rattle.group.specs.Said as bytes
-use Rattle.group.specs.Said.{messageIn, said}
+use Rattle.group.specs.Inner.StandIns as bytes
+use Rattle.group.specs.Said.{messageIn}
+use Rattle.group.specs.Inner.StandIns.{said}
 
 -- ---- what bytes are said to be
 

@@ -13,15 +13,15 @@ use Rattle.rules.specs.Answers.{Answer, answer}
 use Rattle.rules.specs.Check.{check}
 use Rattle.rules.proofs.Logic.{eqb-self, same?}
 use Rattle.table.specs.Images.{formatOne}
-use Rattle.table.specs.Parse.{tableAt}
+use Rattle.table.specs.Parse.{tableAt, BeginsWithImage}
 use Rattle.table.proofs.Images.{Sound, parse-reads, parse-by-rule}
 use Rattle.answer.specs.Calls.{callNumber, callTable, callReply}
 use Rattle.history.specs.Survival as history
 use Rattle.history.specs.Survival.{put}
 use Rattle.history.proofs.Follow.Follows.{and-last}
-use Rattle.group.specs.Said.{said, replyIn}
+use Rattle.group.specs.Inner.StandIns.{said}
+use Rattle.group.specs.Said.{replyIn}
 use Rattle.group.specs.Acts.{Sent, GroupInBuffers, answering}
-use Rattle.group.specs.Survival.{BeginsWithImage}
 use Rattle.group.proofs.Reading.{sentAs, answeredAs, tablesIn, reading}
 use Rattle.group.proofs.Listed.{map-last}
 use Rattle.group.proofs.ImagesIn.{begins-with}

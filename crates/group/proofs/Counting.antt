@@ -8,18 +8,21 @@ use native.Mathlib.Omega.{arith}
 use lib.Dec.{eqb, ltb}
 use lib.ListN.{length}
 use borrow.Author.Tests.{ltb-true}
-use Rattle.wire.specs.Numbers.{numberAt, AllBytes}
+use Rattle.wire.specs.Numbers.{numberAt}
+use Rattle.wire.specs.Inner.ByteLists.{AllBytes}
 use Rattle.wire.proofs.Numbers.{numberAt-below}
 use Rattle.rules.specs.Tests.{bit}
 use Rattle.rules.specs.Tables.{Prepare.tentative, Prepare.final, prepareCode, prepareRetry, Model}
 use Rattle.rules.specs.Count as rules
+use Rattle.rules.specs.Inner.CountAnswers.{countedNumber}
 use Rattle.rules.proofs.Logic.{cases}
 use Rattle.rows.specs.Fields.{resultNumbered}
-use Rattle.message.proofs.Lawful.{ResultCoded}
+use Rattle.message.proofs.KeepingRules.{ResultCoded}
 use Rattle.replies.specs.declared.held.Reply.{Reply}
-use Rattle.replies.specs.Heard.{resultRead, heard, allHeard}
+use Rattle.replies.specs.PlainReplies.{resultRead, heard, allHeard}
 use Rattle.replies.proofs.Turns.{coded}
-use Rattle.count.specs.Calls.{recordsBytes, countOf, countBytes}
+use Rattle.count.specs.Inner.RecordBytes.{recordsBytes}
+use Rattle.count.specs.Calls.{countOf, countBytes}
 use Rattle.count.proofs.HeardBytes.{FieldsFit, AllFit, same-count}
 use Rattle.count.proofs.CountWays.{Lent.records, BadLent, BadLent.badResult}
 use Rattle.count.proofs.CountCall.{answered-by-rules}
@@ -57,7 +60,7 @@ module _ (M : Model) (B : GroupInBuffers) (good : Good M B) (s v : ℕ) where
       }
 
   -- an answer that is no refusal: the count of `rules` of what the replies say is that answer
-  pub counted-said : (replies : List (List ℕ)) → Counting M B s v replies → (c : rules.Counted) → countOf (B .n) (map recordOf replies) ≡ c → rules.countedNumber c ≡ 0 →
+  pub counted-said : (replies : List (List ℕ)) → Counting M B s v replies → (c : rules.Counted) → countOf (B .n) (map recordOf replies) ≡ c → countedNumber c ≡ 0 →
       history.Replies (reading M B) s v (allHeard (map recordOf replies)) × (rules.counted (B .n) (allHeard (map recordOf replies)) ≡ c)
   counted-said replies given c e z = let (fine, is) = answered-by-rules (B .n) (records (map recordOf replies)) c e z in (all-replied fine, is)
     where

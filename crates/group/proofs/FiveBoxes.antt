@@ -12,9 +12,9 @@ use Rattle.rules.specs.Check.{check}
 use Rattle.table.specs.Fresh.{freshNumber}
 use Rattle.table.proofs.Images.{valley-sound}
 use Rattle.history.specs.Survival.{after, Lawful}
-use Rattle.histories.specs.FiveBoxes.{fiveBoxes, afterFiveBoxes}
-use Rattle.histories.proofs.Computing.{computing}
-use Rattle.histories.proofs.FiveBoxes.{five-boxes-lawful}
+use Rattle.history_cases.specs.FiveBoxes.{fiveBoxes, afterFiveBoxes}
+use Rattle.history_cases.proofs.Computing.{computing}
+use Rattle.history_cases.proofs.FiveBoxes.{five-boxes-lawful}
 use Rattle.group.specs.Acts.{freshBoxes, Act, afterActs}
 use Rattle.group.specs.Rules.{ByTheRules}
 use Rattle.group.proofs.Reading.{reading}

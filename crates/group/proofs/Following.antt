@@ -22,7 +22,7 @@ use Rattle.merge.specs.Calls as merge
 use Rattle.merge.proofs.MergeCall as merges
 use Rattle.history.specs.Survival as history
 use Rattle.history.specs.Survival.{Group, Event, at, step, after, Lawful}
-use Rattle.group.specs.Said.{said}
+use Rattle.group.specs.Inner.StandIns.{said}
 use Rattle.group.specs.Acts.{Sent, GroupInBuffers, Act, Act.sends, Act.arrives, Act.declares, Act.merges, arriving, act, afterActs}
 use Rattle.group.specs.Rules.{MayAct, ByTheRules}
 use Rattle.group.proofs.Reading.{sentAs, reading}

@@ -7,11 +7,10 @@ use lib.ListN.{length}
 use Rattle.rules.specs.Groups.{isGroup}
 use Rattle.rules.specs.Tables.{Model}
 use Rattle.table.specs.Images.{formatOne}
-use Rattle.table.specs.Parse.{tableAt}
+use Rattle.table.specs.Parse.{tableAt, BeginsWithImage}
 use Rattle.history.specs.Survival.{_∈_, Declared}
 use Rattle.group.specs.Said.{replyIn}
 use Rattle.group.specs.Acts.{Sent, Answered, Merged, GroupInBuffers, sending, declaring}
-use Rattle.group.specs.Survival.{BeginsWithImage}
 
 -- the table buffer of a box of a group of n
 pub record Kept (M : Model) (n b : ℕ) (s : List ℕ) : Type 0 where

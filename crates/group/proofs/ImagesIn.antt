@@ -9,12 +9,11 @@ use lib.Seq.{take-at}
 use Rattle.rules.specs.Tables.{Table, Model, tableByRule}
 use Rattle.table.specs.Headers.{headerAt}
 use Rattle.table.specs.Images.{formatOne, image}
-use Rattle.table.specs.Parse.{tableAt, parse}
+use Rattle.table.specs.Parse.{tableAt, parse, BeginsWithImage}
 use Rattle.table.proofs.Images.{Sound, parse-reads, parse-begins, parse-by-rule, header-says}
-use Rattle.run.specs.Runs.{laidOut}
+use Rattle.image_run.specs.Inner.WholeRuns.{laidOut}
 use Rattle.history.specs.Survival.{_∈_}
 use Rattle.group.specs.Said.{imageIn, laidImages}
-use Rattle.group.specs.Survival.{BeginsWithImage}
 
 -- bytes that parse begin with the image that is read off them
 pub begins-with : (M : Model) (s : List ℕ) (T : Table) → parse formatOne M s ≡ some T → BeginsWithImage M s

@@ -17,11 +17,11 @@ use Rattle.rules.specs.Merge as rules
 use Rattle.rules.proofs.Logic.{same?}
 use Rattle.table.specs.Images.{formatOne, image}
 use Rattle.table.proofs.Images.{Sound}
-use Rattle.run.specs.Runs.{oneOrMore, images, runTables}
-use Rattle.run.proofs.RunTurns.{run-read}
+use Rattle.image_run.specs.Runs.{oneOrMore, images, runTables}
+use Rattle.image_run.proofs.RunTurns.{run-read}
 use Rattle.merge.specs.Calls.{callNumber, callOutput}
 use Rattle.merge.proofs.MergeCall.{MergeDone, merge-done, merge-refused, merge-number, merge-output, numberOf, tables-number}
-use Rattle.group.specs.Held.{Leaves}
+use Rattle.group.specs.Inner.HeldGroups.{Leaves}
 
 module _ (M : Model) (run : List ℕ) (v : ℕ) (out : List ℕ) where
   module _ (sound : Sound formatOne M) (room : 24 + 96 * M .rowLimit ≤ M .leastBuffer) (Ts : List Table) (are : images M run ≡ some Ts) (large : M .leastBuffer ≤ length out) where

@@ -14,10 +14,10 @@ use Rattle.rules.specs.Check.{check}
 use Rattle.rules.specs.Merge as rules
 use Rattle.rules.proofs.Logic.{same?}
 use Rattle.table.specs.Images.{formatOne}
-use Rattle.table.specs.Parse.{tableAt, parse}
+use Rattle.table.specs.Parse.{tableAt, parse, BeginsWithImage}
 use Rattle.table.proofs.Images.{Sound, parse-reads, parse-by-rule}
-use Rattle.run.specs.Runs.{images}
-use Rattle.run.proofs.RunTurns.{images-laid}
+use Rattle.image_run.specs.Runs.{images}
+use Rattle.image_run.proofs.RunTurns.{images-laid}
 use Rattle.merge.specs.Calls as merge
 use Rattle.merge.proofs.MergeCall.{merge-done}
 use Rattle.history.specs.Survival as history
@@ -25,8 +25,7 @@ use Rattle.history.specs.Survival.{_∈_, Event, at, step}
 use Rattle.history.proofs.Follow.Follows.{and-last}
 use Rattle.group.specs.Acts.{Merged, GroupInBuffers, Act.merges, merging, mergingBy, act}
 use Rattle.group.specs.Rules.{OfBoxes}
-use Rattle.group.specs.Survival.{BeginsWithImage}
-use Rattle.group.specs.Held.{Leaves}
+use Rattle.group.specs.Inner.HeldGroups.{Leaves}
 use Rattle.group.proofs.Reading.{mergedAs, reading}
 use Rattle.group.proofs.Listed.{map-last, places-of, each-mapped}
 use Rattle.group.proofs.ImagesIn.{begins-with, images-in}

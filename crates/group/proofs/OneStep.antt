@@ -19,15 +19,16 @@ use Rattle.rules.proofs.Logic.{eqb-self, same?}
 use Rattle.table.specs.Images.{formatOne}
 use Rattle.table.specs.Parse.{parse}
 use Rattle.table.proofs.Images.{Sound, parse-by-rule}
-use Rattle.run.specs.Runs.{laidOut, images}
-use Rattle.run.proofs.RunTurns.{images-laid}
+use Rattle.image_run.specs.Inner.WholeRuns.{laidOut}
+use Rattle.image_run.specs.Runs.{images}
+use Rattle.image_run.proofs.RunTurns.{images-laid}
 use Rattle.transact.specs.Replies.{replyAs, replyBytes}
 use Rattle.answer.specs.Calls.{callNumber, callTable, callReply}
 use Rattle.merge.specs.Calls as merge
 use Rattle.history.specs.Survival as history
 use Rattle.history.specs.Survival.{_∈_, Group, Sent, Event.arrives, Event.merges, at, put, step}
-use Rattle.group.specs.Said.{said}
-use Rattle.group.specs.Held.{Holds, afterMessage, answerTo, Leaves}
+use Rattle.group.specs.Inner.StandIns.{said}
+use Rattle.group.specs.Inner.HeldGroups.{Holds, afterMessage, answerTo, Leaves}
 use Rattle.group.proofs.Listed.{at-last, places-of, each-mapped}
 use Rattle.group.proofs.AnswerSaid.{AnsweredAs, taken-reply, answered-as-said, kept-after}
 use Rattle.group.proofs.MergeLaid.{merge-laid}

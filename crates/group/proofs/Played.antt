@@ -18,12 +18,13 @@ use Rattle.rules.proofs.Logic.{both-left, both-right}
 use Rattle.table.specs.Images.{formatOne}
 use Rattle.table.specs.Parse.{tableAt}
 use Rattle.table.proofs.Images.{Sound}
-use Rattle.message.specs.Messages.{messageBytes}
+use Rattle.message.specs.Inner.MessageBytes.{messageBytes}
 use Rattle.message.proofs.Forms.{message-read}
 use Rattle.history.specs.Survival as history
 use Rattle.history.specs.Survival.{Group, Event, at, step, after, May, Lawful}
 use Rattle.history.proofs.Follow.Arrivals.{chosen-in}
-use Rattle.group.specs.Said.{messageIn, orNoMessage, laidImages}
+use Rattle.group.specs.Said.{messageIn, laidImages}
+use Rattle.group.specs.Inner.StandIns.{orNoMessage}
 use Rattle.group.specs.Acts.{GroupInBuffers, Act, Act.sends, Act.arrives, Act.declares, Act.merges, act, afterActs}
 use Rattle.group.specs.Rules.{OfBoxes, MaySend, MayAct, ByTheRules}
 use Rattle.group.proofs.Reading.{reading}

@@ -7,7 +7,8 @@ use Rattle.rules.specs.Tables.{Table, Model, freshTable}
 use Rattle.table.specs.Images.{formatOne}
 use Rattle.table.specs.Parse.{tableAt}
 use Rattle.history.specs.Survival as history
-use Rattle.group.specs.Said.{said, replyIn}
+use Rattle.group.specs.Inner.StandIns.{said}
+use Rattle.group.specs.Said.{replyIn}
 use Rattle.group.specs.Acts.{Sent, Answered, Merged, GroupInBuffers}
 
 module _ (M : Model) where

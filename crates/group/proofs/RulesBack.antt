@@ -13,15 +13,18 @@ use Rattle.rules.specs.Stamps.{Body}
 use Rattle.rules.specs.Tables.{Result, Result.OK, Result.ABORT, Result.ABSTAIN, Result.RETRY, Prepare.tentative, Prepare.final, resultCode, resultRetry, prepareCode, prepareRetry, Verdict, Table, Model}
 use Rattle.rules.specs.Messages.{Message, Message.proposePrepare, Message.finalisePrepare, Message.proposeOutcome, Message.finaliseOutcome, Message.changeView, Message.startView, Message.readRegister, kind}
 use Rattle.rules.specs.Answers.{Reply}
-use Rattle.rules.specs.Count.{Heard, badReplies, countNumber, Counted, Counted.fast, Counted.slow, Counted.refused, counted, countedNumber}
+use Rattle.rules.specs.Count.{Heard, badReplies, countNumber, Counted, Counted.fast, Counted.slow, Counted.refused, counted}
+use Rattle.rules.specs.Inner.CountAnswers.{countedNumber}
 use Rattle.rules.proofs.Logic.{same?}
 use Rattle.rules.proofs.Orders.{count-good}
-use Rattle.count.specs.Calls.{replyOf, countOf}
+use Rattle.count.specs.Inner.RecordBytes.{replyOf}
+use Rattle.count.specs.Calls.{countOf}
 use Rattle.count.proofs.Decisions.{by-rule}
 use Rattle.count.proofs.HeardBytes.{count-of-records}
 use Rattle.history.specs.Survival as history
 use Rattle.history.specs.Survival.{_∈_, Event}
-use Rattle.group.specs.Said.{replyIn, recordOf, said}
+use Rattle.group.specs.Said.{replyIn, recordOf}
+use Rattle.group.specs.Inner.StandIns.{said}
 use Rattle.group.specs.Acts.{GroupInBuffers, Act.declares}
 use Rattle.group.specs.Rules as bytes
 use Rattle.group.proofs.Reading.{answeredAs, mergedAs, reading}

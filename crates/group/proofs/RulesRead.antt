@@ -9,10 +9,11 @@ use Rattle.rules.specs.Stamps.{Body}
 use Rattle.rules.specs.Tables.{Result, Verdict, Table, Model}
 use Rattle.rules.specs.Messages.{Message, Message.proposePrepare, Message.finalisePrepare, Message.proposeOutcome, Message.finaliseOutcome, Message.changeView, Message.startView, Message.readRegister}
 use Rattle.rules.specs.Count.{Counted.fast, Counted.slow}
-use Rattle.replies.specs.Heard.{allHeard}
+use Rattle.replies.specs.PlainReplies.{allHeard}
 use Rattle.history.specs.Survival as history
 use Rattle.history.specs.Survival.{Event}
-use Rattle.group.specs.Said.{replyIn, recordOf, orNoMessage, messageIn, said}
+use Rattle.group.specs.Said.{replyIn, recordOf, messageIn}
+use Rattle.group.specs.Inner.StandIns.{orNoMessage, said}
 use Rattle.group.specs.Acts.{GroupInBuffers, Act.sends, Act.declares}
 use Rattle.group.specs.Rules as bytes
 use Rattle.group.proofs.Reading.{answeredAs, mergedAs, reading}

@@ -6,7 +6,8 @@ use Prim.Native.Nat.{ℕ}
 use Rattle.rules.specs.Tables.{Model}
 use Rattle.rules.specs.Messages.{Message, kind}
 use Rattle.history.specs.Survival as history
-use Rattle.group.specs.Said.{messageIn, orNoMessage, said, replyIn}
+use Rattle.group.specs.Said.{messageIn, replyIn}
+use Rattle.group.specs.Inner.StandIns.{orNoMessage, said}
 use Rattle.group.specs.Acts.{GroupInBuffers}
 use Rattle.group.specs.Rules.{Says, WasSent, Gave}
 use Rattle.group.proofs.Reading.{sentAs, answeredAs, reading}

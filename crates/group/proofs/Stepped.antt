@@ -25,14 +25,14 @@ use Rattle.table.proofs.FreshCall.{fresh-done, fresh-past, fresh-parses}
 use Rattle.transact.specs.Replies.{replyAs, replyBytes}
 use Rattle.answer.specs.Calls.{callNumber, callTable, callReply}
 use Rattle.answer.proofs.AnswerCall.{answer-length}
-use Rattle.run.specs.Runs.{laidOut}
+use Rattle.image_run.specs.Inner.WholeRuns.{laidOut}
 use Rattle.merge.specs.Calls as merge
-use Rattle.boxes.specs.Lent.{freshFirst, bufferOf, withBuffer, tablesNamed, runNamed, noRunRoom, mergeBoxesNumber, mergeBoxesOutput, startNumber, startTables}
+use Rattle.boxes.specs.Inner.OneBuffer.{freshFirst, bufferOf, withBuffer, tablesNamed, runNamed, noRunRoom, mergeBoxesNumber, mergeBoxesOutput, startNumber, startTables}
 use Rattle.boxes.proofs.LentTables.{ends-before, fresh-each, start-small, start-bad, start-done, buffer-same, buffer-other, length-with}
 use Rattle.history.specs.Survival as history
 use Rattle.history.specs.Survival.{_∈_, boxesBelow, Group, freshGroup, Event.merges, put, step}
-use Rattle.group.specs.Said.{said}
-use Rattle.group.specs.Held.{Holds, HoldsLent, afterMessage, answerTo, Leaves}
+use Rattle.group.specs.Inner.StandIns.{said}
+use Rattle.group.specs.Inner.HeldGroups.{Holds, HoldsLent, afterMessage, answerTo, Leaves}
 use Rattle.group.proofs.OneStep.{then-is, sent-and-answered, merges-steps, merge-is-merge}
 
 -- buffers that hold the same

@@ -13,16 +13,16 @@ use Rattle.rules.specs.Circumstances.{belowLimit}
 use Rattle.rules.specs.Check.{check}
 use Rattle.table.specs.Headers.{headerAt}
 use Rattle.table.specs.Images.{formatOne}
-use Rattle.table.specs.Parse.{tableAt}
+use Rattle.table.specs.Parse.{tableAt, BeginsWithImage}
 use Rattle.table.specs.Fresh.{freshNumber}
 use Rattle.table.proofs.Images.{Sound, valley-sound}
 use Rattle.history.specs.Survival as history
 use Rattle.history.specs.Survival.{_∈_, Lawful, after, freshGroup}
 use Rattle.history.proofs.Survival.{survival}
-use Rattle.group.specs.Said.{said}
+use Rattle.group.specs.Inner.StandIns.{said}
 use Rattle.group.specs.Acts.{Sent, Merged, GroupInBuffers, freshBoxes, Act, afterActs}
 use Rattle.group.specs.Rules.{Says, ByTheRules}
-use Rattle.group.specs.Survival.{rowsIn, BeginsWithImage, CallsSurvive}
+use Rattle.group.specs.Survival.{rowsIn, CallsSurvive}
 use Rattle.group.proofs.Reading.{sentAs, mergedAs, reading}
 use Rattle.group.proofs.Good.{Good}
 use Rattle.group.proofs.Says.{says, sent-said}

@@ -2,4 +2,4 @@ pub mod Said
 pub mod Acts
 pub mod Rules
 pub mod Survival
-pub mod Held
+pub mod Inner

@@ -1,18 +1,18 @@
 -- What bytes say: a message that boxes of a group take for one, a reply, the image at the start of a buffer.
 use mathlib.Core.Bool.{cond}
 use mathlib.Core.List.{List, [], _∷_, _++_}
-use mathlib.Core.Option.{Option, none, some}
+use mathlib.Core.Option.{Option}
 use Prim.Native.Nat.{ℕ, _-_}
 use lib.Dec.{ltb}
 use lib.ListN.{take}
 use Rattle.wire.specs.Numbers.{numberAt}
 use Rattle.rules.specs.Tests.{bit}
 use Rattle.rules.specs.Tables.{Model}
-use Rattle.rules.specs.Messages.{Message, Message.readRegister}
+use Rattle.rules.specs.Messages.{Message}
 use Rattle.rules.specs.Answers.{Reply}
 use Rattle.table.specs.Headers.{headerAt}
 use Rattle.table.specs.Images.{formatOne}
-use Rattle.message.specs.Read.{messageTo}
+use Rattle.message.specs.Messages.{messageTo}
 use Rattle.replies.specs.declared.held.Reply as replies
 
 -- ---- messages
@@ -20,18 +20,6 @@ use Rattle.replies.specs.declared.held.Reply as replies
 -- the message that boxes of a group of n take these bytes for; none if every one of them refuses the bytes with 3, "bad message"
 abbrev pub messageIn : Model → ℕ → List ℕ → Option Message
 messageIn M n bytes = messageTo formatOne M n bytes
-
--- a message that every box refuses with 3, as it refuses such bytes: a stamp is at least 1
-abbrev pub noMessage : Message
-noMessage = readRegister 0 0
-
-abbrev pub orNoMessage : Option Message → Message
-orNoMessage none = noMessage
-orNoMessage (some m) = m
-
--- what stands in a group's history for the bytes: bytes that are no message to anybody are a message that nobody takes, and no rule speaks of it
-abbrev pub said : Model → ℕ → List ℕ → Message
-said M n bytes = orNoMessage (messageIn M n bytes)
 
 -- ---- replies
 

@@ -3,7 +3,6 @@ use mathlib.Core.Path.{_≡_}
 use mathlib.Core.Bool.{true}
 use mathlib.Core.Logic.{_⊎_}
 use mathlib.Core.List.{List}
-use mathlib.Core.Option.{some}
 use Prim.Native.Nat.{ℕ, _<_}
 use Rattle.rules.specs.Stamps.{Access, Body}
 use Rattle.rules.specs.Tables.{Result, Prepare.final, Verdict, Verdict.commit, Outcome.done, Row, Model}
@@ -11,14 +10,10 @@ use Rattle.rules.specs.Messages.{Message.proposePrepare, Message.proposeOutcome
 use Rattle.rules.specs.Merge.{holdsVerdict}
 use Rattle.table.specs.Headers.{headerAt}
 use Rattle.table.specs.Images.{formatOne}
-use Rattle.table.specs.Parse.{tableAt, parse}
+use Rattle.table.specs.Parse.{tableAt, BeginsWithImage}
 use Rattle.history.specs.Survival.{_∈_}
 use Rattle.group.specs.Acts.{Sent, Merged, GroupInBuffers}
 use Rattle.group.specs.Rules.{Says, WasSent, WasDeclared, Accepted, QuorumOf}
-
--- bytes that begin with an image by the rules
-abbrev pub BeginsWithImage : Model → List ℕ → Type 0
-BeginsWithImage M s = parse formatOne M s ≡ some (tableAt formatOne s)
 
 -- the rows of the image that a buffer begins with
 abbrev pub rowsIn : List ℕ → List Row

@@ -9,7 +9,8 @@ use Rattle.rules.specs.Stamps.{Access, Body}
 use Rattle.rules.specs.Tables.{Verdict.commit, Model}
 use Rattle.rules.specs.Messages.{Message, Message.proposePrepare, Message.finalisePrepare, Message.proposeOutcome, Message.finaliseOutcome, Message.changeView, Message.startView, Message.readRegister, Check}
 use Rattle.rules.specs.Circumstances.{Room}
-use Rattle.rules.specs.Check.{check, clash}
+use Rattle.rules.specs.Check.{check}
+use Rattle.rules.specs.Inner.Clashes.{clash}
 use Rattle.rules.proofs.Logic.{either-first, eqb-self}
 use Rattle.rules.proofs.Lists.{_∈_}
 use Rattle.rules.proofs.Check.{overwrites-if, check-clear}

@@ -28,8 +28,9 @@ use Rattle.rules.proofs.Orders as orders
 use Rattle.table.specs.Images.{formatOne, imageLength, image}
 use Rattle.table.specs.Parse.{parse}
 use Rattle.table.proofs.Images.{Sound, valley-sound, length-image, image-at-most, image-parses}
-use Rattle.run.specs.Runs.{laidOut, orNone, runTables}
-use Rattle.run.proofs.RunTurns.{run-laid, laid-run}
+use Rattle.image_run.specs.Inner.WholeRuns.{laidOut}
+use Rattle.image_run.specs.Runs.{orNone, runTables}
+use Rattle.image_run.proofs.RunTurns.{run-laid, laid-run}
 use Rattle.merge.specs.Calls.{readCircumstances, callCircumstances, callNumber, callOutput}
 
 -- ---- the number, computed

@@ -16,11 +16,12 @@ use Rattle.rules.specs.Check.{check}
 use Rattle.rules.specs.Merge.{used, stamps, areWrong, mergeNumber, mergedTable}
 use Rattle.rules.proofs.Logic.{cases}
 use Rattle.table.specs.Images.{formatOne, image}
-use Rattle.run.specs.Runs.{tablesOf, runTables}
-use Rattle.run.proofs.RunTurns.{run-told, not-run}
-use Rattle.gather.specs.Held.{usedOf}
+use Rattle.image_run.specs.Inner.WholeRuns.{tablesOf}
+use Rattle.image_run.specs.Runs.{runTables}
+use Rattle.image_run.proofs.RunTurns.{run-told, not-run}
+use Rattle.gather.specs.Inner.UsedTables.{usedOf}
 use Rattle.decide.specs.declared.survey.Survey.{Survey}
-use Rattle.decide.specs.Surveyed.{surveyed, surveyNumber}
+use Rattle.decide.specs.Inner.Surveyed.{surveyed, surveyNumber}
 use Rattle.merge.specs.Calls.{callNumber, callOutput}
 use Rattle.merge.proofs.MergeCall.{merge-number, merge-refused, tables-number}
 

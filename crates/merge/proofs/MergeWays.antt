@@ -17,8 +17,9 @@ use Rattle.rules.proofs.Lists.{_∈_, places, any-some, none-any}
 use Rattle.rules.proofs.Stamps.{rows-nowhere}
 use Rattle.table.specs.Images.{formatOne}
 use Rattle.table.proofs.Images.{Sound}
-use Rattle.run.specs.Runs.{laidOut, runTables}
-use Rattle.run.proofs.RunTurns.{run-laid, laid-run}
+use Rattle.image_run.specs.Inner.WholeRuns.{laidOut}
+use Rattle.image_run.specs.Runs.{runTables}
+use Rattle.image_run.proofs.RunTurns.{run-laid, laid-run}
 use Rattle.merge.specs.Calls.{callNumber}
 use Rattle.merge.proofs.MergeCall.{numberOf, somewhere, tables-number, merge-number}
 

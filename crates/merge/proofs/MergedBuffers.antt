@@ -6,7 +6,7 @@ use Prim.Native.Nat.{ℕ, _+_, _*_, _%_, _≤_}
 use native.Mathlib.Omega.{arith}
 use lib.ListN.{length, drop}
 use Rattle.wire.specs.Parts.{replaced}
-use Rattle.wire.specs.Numbers.{AllBytes}
+use Rattle.wire.specs.Inner.ByteLists.{AllBytes}
 use Rattle.wire.proofs.Parts.{replaced-start, replaced-over}
 use Rattle.rules.specs.Tests.{every}
 use Rattle.rules.specs.Groups.{fOf, agreementCount}
@@ -21,13 +21,14 @@ use Rattle.table.specs.Headers.{headerBytes}
 use Rattle.table.specs.Images.{formatOne, imageLength, headerOf, image}
 use Rattle.table.specs.Parse.{tableAt}
 use Rattle.table.proofs.Images.{length-image, image-among}
-use Rattle.edit.specs.Edited.{Holds, edited}
+use Rattle.edit.specs.Inner.Holding.{Holds}
+use Rattle.edit.specs.Edited.{edited}
 use Rattle.edit.proofs.Holding.{one-starts}
 use Rattle.edit.proofs.EditedBuffers.{edited-grown}
 use Rattle.gather.proofs.NextStamps.{AllRegular}
-use Rattle.settle.specs.Turns.{hasStamp, checkedRows}
+use Rattle.settle.specs.Inner.Turns.{hasStamp, checkedRows}
 use Rattle.settle.proofs.ChecksInTurn.{merged-in-turn, checked-rising, checked-stamped, checked-length, checked-image-length, unchecked-rising, unchecked-stamped, unchecked-length}
-use Rattle.merge.specs.Written.{laidDown, startHeader}
+use Rattle.merge.specs.Inner.Written.{laidDown, startHeader}
 use Rattle.merge.proofs.RowsLaid.{laid-image}
 
 -- a table over the start of a buffer is what the buffer holds

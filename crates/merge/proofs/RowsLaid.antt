@@ -15,7 +15,7 @@ use Rattle.table.specs.Headers.{headerBytes}
 use Rattle.table.specs.Images.{formatOne, headerOf, image}
 use Rattle.table.proofs.Headers.{length-header}
 use Rattle.edit.proofs.RowsJoined.{bodies-joined, rows-joined}
-use Rattle.merge.specs.Written.{laidDown}
+use Rattle.merge.specs.Inner.Written.{laidDown}
 
 -- ---- row after row
 

@@ -6,7 +6,7 @@ use Prim.Native.Nat.{ℕ, _+_, _*_, _≤_}
 use native.Mathlib.Omega.{arith}
 use lib.ListN.{length, length-map}
 use Rattle.wire.specs.Parts.{replaced}
-use Rattle.wire.specs.Numbers.{AllBytes}
+use Rattle.wire.specs.Inner.ByteLists.{AllBytes}
 use Rattle.rules.specs.Tables.{Row, Table, rowByRule}
 use Rattle.rules.specs.Merge.{rowsOf, stamps, bodyOf, standing, mergedOutcome, uncheckedPrepare, uncheckedRow, uncheckedRows}
 use Rattle.rules.proofs.Lists.{_∈_, every-one}
@@ -15,20 +15,21 @@ use Rattle.rules.proofs.Merge.{some-row}
 use Rattle.rules.proofs.Tables.{row-facts}
 use Rattle.rows.specs.declared.row.RowFields.{RowFields}
 use Rattle.rows.specs.Bytes.{bodyBytes, lengthOf, bodiesLength, rowBytes}
-use Rattle.rows.specs.Fields.{withPrepareByte, withOutcomeByte, fieldsOf, fieldsBytes, retryByCode, prepareNumbered, outcomeNumbered}
+use Rattle.rows.specs.Inner.ChangedFields.{withPrepareByte, withOutcomeByte}
+use Rattle.rows.specs.Fields.{fieldsOf, fieldsBytes, retryByCode, prepareNumbered, outcomeNumbered}
 use Rattle.rows.specs.Read.{rowOf}
-use Rattle.rows.specs.Rows.{bodyPart}
+use Rattle.rows.specs.Inner.Rows.{bodyPart}
 use Rattle.rows.proofs.Bodies.{length-body, body-size, body-part}
 use Rattle.rows.proofs.FieldsRead.{fields-of-row}
 use Rattle.table.specs.Images.{formatOne}
 use Rattle.table.specs.Parse.{tableAt}
-use Rattle.gather.specs.Held.{usedOf, placeIn, fieldsFor}
+use Rattle.gather.specs.Inner.UsedTables.{usedOf, placeIn, fieldsFor}
 use Rattle.gather.proofs.NextStamps.{AllRegular, used-regular}
 use Rattle.gather.proofs.UsedRows.{FirstHeld}
 use Rattle.gather.proofs.FirstImages.{first-body, first-stamp, first-row}
 use Rattle.decide.specs.declared.unchecked.Unchecked.{Unchecked}
-use Rattle.merge.specs.Written.{rowLaid}
-use Rattle.decide.specs.Unsettled.{uncheckedAs}
+use Rattle.merge.specs.Inner.Written.{rowLaid}
+use Rattle.decide.specs.Inner.Unsettled.{uncheckedAs}
 use Rattle.decide.proofs.UncheckedBytes.{unchecked-codes, unchecked-numbered}
 
 -- ---- the rows of these stamps

@@ -14,10 +14,10 @@ use Rattle.rules.proofs.Stamps.{RisingFrom}
 use Rattle.rules.proofs.Votes.{those-length}
 use Rattle.rows.specs.Bytes.{lengthOf, bodiesLength}
 use Rattle.edit.proofs.RowsJoined.{bodies-length-joined}
-use Rattle.gather.specs.Stamps.{nextAfter}
+use Rattle.gather.specs.Inner.Stamps.{nextAfter}
 use Rattle.gather.proofs.NextStamps.{AllRegular, Stamped, stamps-stamped, stamps-from-one}
 use Rattle.gather.proofs.StampsInTurn.{below, below-all, below-first, below-next, next-in}
-use Rattle.merge.specs.Written.{laidDown, rowLaid}
+use Rattle.merge.specs.Inner.Written.{laidDown, rowLaid}
 use Rattle.merge.proofs.RowsWritten.{rowsFor, rows-for-all, rows-for-last, rows-for-length, bodies-small}
 use Rattle.merge.proofs.RowsLaid.{laid-none, laid-more}
 

@@ -12,7 +12,7 @@ use Rattle.rules.specs.Circumstances.{tooSmall}
 use Rattle.rules.specs.Check.{check}
 use Rattle.rules.specs.Merge.{mergeCircumstances, mergedTable}
 use Rattle.table.specs.Images.{formatOne, image}
-use Rattle.run.specs.Runs.{runTables, orNone}
+use Rattle.image_run.specs.Runs.{runTables, orNone}
 
 -- 2, "bad table": "for a merge, the run isn't one or more whole images". Rows that come later in the order may apply as well. They lose, and are not listed
 abbrev pub readCircumstances : Model → ℕ → Option (List Table) → List Circumstance

@@ -1,9 +1,9 @@
 // The merge: the public call, which ends with a number of 01's list.
 use crate::write;
 use decide::survey;
-use run::newest;
-use run::whole;
-use run::wrong;
+use image_run::newest;
+use image_run::whole;
+use image_run::wrong;
 use table::header;
 use table::header::Header;
 use table::model::Model;
@@ -15,10 +15,10 @@ ghost use Rattle.rules.specs.Tables.{valley};
 ghost use Rattle.rules.specs.Check.{check};
 ghost use Rattle.rules.specs.Merge.{used, stamps, mergedTable};
 ghost use Rattle.table.specs.Images.{formatOne, image};
-ghost use Rattle.run.specs.Runs.{tablesOf, Images};
-ghost use Rattle.gather.specs.Held.{usedOf};
+ghost use Rattle.image_run.specs.Inner.WholeRuns.{tablesOf, Images};
+ghost use Rattle.gather.specs.Inner.UsedTables.{usedOf};
 ghost use Rattle.merge.specs.Calls.{callNumber, callOutput};
-ghost use Rattle.merge.specs.Written.{startHeader};
+ghost use Rattle.merge.specs.Inner.Written.{startHeader};
 
 // The header of a table of so many rows that starts a view.
 fn start_header(n: u8, view: u32, rows: u32, length: u32) -> Header

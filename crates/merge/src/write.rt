@@ -11,9 +11,9 @@ ghost use lib.ListN.{length};
 ghost use Rattle.rules.specs.Tables.{valley};
 ghost use Rattle.rules.specs.Merge.{rowsOf, stamps, uncheckedRow, uncheckedRows};
 ghost use Rattle.rows.specs.Bytes.{lengthOf, bodiesLength};
-ghost use Rattle.run.specs.Runs.{tablesOf, Images};
-ghost use Rattle.gather.specs.Held.{usedOf};
-ghost use Rattle.merge.specs.Written.{laidDown, rowLaid};
+ghost use Rattle.image_run.specs.Inner.WholeRuns.{tablesOf, Images};
+ghost use Rattle.gather.specs.Inner.UsedTables.{usedOf};
+ghost use Rattle.merge.specs.Inner.Written.{laidDown, rowLaid};
 
 // Writes the row of a stamp that is held at an index, and its body where it is due: that of the first used table that holds it, since all hold it with this one. The answer is where the next body is due.
 fn write_stamp(

@@ -10,7 +10,8 @@ use lib.Dec.{eqb}
 use lib.ListN.{length, drop, length-append}
 use lib.Seq.{take-all, take-length}
 use borrow.Author.Tests.{ltb-true, leb-true, eqb-true, eqb-false, eq-eqb}
-use Rattle.wire.specs.Numbers.{bytes, numberAt, AllBytes}
+use Rattle.wire.specs.Numbers.{bytes, numberAt}
+use Rattle.wire.specs.Inner.ByteLists.{AllBytes}
 use Rattle.wire.proofs.Numbers.{length-bytes}
 use Rattle.wire.proofs.Stands.{Stands, stands-whole}
 use Rattle.wire.proofs.Fields.{field-read, field-stands, last-read, last-stands}
@@ -30,8 +31,9 @@ use Rattle.rows.proofs.FieldsRead.{stamp-small}
 use Rattle.table.specs.Images.{Form, image, imageLength}
 use Rattle.table.specs.Parse.{tableAt, parse}
 use Rattle.table.proofs.Images.{Starts, Sound, length-image, image-parses, parse-reads}
-use Rattle.message.specs.Messages.{countsAndBody, messageBytes, endsWithBody, bodyFrom, resultByCode, verdictByCode, prepareProposal, prepareFinal, outcomeProposal, outcomeFinal, viewChange, viewStart, registerRead, messageOfKind, messageAt}
-use Rattle.message.proofs.Lawful.{result-coded}
+use Rattle.message.specs.Inner.MessageBytes.{countsAndBody, messageBytes}
+use Rattle.message.specs.Messages.{endsWithBody, bodyFrom, resultByCode, verdictByCode, prepareProposal, prepareFinal, outcomeProposal, outcomeFinal, viewChange, viewStart, registerRead, messageOfKind, messageAt}
+use Rattle.message.proofs.KeepingRules.{result-coded}
 
 -- ---- counts and body
 

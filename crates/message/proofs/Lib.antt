@@ -1,5 +1,5 @@
 pub mod Bodies
 pub mod Settled
-pub mod Lawful
+pub mod KeepingRules
 pub mod Starting
 pub mod Forms

@@ -1,3 +1,2 @@
 pub mod Messages
-pub mod Read
-pub mod Begun
+pub mod Inner

@@ -1,45 +1,24 @@
--- 01, 'Messages to a box': the messages as bytes. "Kinds, codes, counts and registers take 1 byte, stamps 8."
+-- 01, 'Messages to a box': bytes to a message, or to none. "Kinds, codes, counts and registers take 1 byte, stamps 8."
 -- What else a message must keep, its stamp, its body, its register and what a started view's table is, `rules` says (messageByRule).
 use mathlib.Core.Bool.{Bool, cond}
-use mathlib.Core.List.{List, _++_}
-use mathlib.Core.Option.{Option, none}
+use mathlib.Core.List.{List}
+use mathlib.Core.Option.{Option, none, some}
 use Prim.Native.Nat.{ℕ, _+_}
 use lib.Dec.{eqb, leb}
 use lib.ListN.{length, drop}
-use Rattle.wire.specs.Numbers.{bytes, numberAt}
+use Rattle.wire.specs.Numbers.{numberAt}
 use Rattle.rules.specs.Tests.{both, provided}
 use Rattle.rules.specs.Stamps.{Body}
-use Rattle.rules.specs.Tables.{resultCode, resultRetry, verdictCode}
+use Rattle.rules.specs.Tables.{Model}
 use Rattle.rules.specs.Messages.{Message, Message.proposePrepare, Message.finalisePrepare, Message.proposeOutcome, Message.finaliseOutcome, Message.changeView, Message.startView, Message.readRegister}
-use Rattle.rows.specs.Bytes.{bodyBytes, bodyLength}
+use Rattle.rules.specs.Circumstances.{messageByRule}
+use Rattle.rows.specs.Bytes.{bodyLength}
 use Rattle.rows.specs.Fields.{resultNumbered, verdictNumbered, retryByCode}
 use Rattle.rows.specs.Read.{bodyAt, begins}
 use Rattle.table.specs.Images.{Form, image, imageLength}
 use Rattle.table.specs.Parse.{tableAt}
 
--- ---- a message to bytes
-
--- "two counts, body"
-unfoldable pub countsAndBody : Body → List ℕ
-countsAndBody x = bytes 1 (length (x .reads)) ++ (bytes 1 (length (x .writes)) ++ bodyBytes x)
-
-unfoldable pub messageBytes : Form → Message → List ℕ
--- "1 propose prepare: kind, stamp, two counts, body."
-messageBytes F (proposePrepare s x) = bytes 1 1 ++ (bytes 8 s ++ countsAndBody x)
--- "2 finalise prepare: kind, stamp, view 4, result 1 to 4, retry stamp (by the rows' rule)."
-messageBytes F (finalisePrepare s v r) = bytes 1 2 ++ (bytes 8 s ++ (bytes 4 v ++ (bytes 1 (resultCode r) ++ bytes 8 (resultRetry r))))
--- "3 propose outcome: kind, stamp, 1 commit or 2 abort, counts, body."
-messageBytes F (proposeOutcome s o x) = bytes 1 3 ++ (bytes 8 s ++ (bytes 1 (verdictCode o) ++ countsAndBody x))
--- "4 finalise outcome: kind, stamp, view 4, 1 or 2."
-messageBytes F (finaliseOutcome s v o) = bytes 1 4 ++ (bytes 8 s ++ (bytes 4 v ++ bytes 1 (verdictCode o)))
--- "5 change view: kind, v 4."
-messageBytes F (changeView v) = bytes 1 5 ++ bytes 4 v
--- "6 start view: kind, v 4, image."
-messageBytes F (startView v I) = bytes 1 6 ++ (bytes 4 v ++ image F I)
--- "7 read: kind, stamp, register."
-messageBytes F (readRegister s k) = bytes 1 7 ++ (bytes 8 s ++ bytes 1 k)
-
--- ---- bytes to a message, or to none: a kind of the list, its exact length, its codes
+-- ---- what kinds share: the exact length, the codes
 
 -- "two counts, body": as long as the counts say, and no longer
 unfoldable pub endsWithBody : List ℕ → ℕ → Bool
@@ -56,38 +35,46 @@ resultByCode code retry = both (leb 1 code) (both (leb code 4) (retryByCode code
 unfoldable pub verdictByCode : ℕ → Bool
 verdictByCode code = both (leb 1 code) (leb code 2)
 
--- each kind's bytes, the kind apart
+-- ---- each kind's bytes, the kind apart
 
+-- "1 propose prepare: kind, stamp, two counts, body."
 unfoldable pub prepareProposal : List ℕ → Option Message
 prepareProposal s = provided (endsWithBody s 9) (proposePrepare (numberAt s 1 8) (bodyFrom s 9))
 
+-- "2 finalise prepare: kind, stamp, view 4, result 1 to 4, retry stamp (by the rows' rule)."
 unfoldable pub prepareFinal : List ℕ → Option Message
 prepareFinal s =
     let code = numberAt s 13 1 in
     let retry = numberAt s 14 8 in
     provided (both (eqb (length s) 22) (resultByCode code retry)) (finalisePrepare (numberAt s 1 8) (numberAt s 9 4) (resultNumbered code retry))
 
+-- "3 propose outcome: kind, stamp, 1 commit or 2 abort, counts, body."
 unfoldable pub outcomeProposal : List ℕ → Option Message
 outcomeProposal s =
     let code = numberAt s 9 1 in
     provided (both (verdictByCode code) (endsWithBody s 10)) (proposeOutcome (numberAt s 1 8) (verdictNumbered code) (bodyFrom s 10))
 
+-- "4 finalise outcome: kind, stamp, view 4, 1 or 2."
 unfoldable pub outcomeFinal : List ℕ → Option Message
 outcomeFinal s =
     let code = numberAt s 13 1 in
     provided (both (eqb (length s) 14) (verdictByCode code)) (finaliseOutcome (numberAt s 1 8) (numberAt s 9 4) (verdictNumbered code))
 
+-- "5 change view: kind, v 4."
 unfoldable pub viewChange : List ℕ → Option Message
 viewChange s = provided (eqb (length s) 5) (changeView (numberAt s 1 4))
 
--- the image is all that follows the view
+-- "6 start view: kind, v 4, image.": the image is all that follows the view
 unfoldable pub viewStart : Form → List ℕ → Option Message
 viewStart F s =
     let I = tableAt F (drop 5 s) in
     provided (both (eqb (length s) (5 + imageLength F I)) (begins (drop 5 s) (image F I))) (startView (numberAt s 1 4) I)
 
+-- "7 read: kind, stamp, register."
 unfoldable pub registerRead : List ℕ → Option Message
 registerRead s = provided (eqb (length s) 10) (readRegister (numberAt s 1 8) (numberAt s 9 1))
+
+-- ---- any bytes
 
 -- by the kind, which is the first byte; no bytes have no kind
 unfoldable pub messageOfKind : Form → ℕ → List ℕ → Option Message
@@ -102,3 +89,11 @@ messageOfKind F kind s =
 
 unfoldable pub messageAt : Form → List ℕ → Option Message
 messageAt F s = messageOfKind F (numberAt s 0 1) s
+
+-- a message that keeps the rules of a group of n, or none: what is left is "bad message"
+abbrev pub keepingRules : Model → ℕ → Option Message → Option Message
+keepingRules M n none = none
+keepingRules M n (some m) = provided (messageByRule M n m) m
+
+unfoldable pub messageTo : Form → Model → ℕ → List ℕ → Option Message
+messageTo F M n s = keepingRules M n (messageAt F s)

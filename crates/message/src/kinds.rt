@@ -6,9 +6,9 @@ ghost use mathlib.Core.Path.{_≡_};
 ghost use Prim.Native.Nat.{ℕ, _<_};
 ghost use Rattle.rules.specs.Tables as rules;
 ghost use Rattle.table.specs.Images.{formatOne};
-ghost use Rattle.table.specs.Models.{modelOf};
-ghost use Rattle.message.specs.Messages.{prepareProposal, prepareFinal, outcomeProposal, outcomeFinal, viewChange, viewStart, registerRead};
-ghost use Rattle.message.specs.Read.{meant, lawful, messageTo, Coded};
+ghost use Rattle.table.specs.Inner.Models.{modelOf};
+ghost use Rattle.message.specs.Messages.{prepareProposal, prepareFinal, outcomeProposal, outcomeFinal, viewChange, viewStart, registerRead, keepingRules, messageTo};
+ghost use Rattle.message.specs.Inner.MeantMessages.{meant, Coded};
 
 // A message that keeps every rule, by its fields. A body lies behind the counts, at 11 or 12; an image at 5.
 pub enum Message {
@@ -49,7 +49,7 @@ pub enum Message {
 
 // Kind 1, propose prepare. Bytes before the body are read only where they are there.
 fn prepare_proposal(message: &[u8]) -> Message
-    ensures { λ r. ⌜ ((M : rules.Model) (n : ℕ) → meant formatOne (now (message .entry)) r ≡ lawful M n (prepareProposal (now (message .entry)))) ⌝ }
+    ensures { λ r. ⌜ ((M : rules.Model) (n : ℕ) → meant formatOne (now (message .entry)) r ≡ keepingRules M n (prepareProposal (now (message .entry)))) ⌝ }
     ensures { λ r. ⌜ Coded r ⌝ }
 {
     if message.len() < 11 {
@@ -70,7 +70,7 @@ fn prepare_proposal(message: &[u8]) -> Message
 
 // Kind 2, finalise prepare. Any view of four bytes is one.
 fn prepare_final(message: &[u8]) -> Message
-    ensures { λ r. ⌜ ((M : rules.Model) (n : ℕ) → meant formatOne (now (message .entry)) r ≡ lawful M n (prepareFinal (now (message .entry)))) ⌝ }
+    ensures { λ r. ⌜ ((M : rules.Model) (n : ℕ) → meant formatOne (now (message .entry)) r ≡ keepingRules M n (prepareFinal (now (message .entry)))) ⌝ }
     ensures { λ r. ⌜ Coded r ⌝ }
 {
     if message.len() != 22 {
@@ -93,7 +93,7 @@ fn prepare_final(message: &[u8]) -> Message
 
 // Kind 3, propose outcome.
 fn outcome_proposal(message: &[u8]) -> Message
-    ensures { λ r. ⌜ ((M : rules.Model) (n : ℕ) → meant formatOne (now (message .entry)) r ≡ lawful M n (outcomeProposal (now (message .entry)))) ⌝ }
+    ensures { λ r. ⌜ ((M : rules.Model) (n : ℕ) → meant formatOne (now (message .entry)) r ≡ keepingRules M n (outcomeProposal (now (message .entry)))) ⌝ }
     ensures { λ r. ⌜ Coded r ⌝ }
 {
     if message.len() < 12 {
@@ -116,7 +116,7 @@ fn outcome_proposal(message: &[u8]) -> Message
 
 // Kind 4, finalise outcome.
 fn outcome_final(message: &[u8]) -> Message
-    ensures { λ r. ⌜ ((M : rules.Model) (n : ℕ) → meant formatOne (now (message .entry)) r ≡ lawful M n (outcomeFinal (now (message .entry)))) ⌝ }
+    ensures { λ r. ⌜ ((M : rules.Model) (n : ℕ) → meant formatOne (now (message .entry)) r ≡ keepingRules M n (outcomeFinal (now (message .entry)))) ⌝ }
     ensures { λ r. ⌜ Coded r ⌝ }
 {
     if message.len() != 14 {
@@ -137,7 +137,7 @@ fn outcome_final(message: &[u8]) -> Message
 
 // Kind 5, change view: four bytes are always a view.
 fn view_change(message: &[u8]) -> Message
-    ensures { λ r. ⌜ ((M : rules.Model) (n : ℕ) → meant formatOne (now (message .entry)) r ≡ lawful M n (viewChange (now (message .entry)))) ⌝ }
+    ensures { λ r. ⌜ ((M : rules.Model) (n : ℕ) → meant formatOne (now (message .entry)) r ≡ keepingRules M n (viewChange (now (message .entry)))) ⌝ }
     ensures { λ r. ⌜ Coded r ⌝ }
 {
     if message.len() != 5 {
@@ -151,7 +151,7 @@ fn view_change(message: &[u8]) -> Message
 // Kind 6, start view: all that follows the view is the image.
 fn view_start(message: &[u8], n: u8, model: Model) -> Message
     requires { ⌜ 0 < n ⌝ }
-    ensures { λ r. ⌜ meant formatOne (now (message .entry)) r ≡ lawful (modelOf model) n (viewStart formatOne (now (message .entry))) ⌝ }
+    ensures { λ r. ⌜ meant formatOne (now (message .entry)) r ≡ keepingRules (modelOf model) n (viewStart formatOne (now (message .entry))) ⌝ }
     ensures { λ r. ⌜ Coded r ⌝ }
 {
     if message.len() < 5 {
@@ -166,7 +166,7 @@ fn view_start(message: &[u8], n: u8, model: Model) -> Message
 
 // Kind 7, read.
 fn register_read(message: &[u8]) -> Message
-    ensures { λ r. ⌜ ((M : rules.Model) (n : ℕ) → meant formatOne (now (message .entry)) r ≡ lawful M n (registerRead (now (message .entry)))) ⌝ }
+    ensures { λ r. ⌜ ((M : rules.Model) (n : ℕ) → meant formatOne (now (message .entry)) r ≡ keepingRules M n (registerRead (now (message .entry)))) ⌝ }
     ensures { λ r. ⌜ Coded r ⌝ }
 {
     if message.len() != 10 {

@@ -14,9 +14,9 @@ ghost use Rattle.rules.specs.Circumstances.{settled, startsView};
 ghost use Rattle.rows.specs.Read.{rowsAt};
 ghost use Rattle.table.specs.Headers.{headerAt};
 ghost use Rattle.table.specs.Images.{formatOne};
-ghost use Rattle.table.specs.Models.{modelOf};
+ghost use Rattle.table.specs.Inner.Models.{modelOf};
 ghost use Rattle.table.specs.Parse.{tableAt};
-ghost use Rattle.message.specs.Begun.{startsAt};
+ghost use Rattle.message.specs.Inner.Begun.{startsAt};
 
 // The prepare byte is 0 or 5 and more: nothing, or final.
 fn prepare_settled(prepare: u8) -> bool

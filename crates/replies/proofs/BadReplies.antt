@@ -19,9 +19,9 @@ use Rattle.rules.proofs.Groups.{group-bounds}
 use Rattle.rules.proofs.Votes.{different-below, replies-different, replies-inside}
 use Rattle.replies.specs.declared.held.Reply.{Reply}
 use Rattle.replies.specs.declared.held.Replies.{Replies}
-use Rattle.replies.specs.Heard.{resultRead, heard, allHeard}
-use Rattle.replies.specs.Held.{replyIn, repliesFrom, repliesIn, heardIn, Read}
-use Rattle.replies.specs.Bad.{isWrong, anyBad, areBad}
+use Rattle.replies.specs.PlainReplies.{resultRead, heard, allHeard}
+use Rattle.replies.specs.Inner.HeldReplies.{replyIn, repliesFrom, repliesIn, heardIn, Read}
+use Rattle.replies.specs.Inner.Bad.{isWrong, anyBad, areBad}
 use Rattle.replies.proofs.HeldAll.{length-replies}
 use Rattle.replies.proofs.Turns.{left, left-on, left-over, coded, any-heard}
 
@@ -150,18 +150,18 @@ bad-group n rs group = go (every resultRead rs)
 -- what replies that are not bad are
 pub record Good (n : ℕ) (rs : List Reply) : Type 0 where
   pub read : every resultRead rs ≡ true
-  pub lawful : badReplies n (allHeard rs) ≡ false
+  pub not-bad : badReplies n (allHeard rs) ≡ false
   pub positive : 0 < n
   pub atMost : length rs ≤ 7
 
 pub good-facts : (n : ℕ) (rs : List Reply) → areBad n rs ≡ false → Good n rs
 unfolding areBad badReplies
 good-facts n rs h =
-    let lawful : badReplies n (allHeard rs) ≡ false = either-right _ _ h in
-    let size = group-bounds n (not-false _ (either-left _ _ lawful)) in
-    let below = different-below (λ g. g .box) n (allHeard rs) (replies-different n (allHeard rs) lawful) (replies-inside n (allHeard rs) lawful) in
+    let not-bad : badReplies n (allHeard rs) ≡ false = either-right _ _ h in
+    let size = group-bounds n (not-false _ (either-left _ _ not-bad)) in
+    let below = different-below (λ g. g .box) n (allHeard rs) (replies-different n (allHeard rs) not-bad) (replies-inside n (allHeard rs) not-bad) in
     let same = length-map rs heard in
-    record { read = not-false _ (either-left _ _ h); lawful = lawful; positive = size .0; atMost = omega arith }
+    record { read = not-false _ (either-left _ _ h); not-bad = not-bad; positive = size .0; atMost = omega arith }
 
 pub too-many : (n : ℕ) (rs : List Reply) → 7 < length rs → true ≡ areBad n rs
 too-many n rs l = go (cases (areBad n rs))

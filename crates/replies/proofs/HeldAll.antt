@@ -13,7 +13,7 @@ use borrow.Author.Tests.{lt-ltb, le-ltb, ltb-true, ltb-false}
 use Rattle.rules.proofs.Logic.{cases}
 use Rattle.replies.specs.declared.held.Reply.{Reply}
 use Rattle.replies.specs.declared.held.Replies.{Replies}
-use Rattle.replies.specs.Held.{noReply, repliesFrom, repliesIn, noneHeld, withReply, withReplies}
+use Rattle.replies.specs.Inner.HeldReplies.{noReply, repliesFrom, repliesIn, noneHeld, withReply, withReplies}
 
 -- so many are read as are asked for
 pub length-replies : (h : Replies) (i k : ℕ) → length (repliesFrom h i k) ≡ k

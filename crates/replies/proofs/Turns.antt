@@ -13,13 +13,13 @@ use Rattle.rules.specs.Tables.{Result, sameResult}
 use Rattle.rules.specs.Count.{Heard, agreeing, isFast, greatestRetry}
 use Rattle.rules.proofs.Logic.{both-left, both-right}
 use Rattle.message.specs.Messages.{resultByCode}
-use Rattle.message.proofs.Lawful.{ResultCoded, result-coded}
+use Rattle.message.proofs.KeepingRules.{ResultCoded, result-coded}
 use Rattle.replies.specs.declared.held.Reply.{Reply}
 use Rattle.replies.specs.declared.held.Replies.{Replies}
 use Rattle.replies.specs.declared.said.Said.{Said}
-use Rattle.replies.specs.Heard.{resultRead, heard, allHeard}
-use Rattle.replies.specs.Held.{replyIn, repliesFrom, repliesIn}
-use Rattle.replies.specs.Results.{saidBy, saidAs, resultOf}
+use Rattle.replies.specs.PlainReplies.{resultRead, heard, allHeard}
+use Rattle.replies.specs.Inner.HeldReplies.{replyIn, repliesFrom, repliesIn}
+use Rattle.replies.specs.Inner.Results.{saidBy, saidAs, resultOf}
 
 -- ---- what is left from a place on
 

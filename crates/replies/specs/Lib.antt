@@ -1,4 +1,2 @@
-pub mod Heard
-pub mod Held
-pub mod Bad
-pub mod Results
+pub mod PlainReplies
+pub mod Inner

@@ -7,9 +7,9 @@ ghost use mathlib.Core.Path.{_≡_};
 ghost use Prim.Native.Nat.{_<_, _≤_, _+_, _-_};
 ghost use lib.Dec.{eqb};
 ghost use Rattle.rules.specs.Tests.{any};
-ghost use Rattle.replies.specs.Heard.{resultRead};
-ghost use Rattle.replies.specs.Held.{repliesFrom, repliesIn};
-ghost use Rattle.replies.specs.Bad.{isWrong, anyBad, areBad};
+ghost use Rattle.replies.specs.PlainReplies.{resultRead};
+ghost use Rattle.replies.specs.Inner.HeldReplies.{repliesFrom, repliesIn};
+ghost use Rattle.replies.specs.Inner.Bad.{isWrong, anyBad, areBad};
 
 // A code of a result with its retry stamp by the rows' rule, and 0 or 1 for final or not.
 fn result_read(reply: Reply) -> bool

@@ -1,6 +1,6 @@
 // Replies to count, held by value: at most seven, since a group has no more boxes.
 ghost use mathlib.Core.Path.{_≡_};
-ghost use Rattle.replies.specs.Held.{noneHeld, withReply};
+ghost use Rattle.replies.specs.Inner.HeldReplies.{noneHeld, withReply};
 
 // One reply as it is lent: any numbers may stand in it. Its fields are laid out as C does it, so that a C caller can lend a list of them; the small ones come first, which leaves one byte between them unused.
 #[repr(C)]

@@ -9,8 +9,8 @@ ghost use Rattle.rules.specs.Tests.{both, any};
 ghost use Rattle.rules.specs.Tables.{sameResult};
 ghost use Rattle.rules.specs.Count as rules;
 ghost use Rattle.message.specs.Messages.{resultByCode};
-ghost use Rattle.replies.specs.Held.{heardIn, Read};
-ghost use Rattle.replies.specs.Results.{saidBy, saidAs, resultOf};
+ghost use Rattle.replies.specs.Inner.HeldReplies.{heardIn, Read};
+ghost use Rattle.replies.specs.Inner.Results.{saidBy, saidAs, resultOf};
 
 // A result's code and its retry stamp; 0 if there is none.
 pub struct Said {

@@ -8,7 +8,7 @@ use native.Mathlib.Omega.{arith}
 use lib.ListN.{length, length-append}
 use borrow.Author.Tests.{ltb-true, leb-true}
 use Rattle.wire.specs.Parts.{part}
-use Rattle.wire.specs.Numbers.{AllBytes}
+use Rattle.wire.specs.Inner.ByteLists.{AllBytes}
 use Rattle.wire.proofs.Numbers.{length-bytes, numberAt-part}
 use Rattle.wire.proofs.Stands.{Stands, stands-nothing, stands-joined, stands-left, stands-right}
 use Rattle.wire.proofs.Fields.{field-read, field-stands, stands-bytes, field-fits}
@@ -17,7 +17,7 @@ use Rattle.rules.proofs.Logic.{both-left, both-right}
 use Rattle.rows.specs.declared.row.RowFields.{RowFields}
 use Rattle.rows.specs.Bytes.{accessesBytes, bodyBytes, bodyLength, lengthOf}
 use Rattle.rows.specs.Read.{accessAt, accessesAt, bodyAt, rowOf}
-use Rattle.rows.specs.Rows.{sizeOf, bodyPart, BodyInside}
+use Rattle.rows.specs.Inner.Rows.{sizeOf, bodyPart, BodyInside}
 
 -- ---- accesses
 

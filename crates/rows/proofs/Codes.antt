@@ -9,7 +9,8 @@ use borrow.Author.Tests.{eqb-true, eqb-false, leb-true, le-leb}
 use Rattle.rules.specs.Tests.{both, either}
 use Rattle.rules.specs.Tables.{Result, Result.OK, Result.ABORT, Result.ABSTAIN, Result.RETRY, Prepare, Prepare.noPrepare, Prepare.tentative, Prepare.final, Verdict, Verdict.commit, Verdict.abort, Outcome, Outcome.noOutcome, Outcome.noted, Outcome.done, resultCode, prepareCode, prepareRetry, verdictCode, outcomeCode, resultByRule, retryByRule, somethingHeld}
 use Rattle.rules.proofs.Logic.{both-left, both-right, same?}
-use Rattle.rows.specs.Fields.{resultNumbered, prepareNumbered, verdictNumbered, outcomeNumbered, codesByRule, retryByCode}
+use Rattle.rows.specs.Fields.{resultNumbered, prepareNumbered, verdictNumbered, outcomeNumbered, retryByCode}
+use Rattle.rows.specs.Inner.FieldTests.{codesByRule}
 
 -- ---- what a code was made of is read from it
 

@@ -6,7 +6,7 @@ use Prim.Native.Nat.{ℕ, _+_, _^_, _≤_, _<_}
 use native.Mathlib.Omega.{arith}
 use lib.ListN.{length, length-append}
 use borrow.Author.Tests.{ltb-true, leb-true}
-use Rattle.wire.specs.Numbers.{AllBytes}
+use Rattle.wire.specs.Inner.ByteLists.{AllBytes}
 use Rattle.wire.proofs.Numbers.{length-bytes, bytes-fit}
 use Rattle.wire.proofs.Stands.{Stands}
 use Rattle.wire.proofs.Fields.{field-read, field-stands, last-read, last-stands, stands-bytes, field-fits}

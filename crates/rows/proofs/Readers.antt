@@ -32,7 +32,7 @@ use Rattle.wire.proofs.HandWalks.{sliceAs, SliceOwn, lives}
 use Rattle.rows.specs.declared.reader.Reader.{Reader}
 use Rattle.rows.specs.declared.row.RowFields.{RowFields}
 use Rattle.rows.specs.Fields.{fieldsAt}
-use Rattle.rows.specs.Rows.{BodyInside, bodyPart}
+use Rattle.rows.specs.Inner.Rows.{BodyInside, bodyPart}
 use Rattle.rows.proofs.reader.Reader as T
 use Rattle.rows.proofs.reader.Reader.Laws as T′
 

@@ -8,7 +8,7 @@ use native.Mathlib.Omega.{arith}
 use lib.Dec.{ltb}
 use lib.ListN.{length, length-append}
 use borrow.Author.Tests.{leb-true, le-leb, eqb-true, eq-eqb}
-use Rattle.wire.specs.Numbers.{AllBytes}
+use Rattle.wire.specs.Inner.ByteLists.{AllBytes}
 use Rattle.wire.proofs.Stands.{Stands, stands-nothing, stands-joined, stands-left, stands-right}
 use Rattle.rules.specs.Tests.{every}
 use Rattle.rules.specs.Stamps.{countsByRule}
@@ -17,9 +17,10 @@ use Rattle.rules.proofs.Logic.{both-left, both-right, both-true, same-test, eqb
 use Rattle.rules.proofs.Tables.{RowByRule, row-facts, row-by}
 use Rattle.rows.specs.declared.row.RowFields.{RowFields}
 use Rattle.rows.specs.Bytes.{bodyBytes, lengthOf, bodiesBytes, bodiesLength, rowBytes, rowsBytes}
-use Rattle.rows.specs.Fields.{fieldsAt, fieldsOf, codesByRule, fieldsByRule}
+use Rattle.rows.specs.Fields.{fieldsAt, fieldsOf}
+use Rattle.rows.specs.Inner.FieldTests.{codesByRule, fieldsByRule}
 use Rattle.rows.specs.Read.{bodyAt, rowOf, rowsAt}
-use Rattle.rows.specs.Rows.{sizeOf, BodyInside, placeByRule, bodyByRuleAt, rowByRuleAt, rowsByRuleAt}
+use Rattle.rows.specs.Inner.Rows.{sizeOf, BodyInside, placeByRule, bodyByRuleAt, rowByRuleAt, rowsByRuleAt}
 use Rattle.rows.proofs.Walks.{rowsWalk}
 use Rattle.rows.proofs.Codes.{codes-of, retry-of-code, coded}
 use Rattle.rows.proofs.Bodies.{length-accessesAt, length-body, lengthOf-bodyAt, body-stands, body-read, body-among}

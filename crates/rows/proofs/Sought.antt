@@ -21,7 +21,7 @@ use Rattle.rows.specs.declared.lookup.Place.{Place}
 use Rattle.rows.specs.declared.lookup.Place.the-variants.{Held, Absent}
 use Rattle.rows.specs.Fields.{fieldsAt}
 use Rattle.rows.specs.Read.{rowOf, rowsAt}
-use Rattle.rows.specs.Places.{lower, heldOrNot, placeOf, heldBody}
+use Rattle.rows.specs.Inner.Places.{lower, heldOrNot, placeOf, heldBody}
 use Rattle.rows.proofs.Bodies.{body-size}
 
 unfoldable pub sought : ℕ → List Row → ℕ → Place

@@ -13,9 +13,10 @@ use Rattle.rules.specs.Tests.{both}
 use Rattle.rules.specs.Stamps.{isStamp, isRegister, countsByRule, accessesByRule, contentsByRule}
 use Rattle.rules.proofs.Logic.{both-left, both-right, same-test}
 use Rattle.rows.specs.declared.row.RowFields.{RowFields}
-use Rattle.rows.specs.Fields.{fieldsAt, fieldsByRule}
+use Rattle.rows.specs.Fields.{fieldsAt}
+use Rattle.rows.specs.Inner.FieldTests.{fieldsByRule}
 use Rattle.rows.specs.Read.{accessAt, accessesAt, bodyAt}
-use Rattle.rows.specs.Rows.{sizeOf, bodyPart, BodyInside, placeByRule, bodyByRuleAt, rowByRuleAt}
+use Rattle.rows.specs.Inner.Rows.{sizeOf, bodyPart, BodyInside, placeByRule, bodyByRuleAt, rowByRuleAt}
 use Rattle.wire.proofs.Parts.{length-part}
 use Rattle.rows.proofs.Walks.{rowsWalk}
 use Rattle.rows.proofs.Bodies.{body-in-part}

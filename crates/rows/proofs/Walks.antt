@@ -5,7 +5,7 @@ use Prim.Native.Nat.{ℕ, zero, suc, _+_}
 use lib.Dec.{eqb}
 use Rattle.rules.specs.Tests.{both}
 use Rattle.rows.specs.Fields.{fieldsAt}
-use Rattle.rows.specs.Rows.{sizeOf, rowByRuleAt}
+use Rattle.rows.specs.Inner.Rows.{sizeOf, rowByRuleAt}
 
 unfoldable pub rowsWalk : List ℕ → ℕ → ℕ → ℕ → ℕ → ℕ → Bool
 rowsWalk s at zero last due end = eqb due end

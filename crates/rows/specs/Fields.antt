@@ -2,11 +2,11 @@
 use mathlib.Core.Bool.{Bool, cond}
 use mathlib.Core.List.{List, _++_}
 use Prim.Native.Nat.{ℕ, _+_, _-_}
-use lib.Dec.{eqb, ltb, leb}
+use lib.Dec.{eqb, leb}
 use lib.ListN.{length}
 use Rattle.wire.specs.Numbers.{bytes, numberAt}
-use Rattle.rules.specs.Tests.{both, either}
-use Rattle.rules.specs.Stamps.{isStamp, countsByRule}
+use Rattle.rules.specs.Tests.{either}
+use Rattle.rules.specs.Stamps.{isStamp}
 use Rattle.rules.specs.Tables.{Result, Result.OK, Result.ABORT, Result.ABSTAIN, Result.RETRY, Prepare, Prepare.noPrepare, Prepare.tentative, Prepare.final, Verdict, Verdict.commit, Verdict.abort, Outcome, Outcome.noOutcome, Outcome.noted, Outcome.done, prepareCode, prepareRetry, outcomeCode, Row}
 use Rattle.rows.specs.declared.row.RowFields.{RowFields}
 
@@ -41,27 +41,6 @@ fieldsBytes f =
     ++ (bytes 8 (f .retry)
     ++ (bytes 4 (f .offset) ++ (bytes 1 (f .reads) ++ (bytes 1 (f .writes) ++ (bytes 1 (f .prepare) ++ bytes 1 (f .outcome))))))
 
--- ---- a row's fields with its state changed
-
--- of the same stamp, offset and counts
-abbrev pub withState : RowFields → ℕ → ℕ → ℕ → RowFields
-withState f retry prepare outcome = record {
-  stamp = f .stamp;
-  retry = retry;
-  offset = f .offset;
-  reads = f .reads;
-  writes = f .writes;
-  prepare = prepare;
-  outcome = outcome;
-}
-
--- the retry stamp goes with the prepare byte
-abbrev pub withPrepareByte : RowFields → ℕ → ℕ → RowFields
-withPrepareByte f prepare retry = withState f retry prepare (f .outcome)
-
-abbrev pub withOutcomeByte : RowFields → ℕ → RowFields
-withOutcomeByte f outcome = withState f (f .retry) (f .prepare) outcome
-
 -- ---- codes
 
 -- "1 to 4 .. OK, ABORT, ABSTAIN, RETRY"
@@ -80,17 +59,6 @@ verdictNumbered code = cond (eqb code 1) commit abort
 unfoldable pub outcomeNumbered : ℕ → Outcome
 outcomeNumbered code = cond (eqb code 0) noOutcome (cond (leb code 2) (noted (verdictNumbered code)) (done (verdictNumbered (code - 2))))
 
--- ---- the tests of a row's fields, in the order in which its bytes are tried
-
--- "Not both zero."
-unfoldable pub codesByRule : ℕ → ℕ → Bool
-codesByRule prepare outcome = both (leb prepare 8) (both (leb outcome 4) (ltb 0 (prepare + outcome)))
-
 -- "The retry stamp is a stamp for RETRY and 0 otherwise."
 unfoldable pub retryByCode : ℕ → ℕ → Bool
 retryByCode prepare retry = cond (either (eqb prepare 4) (eqb prepare 8)) (isStamp retry) (eqb retry 0)
-
-unfoldable pub fieldsByRule : RowFields → Bool
-fieldsByRule f =
-    both (both (isStamp (f .stamp)) (countsByRule (f .reads) (f .writes)))
-    (both (codesByRule (f .prepare) (f .outcome)) (retryByCode (f .prepare) (f .retry)))

@@ -1,5 +1,4 @@
 pub mod Fields
 pub mod Bytes
 pub mod Read
-pub mod Rows
-pub mod Places
+pub mod Inner

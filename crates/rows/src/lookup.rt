@@ -7,8 +7,8 @@ ghost use lib.ListN.{length};
 ghost use Rattle.rules.specs.Tables.{rising};
 ghost use Rattle.rules.specs.Messages.{held};
 ghost use Rattle.rows.specs.Read.{rowsAt};
-ghost use Rattle.rows.specs.Rows.{RowsInside};
-ghost use Rattle.rows.specs.Places.{placeOf, heldBody};
+ghost use Rattle.rows.specs.Inner.Rows.{RowsInside};
+ghost use Rattle.rows.specs.Inner.Places.{placeOf, heldBody};
 
 // The index of the stamp's row, or the one that its row would have.
 pub enum Place {

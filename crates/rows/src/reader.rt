@@ -7,7 +7,7 @@ ghost use mathlib.Core.Path.{_≡_};
 ghost use Prim.Native.Nat.{_+_, _*_, _≤_};
 ghost use lib.ListN.{length};
 ghost use Rattle.rows.specs.Fields.{fieldsAt};
-ghost use Rattle.rows.specs.Rows.{BodyInside, bodyPart};
+ghost use Rattle.rows.specs.Inner.Rows.{BodyInside, bodyPart};
 
 // An image, where its rows begin, and the index of a row.
 pub struct Reader<'a> {

@@ -9,8 +9,10 @@ ghost use Rattle.wire.specs.Parts.{replaced};
 ghost use Rattle.rules.specs.Tests.{both};
 ghost use Rattle.rules.specs.Stamps.{isStamp, countsByRule};
 ghost use Rattle.rows.specs.Bytes.{bodyLength};
-ghost use Rattle.rows.specs.Fields.{fieldsAt, fieldsBytes, withPrepareByte, withOutcomeByte, codesByRule, retryByCode, fieldsByRule};
-ghost use Rattle.rows.specs.Rows.{BodyInside, bodyPart, placeByRule};
+ghost use Rattle.rows.specs.Fields.{fieldsAt, fieldsBytes, retryByCode};
+ghost use Rattle.rows.specs.Inner.ChangedFields.{withPrepareByte, withOutcomeByte};
+ghost use Rattle.rows.specs.Inner.FieldTests.{codesByRule, fieldsByRule};
+ghost use Rattle.rows.specs.Inner.Rows.{BodyInside, bodyPart, placeByRule};
 
 // The fields of a row, in the order in which they stand.
 pub struct RowFields {

@@ -6,8 +6,8 @@ ghost use mathlib.Core.Path.{_≡_};
 ghost use Prim.Native.Nat.{_+_, _*_, _≤_, _<_};
 ghost use lib.ListN.{length};
 ghost use Rattle.rules.specs.Tests.{both};
-ghost use Rattle.rows.specs.Fields.{fieldsByRule};
-ghost use Rattle.rows.specs.Rows.{placeByRule, bodyByRuleAt, rowByRuleAt, rowsByRuleAt};
+ghost use Rattle.rows.specs.Inner.FieldTests.{fieldsByRule};
+ghost use Rattle.rows.specs.Inner.Rows.{placeByRule, bodyByRuleAt, rowByRuleAt, rowsByRuleAt};
 
 // A row's body, whose counts are good and whose stamp is not 0.
 fn body_valid(image: &[u8], row: RowFields, end: usize) -> bool

@@ -11,7 +11,8 @@ use Rattle.rules.specs.Tests.{both, either, any, every, those, greatest}
 use Rattle.rules.specs.Stamps.{Access, Body, isStamp}
 use Rattle.rules.specs.Tables.{Result, Result.OK, Result.ABORT, Result.ABSTAIN, Result.RETRY, Outcome.noOutcome, Outcome.noted, Verdict, Verdict.commit, Verdict.abort, resultByRule, Row, rowByRule}
 use Rattle.rules.specs.Messages.{Check, withOutcome}
-use Rattle.rules.specs.Check.{committed, prepared, overwrites, ruleA, ruleB, ruleC, retryStamp, check, clash, accepted}
+use Rattle.rules.specs.Check.{committed, prepared, overwrites, ruleA, ruleB, ruleC, retryStamp, check}
+use Rattle.rules.specs.Inner.Clashes.{clash, accepted}
 use Rattle.rules.proofs.Logic.{impossible, cases, either-cases, both-left, both-right, both-true, either-first, either-second, either-false, either-comm}
 use Rattle.rules.proofs.Lists.{_∈_, any-append, those-append, greatest-append, any-none, any-some, some-any, every-one, those-of, those-none, those-those, any-those, in-those, greatest-above, greatest-is}
 

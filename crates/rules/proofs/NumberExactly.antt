@@ -9,10 +9,9 @@ use lib.Dec.{eqb}
 use borrow.Author.Tests.{eqb-true}
 use Rattle.rules.specs.Tests.{both, either}
 use Rattle.rules.specs.Numbers.{Number, Number.smallBuffer, Number.badTable, Number.badMessage, Number.changing, Number.otherBody, Number.contradiction, Number.full, Number.unknown, Number.otherView, Number.oldView, Number.wrongTables, numberCode, order, Circumstance, applies, first, number}
-use Rattle.rules.proofs.Numbers.{positive}
+use Rattle.rules.proofs.Numbers.{positive, first-done, done-first}
 use Rattle.rules.proofs.Logic.{cases, impossible, eqb-self, both-left, both-right, both-true, both-false, either-cases, either-first, either-second}
 use Rattle.rules.proofs.Lists.{_∈_, places}
-use Rattle.rules.proofs.Numbers.{positive, first-done, done-first}
 
 -- the part of a list of numbers before the first that is k
 unfoldable pub before : Number → List Number → List Number

@@ -11,7 +11,8 @@ use borrow.Author.Tests.{lt-ltb}
 use Rattle.rules.specs.Tests.{both, either, any, those}
 use Rattle.rules.specs.Tables.{Result, Result.OK, Result.ABORT, Result.ABSTAIN, Result.RETRY, Prepare, Prepare.noPrepare, Prepare.tentative, Prepare.final, Verdict, Verdict.commit, Verdict.abort, Outcome, Outcome.noOutcome, Outcome.noted, Outcome.done, resultCode, prepareCode, verdictCode, outcomeCode, somethingHeld, Row}
 use Rattle.rules.specs.Stamps.{Body}
-use Rattle.rules.specs.Check.{committed, prepared, check, accepted}
+use Rattle.rules.specs.Check.{committed, prepared, check}
+use Rattle.rules.specs.Inner.Clashes.{accepted}
 use Rattle.rules.specs.Merge.{holdsVerdict, mergedOutcome, finalResult, finalOf, tentativeResult, isAgreed, ifAgreed, agreedOf, holdsPrepare, Standing, Standing.hasNone, Standing.hasFinal, Standing.hasAgreed, Standing.hasOpen, standingFrom, standing, uncheckedPrepare, isSettled}
 use Rattle.rules.proofs.Logic.{none-some, impossible, cases}
 use Rattle.rules.proofs.Lists.{_∈_, any-none, provided-some, first-from}

@@ -9,7 +9,8 @@ use lib.ListN.{length}
 use borrow.Author.Tests.{ltb-true, lt-ltb, leb-true, le-leb}
 use Rattle.rules.specs.Tests.{both, every}
 use Rattle.rules.specs.Groups.{isGroup}
-use Rattle.rules.specs.Stamps.{isStamp, stampOf, countsByRule, contentsByRule}
+use Rattle.rules.specs.Stamps.{isStamp, countsByRule, contentsByRule}
+use Rattle.rules.specs.Inner.StampParts.{stampOf}
 use Rattle.rules.specs.Tables.{Result, Result.OK, Result.ABORT, Result.ABSTAIN, Result.RETRY, Verdict, Verdict.commit, Verdict.abort, resultCode, verdictCode, somethingHeld, retryByRule, Row, rowByRule, rising, Model, Table, isView, modeByRule, headerByRule, tableByRule}
 use Rattle.rules.proofs.Logic.{both-left, both-right, both-true, either-none}
 

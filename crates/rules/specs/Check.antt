@@ -41,11 +41,3 @@ unfoldable pub check : List Row → ℕ → Body → Result
 check rows s x =
     cond (any (ruleA committed s x) rows) ABORT
     (cond (any (ruleB committed s x) rows) (RETRY (retryStamp rows s x)) (cond (any (ruleC s x) rows) ABSTAIN OK))
-
--- two transactions clash if either overwrites what the other read: rules A and B, seen from either side
-unfoldable pub clash : ℕ → Body → ℕ → Body → Bool
-clash s x t y = either (overwrites t (y .writes) s (x .reads)) (overwrites s (x .writes) t (y .reads))
-
--- a row that counts for A, B or C: committed or prepared
-unfoldable pub accepted : Row → Bool
-accepted r = either (committed r) (prepared r)

@@ -90,19 +90,3 @@ decided n hs = fastOr (fastOf n hs) (cond (ltb (length hs) (quorum (fOf n))) wai
 -- the coordinator's count, whole
 unfoldable pub counted : ℕ → List Heard → Counted
 counted n hs = cond (eqb (countNumber n hs) 0) (decided n hs) (refused (countNumber n hs))
-
--- ---- each answer by the paper's number and values
-
--- the number
-abbrev pub countedNumber : Counted → ℕ
-countedNumber (fast r) = 0
-countedNumber (slow r) = 0
-countedNumber wait = 0
-countedNumber (refused k) = k
-
--- its result, by its code and retry stamp; none for wait and refusals
-abbrev pub countedResult : Counted → Option Result
-countedResult (fast r) = some r
-countedResult (slow r) = some r
-countedResult wait = none
-countedResult (refused k) = none

@@ -19,3 +19,4 @@ pub mod Check
 pub mod Merge
 -- 'The coordinator's count'
 pub mod Count
+pub mod Inner

@@ -1,7 +1,7 @@
 -- 01, 'Stamps and bodies'.
 use mathlib.Core.Bool.{Bool, true, false}
 use mathlib.Core.List.{List, [], _∷_}
-use Prim.Native.Nat.{ℕ, suc, _+_, _*_, _^_}
+use Prim.Native.Nat.{ℕ, suc, _+_, _^_}
 use lib.Dec.{eqb, ltb, leb}
 use lib.ListN.{length}
 use Rattle.rules.specs.Tests.{both}
@@ -9,10 +9,6 @@ use Rattle.rules.specs.Tests.{both}
 -- "A stamp is 1 to 2^48-1 in 8 bytes": a number, since "It orders and names one transaction"
 unfoldable pub isStamp : ℕ → Bool
 isStamp s = both (ltb 0 s) (ltb s (2 ^ 48))
-
--- "time times 65,536 plus client"
-unfoldable pub stampOf : ℕ → ℕ → ℕ
-stampOf time client = time * 65536 + client
 
 -- "each is 9 bytes: register (0 to 63), then for a read the version seen .., for a write any 8-byte value"
 pub record Access : Type 0 where

@@ -9,7 +9,7 @@ use native.Mathlib.Omega.{arith}
 use lib.Dec.{eqb}
 use lib.ListN.{length, drop, getD, drop-of-length-le}
 use lib.Seq.{drop-cons}
-use Rattle.wire.specs.Numbers.{AllBytes}
+use Rattle.wire.specs.Inner.ByteLists.{AllBytes}
 use Rattle.rules.specs.Tests.{both}
 use Rattle.rules.specs.Stamps.{Body, sameBody}
 use Rattle.rules.proofs.Logic.{cases, impossible}
@@ -17,7 +17,7 @@ use Rattle.rules.proofs.Same.{same-body, body-same}
 use Rattle.rows.specs.declared.row.RowFields.{RowFields}
 use Rattle.rows.specs.Bytes.{bodyBytes}
 use Rattle.rows.specs.Read.{begins, bodyAt, rowOf}
-use Rattle.rows.specs.Rows.{BodyInside, bodyPart}
+use Rattle.rows.specs.Inner.Rows.{BodyInside, bodyPart}
 use Rattle.rows.proofs.Begins.{begins-is, begins-with}
 use Rattle.rows.proofs.Bodies.{body-part}
 use Rattle.rows.proofs.Turns.{body-of-part, length-body-part}

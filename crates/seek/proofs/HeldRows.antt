@@ -5,7 +5,7 @@ use mathlib.Core.List.{List, [], _∷_, _++_}
 use mathlib.Core.Option.{some}
 use Prim.Native.Nat.{ℕ, _+_, _*_, _≤_, _<_}
 use lib.ListN.{length}
-use Rattle.wire.specs.Numbers.{AllBytes}
+use Rattle.wire.specs.Inner.ByteLists.{AllBytes}
 use Rattle.rules.specs.Tests.{every}
 use Rattle.rules.specs.Tables.{Row, Model, rowByRule, prepareCode, prepareRetry, outcomeCode}
 use Rattle.rules.specs.Messages.{held, changed}
@@ -16,36 +16,35 @@ use Rattle.rules.proofs.Tables.{Regular, table-facts, row-facts}
 use Rattle.rows.specs.declared.row.RowFields.{RowFields}
 use Rattle.rows.specs.declared.lookup.Place.the-variants.{Held}
 use Rattle.rows.specs.Fields.{fieldsAt, fieldsOf, retryByCode}
-use Rattle.rows.specs.Places.{placeOf}
+use Rattle.rows.specs.Inner.Places.{placeOf}
 use Rattle.rows.specs.Read.{rowOf}
 use Rattle.rows.proofs.Codes.{prepare-code-limit, outcome-code-limit, retry-of-code}
 use Rattle.rows.proofs.FieldsRead.{fields-of-row}
 use Rattle.rows.proofs.Sought.{held-row}
 use Rattle.table.specs.Headers.{headerAt}
 use Rattle.table.specs.Images.{formatOne}
-use Rattle.table.specs.Parse.{tableAt}
+use Rattle.table.specs.Parse.{tableAt, BeginsWithImage}
 use Rattle.table.proofs.Images.{parse-by-rule, parse-reads}
-use Rattle.edit.specs.Edited.{Holds}
-use Rattle.edit.specs.Changes.{atIndex}
+use Rattle.edit.specs.Inner.Holding.{Holds}
+use Rattle.edit.specs.Inner.Changes.{atIndex}
 use Rattle.edit.proofs.Holding.{one-starts, holds-rows, holds-rows-at, holds-stands}
 use Rattle.edit.proofs.Indexes.{RowThere, row-there, changed-as}
 use Rattle.edit.proofs.EditedParts.{row-fields}
-use Rattle.seek.specs.Lent.{Lawful}
 
 -- bytes that parse begin with the image of their table
-pub lawful-holds : (M : Model) (s : List ℕ) → Lawful M s → Holds formatOne s
-lawful-holds M s lawful = parse-reads formatOne M s (tableAt formatOne s) lawful .1
+pub image-holds : (M : Model) (s : List ℕ) → BeginsWithImage M s → Holds formatOne s
+image-holds M s has-image = parse-reads formatOne M s (tableAt formatOne s) has-image .1
 
 -- a table by the rules, read off its bytes
-pub lawful-regular : (M : Model) (s : List ℕ) → Lawful M s → Regular (tableAt formatOne s) × (length (tableAt formatOne s .rows) ≤ M .rowLimit)
-lawful-regular M s lawful = table-facts M (tableAt formatOne s) (parse-by-rule formatOne M s (tableAt formatOne s) lawful)
+pub image-regular : (M : Model) (s : List ℕ) → BeginsWithImage M s → Regular (tableAt formatOne s) × (length (tableAt formatOne s .rows) ≤ M .rowLimit)
+image-regular M s has-image = table-facts M (tableAt formatOne s) (parse-by-rule formatOne M s (tableAt formatOne s) has-image)
 
 every-middle : (test : Row → Bool) (xs ys : List Row) (r : Row) → every test (xs ++ (r ∷ ys)) ≡ true → test r ≡ true
 unfolding every
 every-middle test [] ys r h = both-left _ _ h
 every-middle test (x ∷ xs) ys r h = every-middle test xs ys r (both-right _ _ h)
 
-module _ (M : Model) (s : List ℕ) (stamp i : ℕ) (bytes : AllBytes s) (lawful : Lawful M s) (place : placeOf (tableAt formatOne s .rows) stamp ≡ Held i) where
+module _ (M : Model) (s : List ℕ) (stamp i : ℕ) (bytes : AllBytes s) (has-image : BeginsWithImage M s) (place : placeOf (tableAt formatOne s .rows) stamp ≡ Held i) where
   abbrev pub fieldsHere : RowFields
   fieldsHere = fieldsAt s (24 + 24 * i)
 
@@ -53,7 +52,7 @@ module _ (M : Model) (s : List ℕ) (stamp i : ℕ) (bytes : AllBytes s) (lawful
   rowHere = rowOf s (fieldsAt s (24 + 24 * i))
 
   regular : Regular (tableAt formatOne s)
-  regular = lawful-regular M s lawful .0
+  regular = image-regular M s has-image .0
 
   found-here : (i < headerAt s .rows) × (held (tableAt formatOne s .rows) stamp ≡ some rowHere)
   found-here = rw (← holds-rows-at formatOne s) at (held-row s 24 (headerAt s .rows) stamp i (rw (holds-rows-at formatOne s) at (regular .rise)) (rw (holds-rows-at formatOne s) at place))
@@ -75,7 +74,7 @@ module _ (M : Model) (s : List ℕ) (stamp i : ℕ) (bytes : AllBytes s) (lawful
   unfolding fieldsOf
   codes-here =
       let r = there .row in
-      let e = rw (there .index) at (row-fields formatOne s (tableAt formatOne s) (there .before) (there .behind) r one-starts bytes (holds-stands formatOne s (lawful-holds M s lawful)) (there .is)) in
+      let e = rw (there .index) at (row-fields formatOne s (tableAt formatOne s) (there .before) (there .behind) r one-starts bytes (holds-stands formatOne s (image-holds M s has-image)) (there .is)) in
       let b : rowByRule r ≡ true = every-middle rowByRule (there .before) (there .behind) r (rw (there .is) at (regular .rows)) in
       rw e (prepare-code-limit (r .prepare), outcome-code-limit (r .outcome), retry-of-code (r .prepare) ∙ row-facts r b .retry)
 

@@ -8,7 +8,7 @@ use Prim.Native.Nat.{ℕ, _+_, _*_, _≤_}
 use lib.Dec.{eqb, ltb}
 use lib.ListN.{length}
 use borrow.Author.Tests.{eq-eqb, ne-eqb, eqb-true}
-use Rattle.wire.specs.Numbers.{AllBytes}
+use Rattle.wire.specs.Inner.ByteLists.{AllBytes}
 use Rattle.rules.specs.Groups.{fOf}
 use Rattle.rules.specs.Tables.{Row, Model, valley, rising}
 use Rattle.rules.specs.Circumstances.{belowLimit, isChanging, forOtherView, heldWithOtherBody, newButFull}
@@ -24,20 +24,20 @@ use Rattle.rows.specs.Fields.{fieldsAt}
 use Rattle.rows.proofs.Sought.{absent-none}
 use Rattle.rows.proofs.Bodies.{length-accessesAt}
 use Rattle.rows.proofs.Turns.{length-body-part}
-use Rattle.rows.specs.Places.{placeOf}
+use Rattle.rows.specs.Inner.Places.{placeOf}
 use Rattle.rows.specs.Read.{rowsAt, begins, bodyAt, rowOf}
-use Rattle.rows.specs.Rows.{RowsInside, BodyInside, bodyPart}
+use Rattle.rows.specs.Inner.Rows.{RowsInside, BodyInside, bodyPart}
 use Rattle.table.specs.declared.header.Header.{Header}
 use Rattle.table.specs.Headers.{headerAt}
 use Rattle.table.specs.Images.{formatOne}
-use Rattle.table.specs.Parse.{tableAt}
+use Rattle.table.specs.Parse.{tableAt, BeginsWithImage}
 use Rattle.table.proofs.Images.{Sound, Parsed, parsed, valley-sound}
 use Rattle.edit.proofs.Holding.{one-starts, holds-rows, holds-rows-at, holds-row-inside}
-use Rattle.seek.specs.Lent.{Lawful, limited}
+use Rattle.seek.specs.Inner.Limits.{limited}
 use Rattle.seek.specs.declared.Proposal.the-variants as propose
 use Rattle.seek.specs.declared.Finding.the-variants.{Refused}
-use Rattle.seek.specs.Sought.{rowOrUnknown, toFinalise, toPropose, RowInside, neededBody, NeededInside, otherCounts}
-use Rattle.seek.proofs.HeldRows.{held-here, index-here, lawful-holds}
+use Rattle.seek.specs.Inner.Findings.{rowOrUnknown, toFinalise, toPropose, RowInside, neededBody, NeededInside, otherCounts}
+use Rattle.seek.proofs.HeldRows.{held-here, index-here, image-holds}
 use Rattle.seek.proofs.BodiesAlike.{bodies-alike, same-begins}
 
 not-false : (b : Bool) → not b ≡ false → b ≡ true
@@ -69,9 +69,9 @@ module _ (s : List ℕ) where
 
 -- ---- rows that can be walked
 
-module _ (M : Model) (s : List ℕ) (sound : Sound formatOne M) (lawful : Lawful M s) where
+module _ (M : Model) (s : List ℕ) (sound : Sound formatOne M) (has-image : BeginsWithImage M s) where
   read-off : Parsed formatOne s (tableAt formatOne s)
-  read-off = parsed formatOne M s (tableAt formatOne s) sound lawful
+  read-off = parsed formatOne M s (tableAt formatOne s) sound has-image
 
   pub rows-inside : RowsInside s 24 (headerAt s .rows)
   rows-inside = rw (holds-rows formatOne s) at (read-off .inside)
@@ -139,16 +139,16 @@ module _ (s : List ℕ) (stamp limit : ℕ) (x : Body) where
       propose-full room = let e = sym room-told ∙ room in rw (said-normal s normal, not-other, absent, e)
 
 -- the row that is held has another body, or not
-module _ (s m : List ℕ) (i : ℕ) (g : RowFields) (bytes : AllBytes s) (given : AllBytes m) (lawful : Lawful valley s) (place : placeOf (tableAt formatOne s .rows) (g .stamp) ≡ Held i) (inside : BodyInside m g) where
+module _ (s m : List ℕ) (i : ℕ) (g : RowFields) (bytes : AllBytes s) (given : AllBytes m) (has-image : BeginsWithImage valley s) (place : placeOf (tableAt formatOne s .rows) (g .stamp) ≡ Held i) (inside : BodyInside m g) where
   abbrev f : RowFields
   f = fieldsAt s (24 + 24 * i)
 
   other-is : heldWithOtherBody (tableAt formatOne s) (g .stamp) (bodyAt m (g .offset) (g .reads) (g .writes)) ≡ not (sameBody (bodyAt m (g .offset) (g .reads) (g .writes)) (bodyAt s (f .offset) (f .reads) (f .writes)))
   unfolding heldWithOtherBody rowOf
-  other-is = rw (held-here valley s (g .stamp) i bytes lawful place)
+  other-is = rw (held-here valley s (g .stamp) i bytes has-image place)
 
   pub body-inside-here : BodyInside s (fieldsAt s (24 + 24 * i))
-  body-inside-here = rows-inside valley s valley-sound lawful .1 i (index-here valley s (g .stamp) i bytes lawful place)
+  body-inside-here = rows-inside valley s valley-sound has-image .1 i (index-here valley s (g .stamp) i bytes has-image place)
 
   pub same-counts : fieldsAt s (24 + 24 * i) .reads ≡ g .reads → fieldsAt s (24 + 24 * i) .writes ≡ g .writes →
       heldWithOtherBody (tableAt formatOne s) (g .stamp) (bodyAt m (g .offset) (g .reads) (g .writes)) ≡ not (begins (bodyPart s (fieldsAt s (24 + 24 * i))) (bodyPart m g))
@@ -167,12 +167,12 @@ module _ (s m : List ℕ) (i : ℕ) (g : RowFields) (bytes : AllBytes s) (given 
 
 -- ---- the same, of any place that was found
 
-module _ (s m : List ℕ) (g : RowFields) (bytes : AllBytes s) (given : AllBytes m) (lawful : Lawful valley s) (inside : BodyInside m g) where
+module _ (s m : List ℕ) (g : RowFields) (bytes : AllBytes s) (given : AllBytes m) (has-image : BeginsWithImage valley s) (inside : BodyInside m g) where
   abbrev other : Bool
   other = heldWithOtherBody (tableAt formatOne s) (g .stamp) (bodyAt m (g .offset) (g .reads) (g .writes))
 
   pub needed-inside : (place : Place) → place ≡ placeOf (tableAt formatOne s .rows) (g .stamp) → NeededInside s m g place
-  needed-inside (Held i) e = (holds-row-inside formatOne s i one-starts (lawful-holds valley s lawful) (index-here valley s (g .stamp) i bytes lawful (sym e)), body-inside-here s m i g bytes given lawful (sym e) inside)
+  needed-inside (Held i) e = (holds-row-inside formatOne s i one-starts (image-holds valley s has-image) (index-here valley s (g .stamp) i bytes has-image (sym e)), body-inside-here s m i g bytes given has-image (sym e) inside)
   needed-inside (Absent i) e = inside
 
   pub row-inside : (place : Place) → place ≡ placeOf (tableAt formatOne s .rows) (g .stamp) → RowInside s place
@@ -184,8 +184,8 @@ module _ (s m : List ℕ) (g : RowFields) (bytes : AllBytes s) (given : AllBytes
   counts-differ (Held i) e h = go (cases (eqb (fieldsAt s (24 + 24 * i) .reads) (g .reads))) (cases (eqb (fieldsAt s (24 + 24 * i) .writes) (g .writes)))
     where
       go : (eqb (fieldsAt s (24 + 24 * i) .reads) (g .reads) ≡ true) ⊎ (eqb (fieldsAt s (24 + 24 * i) .reads) (g .reads) ≡ false) → (eqb (fieldsAt s (24 + 24 * i) .writes) (g .writes) ≡ true) ⊎ (eqb (fieldsAt s (24 + 24 * i) .writes) (g .writes) ≡ false) → true ≡ other
-      go (inr r) w = sym (other-reads s m i g bytes given lawful (sym e) inside (λ same. impossible (eq-eqb _ _ same) r))
-      go (inl r) (inr w) = sym (other-writes s m i g bytes given lawful (sym e) inside (λ same. impossible (eq-eqb _ _ same) w))
+      go (inr r) w = sym (other-reads s m i g bytes given has-image (sym e) inside (λ same. impossible (eq-eqb _ _ same) r))
+      go (inl r) (inr w) = sym (other-writes s m i g bytes given has-image (sym e) inside (λ same. impossible (eq-eqb _ _ same) w))
       go (inl r) (inl w) = impossible h (ap not (both-true r w))
 
   module _ (same : otherCounts s g (placeOf (tableAt formatOne s .rows) (g .stamp)) ≡ false) where
@@ -202,5 +202,5 @@ module _ (s m : List ℕ) (g : RowFields) (bytes : AllBytes s) (given : AllBytes
 
     pub bytes-tell : (place : Place) → place ≡ placeOf (tableAt formatOne s .rows) (g .stamp) → not (begins (neededBody s m g place) (bodyPart m g)) ≡ heldWithOtherBody (tableAt formatOne s) (g .stamp) (bodyAt m (g .offset) (g .reads) (g .writes))
     unfolding heldWithOtherBody
-    bytes-tell (Held i) e = let (r, w) = held-counts i (sym e) in sym (same-counts s m i g bytes given lawful (sym e) inside r w)
+    bytes-tell (Held i) e = let (r, w) = held-counts i (sym e) in sym (same-counts s m i g bytes given has-image (sym e) inside r w)
     bytes-tell (Absent i) e = rw (absent-none (tableAt formatOne s .rows) (g .stamp) i (sym e), same-begins (bodyPart m g) (bodyPart m g) refl)

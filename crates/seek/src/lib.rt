@@ -10,13 +10,13 @@ ghost use lib.ListN.{length};
 ghost use Rattle.rules.specs.Groups.{fOf};
 ghost use Rattle.rules.specs.Tables.{valley};
 ghost use Rattle.rules.specs.Circumstances.{belowLimit, heldWithOtherBody};
-ghost use Rattle.rows.specs.Places.{placeOf};
+ghost use Rattle.rows.specs.Inner.Places.{placeOf};
 ghost use Rattle.rows.specs.Read.{begins, bodyAt};
-ghost use Rattle.rows.specs.Rows.{BodyInside};
+ghost use Rattle.rows.specs.Inner.Rows.{BodyInside};
 ghost use Rattle.table.specs.Images.{formatOne};
-ghost use Rattle.table.specs.Parse.{tableAt};
-ghost use Rattle.seek.specs.Lent.{limited, Lawful};
-ghost use Rattle.seek.specs.Sought.{RowInside, neededBody, NeededInside, otherCounts, toFinalise, toPropose};
+ghost use Rattle.table.specs.Parse.{tableAt, BeginsWithImage};
+ghost use Rattle.seek.specs.Inner.Limits.{limited};
+ghost use Rattle.seek.specs.Inner.Findings.{RowInside, neededBody, NeededInside, otherCounts, toFinalise, toPropose};
 
 // What is found for a message that finalises.
 pub enum Finding {
@@ -33,7 +33,7 @@ pub enum Proposal {
 
 // Messages 2 and 4: the row of the stamp, in a box that is in that view.
 pub fn row_to_finalise(table: &[u8], stamp: u64, view: u32) -> Finding
-    requires { ⌜ Lawful valley (now table) ⌝ }
+    requires { ⌜ BeginsWithImage valley (now table) ⌝ }
     ensures { λ r. ⌜ r ≡ toFinalise (tableAt formatOne (now (table .entry))) stamp view ⌝ }
 {
     let h = header::read(table);
@@ -99,7 +99,7 @@ fn other_counts(table: &[u8], place: Place, given: RowFields) -> bool
 
 // Whether a stamp is held with another body than a message has: what is needed for the answer is then not what the message says. A merge asks the same of two tables: the other one is lent in the message's place.
 pub fn other_body<'a>(table: &'a [u8], message: &'a [u8], place: Place, given: RowFields) -> bool
-    requires { ⌜ Lawful valley (now table) × (place ≡ placeOf (tableAt formatOne (now table) .rows) (given .stamp)) × BodyInside (now message) given ⌝ }
+    requires { ⌜ BeginsWithImage valley (now table) × (place ≡ placeOf (tableAt formatOne (now table) .rows) (given .stamp)) × BodyInside (now message) given ⌝ }
     ensures { λ r. ⌜ r ≡ heldWithOtherBody (tableAt formatOne (now (table .entry))) (given .stamp) (bodyAt (now (message .entry)) (given .offset) (given .reads) (given .writes)) ⌝ }
 {
     if other_counts(table, place, given) {
@@ -125,7 +125,7 @@ pub fn row_to_propose<'a>(
     given: RowFields,
     limit: u16,
 ) -> Proposal
-    requires { ⌜ Lawful valley (now table) × BodyInside (now message) given ⌝ }
+    requires { ⌜ BeginsWithImage valley (now table) × BodyInside (now message) given ⌝ }
     ensures { λ r. ⌜ r ≡ toPropose (limited limit) (tableAt formatOne (now (table .entry))) (given .stamp) (bodyAt (now (message .entry)) (given .offset) (given .reads) (given .writes)) ⌝ }
 {
     let h = header::read(table);

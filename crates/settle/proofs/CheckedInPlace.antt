@@ -8,7 +8,7 @@ use native.Mathlib.Omega.{arith}
 use lib.Dec.{leb}
 use lib.ListN.{length}
 use borrow.Author.Tests.{eq-eqb, ne-eqb, lt-ltb}
-use Rattle.wire.specs.Numbers.{AllBytes}
+use Rattle.wire.specs.Inner.ByteLists.{AllBytes}
 use Rattle.rules.specs.Tests.{both, every, isSome}
 use Rattle.rules.specs.Stamps.{Body}
 use Rattle.rules.specs.Tables.{Result, Prepare, Prepare.tentative, Prepare.final, Outcome.noted, Outcome.done, Row, Table, rising, resultCode, prepareCode, outcomeCode, somethingHeld}
@@ -20,22 +20,23 @@ use Rattle.rows.specs.declared.row.RowFields.{RowFields}
 use Rattle.rows.specs.Bytes.{bodiesLength}
 use Rattle.rows.specs.Fields.{fieldsAt, fieldsOf, resultNumbered, prepareNumbered, verdictNumbered, outcomeNumbered, retryByCode}
 use Rattle.rows.specs.Read.{bodyAt, rowOf, rowsAt}
-use Rattle.rows.specs.Rows.{BodyInside, RowsInside, bodyPart}
+use Rattle.rows.specs.Inner.Rows.{BodyInside, RowsInside, bodyPart}
 use Rattle.rows.proofs.Turns.{body-of-part}
 use Rattle.table.specs.Headers.{headerAt}
 use Rattle.table.specs.Images.{formatOne, imageLength}
 use Rattle.table.specs.Parse.{tableAt}
-use Rattle.edit.specs.Changes.{atIndex, onRow}
-use Rattle.edit.specs.Edited.{Holds, edited}
+use Rattle.edit.specs.Inner.Changes.{atIndex, onRow}
+use Rattle.edit.specs.Inner.Holding.{Holds}
+use Rattle.edit.specs.Edited.{edited}
 use Rattle.edit.proofs.Holding.{one-starts, holds-long, holds-stands, holds-rows, holds-rows-at}
 use Rattle.edit.proofs.Indexes.{RowThere, row-there, at-index}
 use Rattle.edit.proofs.EditedBuffers.{edited-as, edited-same, edited-holds, edited-twice}
 use Rattle.edit.proofs.EditedParts.{row-fields}
 use Rattle.edit.proofs.RowsJoined.{bodies-length-joined}
-use Rattle.checks.specs.Given.{checkedAs}
+use Rattle.checks.specs.Inner.Given.{checkedAs}
 use Rattle.gather.specs.declared.agreed.Agreed.{Agreed}
-use Rattle.gather.specs.Agreed.{agreedAs}
-use Rattle.settle.specs.Turns.{hasStamp, waits, checkedBy, checkedRows}
+use Rattle.gather.specs.Inner.Agreed.{agreedAs}
+use Rattle.settle.specs.Inner.Turns.{hasStamp, waits, checkedBy, checkedRows}
 use Rattle.settle.proofs.ChecksInTurn.{RowIs, row-read, left, turn-start, turn-passed, turn-checked, turn-end, alike-checked, alike-left, alike-rising, alike-stamped, alike-length, alike-image, check-result-codes}
 
 -- ---- rows that stand in a buffer, by the rules or not

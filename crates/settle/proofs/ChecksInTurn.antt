@@ -28,11 +28,11 @@ use Rattle.rows.specs.Bytes.{lengthOf, bodiesLength}
 use Rattle.rows.specs.Fields.{fieldsAt, prepareNumbered, resultNumbered, retryByCode}
 use Rattle.rows.specs.Read.{rowOf, rowsAt}
 use Rattle.table.specs.Images.{formatOne, imageLength}
-use Rattle.edit.specs.Changes.{atIndex}
+use Rattle.edit.specs.Inner.Changes.{atIndex}
 use Rattle.edit.proofs.Indexes.{at-index, none-changed}
-use Rattle.checks.specs.Given.{checkedAs}
+use Rattle.checks.specs.Inner.Given.{checkedAs}
 use Rattle.gather.proofs.NextStamps.{AllRegular, stamps-stamped, stamps-from-one}
-use Rattle.settle.specs.Turns.{hasStamp, waits, checkedBy, checkedRows}
+use Rattle.settle.specs.Inner.Turns.{hasStamp, waits, checkedBy, checkedRows}
 
 -- ---- which rows wait, of the rows before any check
 

@@ -16,11 +16,12 @@ ghost use Rattle.rows.specs.Read.{rowOf};
 ghost use Rattle.table.specs.Headers.{headerAt};
 ghost use Rattle.table.specs.Images.{formatOne};
 ghost use Rattle.table.specs.Parse.{tableAt};
-ghost use Rattle.edit.specs.Changes.{onRow};
-ghost use Rattle.edit.specs.Edited.{Holds, edited};
-ghost use Rattle.run.specs.Runs.{tablesOf, Images};
-ghost use Rattle.gather.specs.Held.{usedOf};
-ghost use Rattle.settle.specs.Turns.{hasStamp, waits, checkedBy, checkedRows};
+ghost use Rattle.edit.specs.Inner.Changes.{onRow};
+ghost use Rattle.edit.specs.Inner.Holding.{Holds};
+ghost use Rattle.edit.specs.Edited.{edited};
+ghost use Rattle.image_run.specs.Inner.WholeRuns.{tablesOf, Images};
+ghost use Rattle.gather.specs.Inner.UsedTables.{usedOf};
+ghost use Rattle.settle.specs.Inner.Turns.{hasStamp, waits, checkedBy, checkedRows};
 
 // Gives the row at an index what the check says of it, final.
 fn check_row(out: &mut [u8], index: usize)

@@ -14,18 +14,21 @@ use Rattle.rules.specs.Stamps.{isStamp}
 use Rattle.rules.specs.Numbers.{Number.contradiction, numberCode}
 use Rattle.rules.specs.Tables.{Result, Result.OK, Result.ABORT, Result.ABSTAIN, Result.RETRY, resultCode, resultRetry, resultByRule}
 use Rattle.rules.specs.Count as rules
+use Rattle.rules.specs.Inner.CountAnswers.{countedNumber}
 use Rattle.rules.proofs.Logic.{both-right}
 use Rattle.rules.proofs.Lists.{_∈_}
 use Rattle.replies.specs.declared.held.Reply.{Reply}
 use Rattle.count.specs.declared.answer.Counted.{Counted}
 use Rattle.count.specs.declared.answer.Counted.the-variants.{Fast, Slow, Wait, Bad, Contradiction}
-use Rattle.count.specs.Answers.{answerAs, meant, answerNumber}
-use Rattle.count.specs.Calls.{recordsBytes}
+use Rattle.count.specs.Answers.{answerAs, answerNumber}
+use Rattle.count.specs.Inner.MeantAnswers.{meant}
+use Rattle.count.specs.Inner.RecordBytes.{recordsBytes}
 use Rattle.count.proofs.HeardBytes.{AllFit, same-count}
 use Rattle.count.proofs.CountWays.{Lent, Lent.records, Lent.laid, countLent, count-numbers}
 use Rattle.count.proofs.CountCall.{answer-by-rule, answer-meant}
 use Rattle.count.proofs.answer.Counted as enum
-use Rattle.sprondilu.specs.Calls.{resultWord, countAnswer, ResultFits}
+use Rattle.sprondilu.specs.Calls.{resultWord, countAnswer}
+use Rattle.sprondilu.specs.Inner.Words.{ResultFits}
 
 -- neither fast nor slow: the word is the number
 pub without-result : (a : Counted) → OneOf (1 ∷ 2 ∷ 3 ∷ 4 ∷ []) (tagOf enum.the-type a) → OneOf (0 ∷ 2 ∷ 3 ∷ 4 ∷ []) (tagOf enum.the-type a) → answerNumber a ≡ countAnswer a
@@ -93,14 +96,14 @@ word-says n lent = go (countLent n lent) (answer-by-rule n lent) (answer-meant n
     go (rules.Counted.refused k) h m = refusal (eqb k (numberCode contradiction)) m
       where
         refusal : (b : Bool) → meant (cond b Contradiction Bad) ≡ rules.Counted.refused k → countAnswer (cond b Contradiction Bad) ≡ k
-        refusal true e = ap rules.countedNumber e
-        refusal false e = ap rules.countedNumber e
+        refusal true e = ap countedNumber e
+        refusal false e = ap countedNumber e
 
 -- so its number is that of the count
-pub word-number : (n : ℕ) (lent : Lent) → countWord n lent % 256 ≡ rules.countedNumber (countLent n lent)
+pub word-number : (n : ℕ) (lent : Lent) → countWord n lent % 256 ≡ countedNumber (countLent n lent)
 word-number n lent = go (countLent n lent) (word-says n lent) (count-numbers n lent)
   where
-    go : (c : rules.Counted) → Says (countWord n lent) c → rules.countedNumber c ∈ (0 ∷ 3 ∷ 6 ∷ []) → countWord n lent % 256 ≡ rules.countedNumber c
+    go : (c : rules.Counted) → Says (countWord n lent) c → countedNumber c ∈ (0 ∷ 3 ∷ 6 ∷ []) → countWord n lent % 256 ≡ countedNumber c
     go (rules.Counted.fast r) e m = e .0
     go (rules.Counted.slow r) e m = e .0
     go rules.Counted.wait e m = omega arith

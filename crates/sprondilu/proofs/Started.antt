@@ -16,7 +16,8 @@ use Rattle.rules.proofs.Tables.{table-facts}
 use Rattle.table.specs.Images.{formatOne, imageLength, image}
 use Rattle.table.specs.Parse.{parse}
 use Rattle.table.proofs.Images.{valley-sound, length-image}
-use Rattle.message.specs.Messages.{messageBytes, messageAt}
+use Rattle.message.specs.Inner.MessageBytes.{messageBytes}
+use Rattle.message.specs.Messages.{messageAt}
 use Rattle.message.proofs.Forms.{message-read}
 use Rattle.transact.proofs.Serving.{number-6}
 use Rattle.answer.specs.Calls as answer
@@ -46,12 +47,12 @@ module _ (run : List ℕ) (v : ℕ) (out : List ℕ) (w : MergeDone valley run v
       let i : w .merged .view ≡ v = eqb-true _ _ (both-left _ _ (both-right _ _ (w .starts))) in
       rw i at (table-facts valley (w .merged) (w .byRule) .0 .view)
 
-  sent-lawful : messageByRule valley (w .merged .n) (startView v (w .merged)) ≡ true
+  sent-by-rule : messageByRule valley (w .merged .n) (startView v (w .merged)) ≡ true
   unfolding messageByRule
-  sent-lawful = both-true sent-view (both-true (w .byRule) (ap (λ n. startsView n v (w .merged)) (w .group) ∙ w .starts))
+  sent-by-rule = both-true sent-view (both-true (w .byRule) (ap (λ n. startsView n v (w .merged)) (w .group) ∙ w .starts))
 
   sent-read : messageAt formatOne (startBytes v (w .merged) (merge.callOutput valley run v out)) ≡ some (startView v (w .merged))
-  sent-read = ap (messageAt formatOne) sent-is ∙ message-read formatOne valley (w .merged .n) (startView v (w .merged)) valley-sound sent-lawful
+  sent-read = ap (messageAt formatOne) sent-is ∙ message-read formatOne valley (w .merged .n) (startView v (w .merged)) valley-sound sent-by-rule
 
 -- 10, "6 with v below promised or at or below view", does not apply
 not-old : (T : Table) (v : ℕ) → T .promised ≤ v → T .view < v → startsOldView T v ≡ false
@@ -75,7 +76,7 @@ module _ (run : List ℕ) (v : ℕ) (out : List ℕ) (e : merge.callNumber valle
   merge-accepted table reply T a n p l large room =
       let w = valley-done run v out e in
       let b : messageAt formatOne startMessage ≡ some (startView v started) = sent-read run v out w in
-      let k = way-exactly valley table startMessage reply (served (large, room) T (startView v started) a b (rw n (sent-lawful run v out w))) in
+      let k = way-exactly valley table startMessage reply (served (large, room) T (startView v started) a b (rw n (sent-by-rule run v out w))) in
       let z : answer.callNumber valley table startMessage reply ≡ 0 = k ∙ number-6 valley T v started ∙ rw (not-old T v p l) in
       let t = answer-taken valley table startMessage reply valley-sound z in
       let i : some (t .before) ≡ some T = sym (t .read) ∙ a in

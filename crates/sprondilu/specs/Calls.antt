@@ -1,5 +1,5 @@
 -- How answers cross the C boundary, where they are more than 01's number.
-use Prim.Native.Nat.{ℕ, _+_, _*_, _^_, _<_}
+use Prim.Native.Nat.{ℕ, _+_, _*_}
 use Rattle.rules.specs.Numbers.{Number.badTable, numberCode}
 use Rattle.table.specs.declared.image.Found.{Found}
 use Rattle.table.specs.declared.image.Found.the-variants.{Image, Nothing}
@@ -23,11 +23,3 @@ countAnswer (Slow result retry) = answerNumber (Slow result retry) + resultWord 
 countAnswer Wait = answerNumber Wait + resultWord 0 0 0
 countAnswer Bad = answerNumber Bad
 countAnswer Contradiction = answerNumber Contradiction
-
--- a result fits its 3 bits and a retry stamp its 48: what is asked of an answer before its word is made
-abbrev pub ResultFits : Counted → Type 0
-ResultFits (Fast result retry) = (result < 8) × (retry < 2 ^ 48)
-ResultFits (Slow result retry) = (result < 8) × (retry < 2 ^ 48)
-ResultFits Wait = Unit {0}
-ResultFits Bad = Unit {0}
-ResultFits Contradiction = Unit {0}

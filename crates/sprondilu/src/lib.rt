@@ -15,7 +15,8 @@ ghost use Rattle.answer.specs.Calls.{callNumber, callTable, callReply};
 ghost use Rattle.merge.specs.Calls as merging;
 ghost use Rattle.count.specs.Answers.{answerAs, answerNumber};
 ghost use Rattle.count.specs.Calls.{countOf, countBytes};
-ghost use Rattle.sprondilu.specs.Calls.{validAnswer, resultWord, countAnswer, ResultFits};
+ghost use Rattle.sprondilu.specs.Calls.{validAnswer, resultWord, countAnswer};
+ghost use Rattle.sprondilu.specs.Inner.Words.{ResultFits};
 
 // The fresh table of a box, at the start of a table buffer; the answer is the number.
 #[no_mangle]

@@ -7,20 +7,21 @@ use Prim.Native.Nat.{ℕ, _+_, _*_, _^_, _≤_, _<_}
 use native.Mathlib.Omega.{arith}
 use lib.ListN.{length}
 use borrow.Author.Tests.{ltb-true, lt-ltb, leb-true, le-leb, eqb-true}
-use Rattle.wire.specs.Numbers.{AllBytes}
+use Rattle.wire.specs.Inner.ByteLists.{AllBytes}
 use Rattle.wire.proofs.Numbers.{numberAt-below}
 use Rattle.wire.proofs.Stands.{Stands, stands-inside, stands-joined}
 use Rattle.rules.specs.Tests.{both, provided}
 use Rattle.rules.specs.Tables.{Table, Model, valley, isView, tableByRule}
 use Rattle.rules.proofs.Logic.{both-left, both-right, both-true, same-test}
 use Rattle.rules.proofs.Tables.{Regular, table-facts, table-by}
-use Rattle.table.specs.Headers.{headerBytes, headerAt, sizesByRule, headerByRuleAt}
+use Rattle.table.specs.Headers.{headerBytes, headerAt}
+use Rattle.table.specs.Inner.HeaderTests.{sizesByRule, headerByRuleAt}
 use Rattle.table.specs.declared.image.Found.the-variants.{Image, Nothing}
 use Rattle.rows.specs.Bytes.{bodiesBytes, rowsBytes}
 use Rattle.table.specs.Images.{Form, formatOne, imageLength, headerOf, image}
 use Rattle.rows.specs.Read.{rowsAt, begins}
 use Rattle.table.specs.Parse.{tableAt, parse, imageFound}
-use Rattle.rows.specs.Rows.{rowsByRuleAt}
+use Rattle.rows.specs.Inner.Rows.{rowsByRuleAt}
 use Rattle.table.proofs.Headers.{length-header, header-stands}
 use Rattle.rows.proofs.RowsRead.{length-rowsAt, by-rule-stand, stand-by-rule, rows-together}
 use Rattle.rows.proofs.Begins.{begins-stands, stands-begins}

@@ -8,14 +8,16 @@ use native.Mathlib.Omega.{arith}
 use lib.ListN.{length, length-append}
 use borrow.Author.Tests.{leb-true}
 use Rattle.wire.specs.Parts.{replaced}
-use Rattle.wire.specs.Numbers.{bytes, AllBytes}
+use Rattle.wire.specs.Numbers.{bytes}
+use Rattle.wire.specs.Inner.ByteLists.{AllBytes}
 use Rattle.wire.proofs.Parts.{replaced-joined}
 use Rattle.wire.proofs.Numbers.{length-bytes, bytes-fit, all-joined}
 use Rattle.wire.proofs.Stands.{Stands, stands-left, stands-right, stands-joined}
 use Rattle.wire.proofs.Fields.{field-read, field-stands, last-read, last-stands, stands-bytes, field-fits}
 use Rattle.rules.proofs.Logic.{both-left, both-right}
 use Rattle.table.specs.declared.header.Header.{Header}
-use Rattle.table.specs.Headers.{singleBytes, fourByteFields, headerBytes, headerAt, sizesByRule, headerByRuleAt}
+use Rattle.table.specs.Headers.{singleBytes, fourByteFields, headerBytes, headerAt}
+use Rattle.table.specs.Inner.HeaderTests.{sizesByRule, headerByRuleAt}
 
 length-single : (h : Header) → length (singleBytes h) ≡ 4
 unfolding singleBytes

@@ -9,7 +9,8 @@ use native.Mathlib.Omega.{arith}
 use lib.Dec.{eqb, ltb}
 use lib.ListN.{length, take, drop, length-append}
 use borrow.Author.Tests.{ltb-true, leb-true, eqb-true}
-use Rattle.wire.specs.Numbers.{numberAt, AllBytes}
+use Rattle.wire.specs.Numbers.{numberAt}
+use Rattle.wire.specs.Inner.ByteLists.{AllBytes}
 use Rattle.wire.proofs.Stands.{Stands, stands-inside, stands-left, stands-right}
 use Rattle.rules.specs.Tests.{both, every, provided}
 use Rattle.rules.specs.Stamps.{countsByRule}
@@ -20,7 +21,7 @@ use Rattle.rules.proofs.Groups.{group-bounds}
 use Rattle.rules.proofs.Tables.{row-facts, table-facts}
 use Rattle.rows.specs.Bytes.{bodiesBytes, bodiesLength, rowsBytes}
 use Rattle.rows.specs.Read.{rowsAt, begins}
-use Rattle.rows.specs.Rows.{RowsInside}
+use Rattle.rows.specs.Inner.Rows.{RowsInside}
 use Rattle.rows.proofs.RowsRead.{length-rows, length-bodies, RowsStand, rows-complete, bodies-inside, rows-among}
 use Rattle.rows.proofs.Begins.{begins-stands, begins-is, begins-with}
 use Rattle.table.specs.declared.header.Header.{Header}

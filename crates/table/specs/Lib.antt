@@ -1,5 +1,5 @@
-pub mod Models
 pub mod Headers
 pub mod Images
 pub mod Parse
 pub mod Fresh
+pub mod Inner

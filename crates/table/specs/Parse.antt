@@ -1,5 +1,6 @@
 -- Bytes as a table, or as none: what 01's number 2 asks, "doesn't begin with an image by the rules".
 -- What is read is settled by two tests, so that only they have to be believed: the table is by the rules, and the bytes begin with its image.
+use mathlib.Core.Path.{_≡_}
 use mathlib.Core.List.{List}
 use mathlib.Core.Option.{Option, none, some}
 use Prim.Native.Nat.{ℕ}
@@ -9,7 +10,7 @@ use Rattle.rows.specs.Read.{rowsAt, begins}
 use Rattle.table.specs.declared.image.Found.{Found}
 use Rattle.table.specs.declared.image.Found.the-variants.{Image, Nothing}
 use Rattle.table.specs.Headers.{headerAt}
-use Rattle.table.specs.Images.{Form, image, imageLength}
+use Rattle.table.specs.Images.{Form, formatOne, image, imageLength}
 
 -- the table at the start of bytes, whatever they are
 unfoldable pub tableAt : Form → List ℕ → Table
@@ -32,3 +33,7 @@ parse F M s = let T = tableAt F s in provided (both (tableByRule M T) (begins s 
 abbrev pub imageFound : Form → Option Table → Found
 imageFound F none = Nothing
 imageFound F (some T) = Image (imageLength F T)
+
+-- bytes that begin with an image by the rules
+abbrev pub BeginsWithImage : Model → List ℕ → Type 0
+BeginsWithImage M s = parse formatOne M s ≡ some (tableAt formatOne s)

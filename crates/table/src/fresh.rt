@@ -5,7 +5,7 @@ use crate::model::Model;
 ghost use mathlib.Core.Path.{_≡_};
 ghost use Prim.Native.Nat.{_≤_};
 ghost use Rattle.rules.specs.Tables.{valley};
-ghost use Rattle.table.specs.Models.{modelOf};
+ghost use Rattle.table.specs.Inner.Models.{modelOf};
 ghost use Rattle.table.specs.Fresh.{freshNumber, freshBuffer};
 
 // The fresh table of a model, written into a lent buffer whose old bytes are never looked at.

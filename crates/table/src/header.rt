@@ -7,7 +7,9 @@ ghost use Rattle.wire.specs.Parts.{replaced};
 ghost use Rattle.rules.specs.Tests.{both};
 ghost use Rattle.rules.specs.Groups.{isGroup};
 ghost use Rattle.rules.specs.Tables.{modeByRule, freshTable};
-ghost use Rattle.table.specs.Headers.{fourByteFields, headerBytes, headerAt, withView, withPromised, withMode, withRows, withBox, sizesByRule, headerByRuleAt};
+ghost use Rattle.table.specs.Headers.{fourByteFields, headerBytes, headerAt};
+ghost use Rattle.table.specs.Inner.ChangedHeaders.{withView, withPromised, withMode, withRows, withBox};
+ghost use Rattle.table.specs.Inner.HeaderTests.{sizesByRule, headerByRuleAt};
 ghost use Rattle.table.specs.Images.{headerOf, formatOne};
 
 // How many bytes a header has.

@@ -6,9 +6,9 @@ ghost use mathlib.Core.Path.{_≡_};
 ghost use Prim.Native.Nat.{_≤_};
 ghost use lib.ListN.{length};
 ghost use Rattle.rules.specs.Tests.{both};
-ghost use Rattle.rows.specs.Rows.{rowsByRuleAt};
-ghost use Rattle.table.specs.Models.{modelOf};
-ghost use Rattle.table.specs.Headers.{headerByRuleAt};
+ghost use Rattle.rows.specs.Inner.Rows.{rowsByRuleAt};
+ghost use Rattle.table.specs.Inner.Models.{modelOf};
+ghost use Rattle.table.specs.Inner.HeaderTests.{headerByRuleAt};
 ghost use Rattle.table.specs.Images.{formatOne};
 ghost use Rattle.table.specs.Parse.{parse, imageFound};
 

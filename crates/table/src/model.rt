@@ -1,7 +1,7 @@
 // The kinds of box.
 ghost use mathlib.Core.Path.{_≡_};
 ghost use Rattle.rules.specs.Tables.{valley};
-ghost use Rattle.table.specs.Models.{modelOf};
+ghost use Rattle.table.specs.Inner.Models.{modelOf};
 
 // How many bytes the table or output buffer of a valley box has at least.
 pub const VALLEY_BUFFER: usize = 49176;

@@ -14,7 +14,7 @@ use Rattle.rules.proofs.Logic.{both-left, both-right, impossible, cases}
 use Rattle.rows.specs.Fields.{resultNumbered, prepareNumbered, verdictNumbered, outcomeNumbered, retryByCode}
 use Rattle.rows.proofs.Codes.{prepare-numbered, outcome-numbered}
 use Rattle.message.specs.Messages.{resultByCode, verdictByCode}
-use Rattle.message.proofs.Lawful.{result-coded}
+use Rattle.message.proofs.KeepingRules.{result-coded}
 use Rattle.message.proofs.Forms.{verdict-numbered}
 
 -- ---- results

@@ -18,15 +18,15 @@ use Rattle.rules.specs.Answers.{refusal}
 use Rattle.rules.proofs.Logic.{cases, both-left, impossible}
 use Rattle.rows.specs.declared.lookup.Place.{Place}
 use Rattle.rows.specs.declared.lookup.Place.the-variants as place
-use Rattle.rows.specs.Places.{placeOf}
+use Rattle.rows.specs.Inner.Places.{placeOf}
 use Rattle.table.specs.Images.{formatOne}
 use Rattle.table.specs.Parse.{tableAt}
-use Rattle.edit.specs.Edited.{Holds}
+use Rattle.edit.specs.Inner.Holding.{Holds}
 use Rattle.seek.specs.declared.Proposal.{Proposal}
 use Rattle.seek.specs.declared.Proposal.the-variants.{Held, New, Against}
-use Rattle.seek.specs.Sought.{toPropose}
+use Rattle.seek.specs.Inner.Findings.{toPropose}
 use Rattle.transact.specs.Replies.{replyAs}
-use Rattle.transact.specs.Served.{servedNumber}
+use Rattle.transact.specs.Inner.Served.{servedNumber}
 use Rattle.transact.proofs.Serving.{Kept, kept-refused}
 
 against-same : {a b : ℕ} → Against a ≡ Against b → a ≡ b

@@ -4,7 +4,7 @@ use mathlib.Core.Bool.{true, false}
 use mathlib.Core.List.{List}
 use mathlib.Core.Option.{none}
 use Prim.Native.Nat.{ℕ, _+_, _*_, _≤_}
-use Rattle.wire.specs.Numbers.{AllBytes}
+use Rattle.wire.specs.Inner.ByteLists.{AllBytes}
 use Rattle.rules.specs.Tests.{either}
 use Rattle.rules.specs.Stamps.{Body}
 use Rattle.rules.specs.Tables.{Row, Result, Result.OK, Result.ABORT, Result.ABSTAIN, Result.RETRY, Prepare, Prepare.noPrepare, Prepare.tentative, Prepare.final, Verdict.commit, Verdict.abort, Outcome, Outcome.noOutcome, Outcome.noted, Outcome.done, Model, valley, resultCode, resultRetry, prepareCode, prepareRetry, outcomeCode, verdictCode, resultByRule, retryByRule, somethingHeld}
@@ -18,23 +18,23 @@ use Rattle.rules.proofs.Tables.{RowByRule, row-facts}
 use Rattle.rows.specs.declared.row.RowFields.{RowFields}
 use Rattle.rows.specs.declared.lookup.Place.the-variants as place
 use Rattle.rows.specs.Fields.{fieldsAt, prepareNumbered, outcomeNumbered, verdictNumbered, retryByCode}
-use Rattle.rows.specs.Places.{placeOf}
+use Rattle.rows.specs.Inner.Places.{placeOf}
 use Rattle.rows.specs.Read.{rowOf, bodyAt}
 use Rattle.rows.proofs.Codes.{prepare-read, retry-of-code, prepare-code-limit, outcome-numbered}
 use Rattle.rows.proofs.Sought.{absent-none}
 use Rattle.table.specs.Headers.{headerAt}
 use Rattle.table.specs.Images.{formatOne}
-use Rattle.table.specs.Parse.{tableAt}
-use Rattle.edit.specs.Changes.{onRow, adding}
+use Rattle.table.specs.Parse.{tableAt, BeginsWithImage}
+use Rattle.edit.specs.Inner.Changes.{onRow, adding}
 use Rattle.edit.specs.Edited.{edited}
 use Rattle.message.specs.Messages.{verdictByCode}
 use Rattle.message.proofs.Forms.{verdict-numbered}
 use Rattle.seek.specs.declared.Proposal.the-variants.{Held, New, Against}
-use Rattle.seek.specs.Lent.{Lawful}
-use Rattle.seek.specs.Sought.{toPropose}
-use Rattle.seek.proofs.HeldRows.{lawful-holds, lawful-regular, held-here, by-rule-here, prepare-here, retry-here, outcome-here, changed-here, held-then}
-use Rattle.transact.specs.Replies.{replyAs, doneReply}
-use Rattle.transact.specs.Served.{answeredByte}
+use Rattle.seek.specs.Inner.Findings.{toPropose}
+use Rattle.seek.proofs.HeldRows.{image-holds, image-regular, held-here, by-rule-here, prepare-here, retry-here, outcome-here, changed-here, held-then}
+use Rattle.transact.specs.Replies.{replyAs}
+use Rattle.transact.specs.Inner.DoneReplies.{doneReply}
+use Rattle.transact.specs.Inner.Served.{answeredByte}
 use Rattle.transact.proofs.Serving.{number-1, number-3, Kept, kept-taken}
 use Rattle.transact.proofs.CodesMeant.{noted-numbered}
 use Rattle.transact.proofs.Proposals.{held-clear, new-clear, proposal-refused, proposal-opposed, proposal-clear}
@@ -42,7 +42,7 @@ use Rattle.transact.proofs.NewRows.{held-new}
 
 -- ---- message 3
 
-module _ (M : Model) (s : List ℕ) (stamp code : ℕ) (x : Body) (lawful : Lawful valley s) where
+module _ (M : Model) (s : List ℕ) (stamp code : ℕ) (x : Body) (has-image : BeginsWithImage valley s) where
   abbrev concluding : Message
   concluding = proposeOutcome stamp (verdictNumbered code) x
 
@@ -52,7 +52,7 @@ module _ (M : Model) (s : List ℕ) (stamp code : ℕ) (x : Body) (lawful : Lawf
 
   pub outcome-proposal-refused : (k : ℕ) → toPropose M (tableAt formatOne s) stamp x ≡ Against k → Kept M (proposeOutcome stamp (verdictNumbered code) x) s (replyAs (refusal k)) s
   outcome-proposal-refused k e =
-      proposal-refused M s stamp x (lawful-holds valley s lawful) concluding (heldOppositeOutcome (tableAt formatOne s) stamp (verdictNumbered code)) (number-3 M (tableAt formatOne s) stamp (verdictNumbered code) x) unopposed k e
+      proposal-refused M s stamp x (image-holds valley s has-image) concluding (heldOppositeOutcome (tableAt formatOne s) stamp (verdictNumbered code)) (number-3 M (tableAt formatOne s) stamp (verdictNumbered code) x) unopposed k e
 
   module _ (i : ℕ) (bytes : AllBytes s) (found : toPropose M (tableAt formatOne s) stamp x ≡ Held i) where
     place-of : placeOf (tableAt formatOne s .rows) stamp ≡ place.Held i
@@ -60,11 +60,11 @@ module _ (M : Model) (s : List ℕ) (stamp code : ℕ) (x : Body) (lawful : Lawf
 
     opposed-is : heldOppositeOutcome (tableAt formatOne s) stamp (verdictNumbered code) ≡ oppositeOutcome (verdictNumbered code) (outcomeNumbered (fieldsAt s (24 + 24 * i) .outcome))
     unfolding heldOppositeOutcome rowOf
-    opposed-is = rw (held-here valley s stamp i bytes lawful place-of)
+    opposed-is = rw (held-here valley s stamp i bytes has-image place-of)
 
     pub note-opposed : oppositeOutcome (verdictNumbered code) (outcomeNumbered (fieldsAt s (24 + 24 * i) .outcome)) ≡ true → Kept M (proposeOutcome stamp (verdictNumbered code) x) s (replyAs (refusal 6)) s
     note-opposed e =
-        proposal-opposed M s stamp x (lawful-holds valley s lawful) concluding (heldOppositeOutcome (tableAt formatOne s) stamp (verdictNumbered code)) (number-3 M (tableAt formatOne s) stamp (verdictNumbered code) x) unopposed
+        proposal-opposed M s stamp x (image-holds valley s has-image) concluding (heldOppositeOutcome (tableAt formatOne s) stamp (verdictNumbered code)) (number-3 M (tableAt formatOne s) stamp (verdictNumbered code) x) unopposed
         (held-clear M (tableAt formatOne s) stamp x i found .0)
         (opposed-is ∙ e)
 
@@ -72,20 +72,20 @@ module _ (M : Model) (s : List ℕ) (stamp code : ℕ) (x : Body) (lawful : Lawf
       noted-after : onRow i (withOutcome (outcomeNumbered byte)) (tableAt formatOne s) ≡ tableAfter check (tableAt formatOne s) concluding
       unfolding tableAfter outcomeProposed rowOf
       noted-after =
-          rw (held-here valley s stamp i bytes lawful place-of)
-          (ap (withRows (tableAt formatOne s)) (changed-here valley s stamp i bytes lawful place-of (λ r. withOutcome (notedAs (verdictNumbered code) (r .outcome)) r) (withOutcome (outcomeNumbered byte)) (rw is)))
+          rw (held-here valley s stamp i bytes has-image place-of)
+          (ap (withRows (tableAt formatOne s)) (changed-here valley s stamp i bytes has-image place-of (λ r. withOutcome (notedAs (verdictNumbered code) (r .outcome)) r) (withOutcome (outcomeNumbered byte)) (rw is)))
 
       noted-reply : doneReply (headerAt s) 3 byte stamp 0 ≡ replyAs (replyFrom (tableAfter check (tableAt formatOne s) concluding) concluding)
       unfolding replyFrom stateByte replyStamp replyValue tableAfter outcomeProposed tableAt rowOf
       noted-reply =
-          let t = held-then valley s stamp i bytes lawful place-of (λ r. withOutcome (notedAs (verdictNumbered code) (r .outcome)) r) (λ r. refl) in
+          let t = held-then valley s stamp i bytes has-image place-of (λ r. withOutcome (notedAs (verdictNumbered code) (r .outcome)) r) (λ r. refl) in
           let e : byte ≡ outcomeCode (notedAs (verdictNumbered code) (outcomeNumbered (fieldsAt s (24 + 24 * i) .outcome))) = sym (outcome-numbered byte low) ∙ ap outcomeCode is in
-          rw (held-here valley s stamp i bytes lawful place-of, t, e)
+          rw (held-here valley s stamp i bytes has-image place-of, t, e)
 
       pub note-taken : oppositeOutcome (verdictNumbered code) (outcomeNumbered (fieldsAt s (24 + 24 * i) .outcome)) ≡ false →
           Kept M (proposeOutcome stamp (verdictNumbered code) x) s (doneReply (headerAt s) 3 byte stamp 0) (edited formatOne (onRow i (withOutcome (outcomeNumbered byte))) s)
       note-taken e =
-          let zero = proposal-clear M s stamp x (lawful-holds valley s lawful) concluding (heldOppositeOutcome (tableAt formatOne s) stamp (verdictNumbered code)) (number-3 M (tableAt formatOne s) stamp (verdictNumbered code) x) unopposed (held-clear M (tableAt formatOne s) stamp x i found .0) (opposed-is ∙ e) in
+          let zero = proposal-clear M s stamp x (image-holds valley s has-image) concluding (heldOppositeOutcome (tableAt formatOne s) stamp (verdictNumbered code)) (number-3 M (tableAt formatOne s) stamp (verdictNumbered code) x) unopposed (held-clear M (tableAt formatOne s) stamp x i found .0) (opposed-is ∙ e) in
           rw (← noted-reply) at (kept-taken M concluding s (onRow i (withOutcome (outcomeNumbered byte))) zero noted-after)
 
   module _ (i : ℕ) (m : List ℕ) (g : RowFields) (byCode : verdictByCode code ≡ true) (found : toPropose M (tableAt formatOne s) stamp x ≡ New i)
@@ -110,7 +110,7 @@ module _ (M : Model) (s : List ℕ) (stamp code : ℕ) (x : Body) (lawful : Lawf
 
     pub note-new-taken : Kept M (proposeOutcome stamp (verdictNumbered code) x) s (doneReply (headerAt s) 3 code stamp 0) (edited formatOne (adding (rowOf m g)) s)
     note-new-taken =
-        let zero = proposal-clear M s stamp x (lawful-holds valley s lawful) concluding (heldOppositeOutcome (tableAt formatOne s) stamp (verdictNumbered code)) (number-3 M (tableAt formatOne s) stamp (verdictNumbered code) x) unopposed (new-clear M (tableAt formatOne s) stamp x i found .0) (unopposed unheld-here) in
+        let zero = proposal-clear M s stamp x (image-holds valley s has-image) concluding (heldOppositeOutcome (tableAt formatOne s) stamp (verdictNumbered code)) (number-3 M (tableAt formatOne s) stamp (verdictNumbered code) x) unopposed (new-clear M (tableAt formatOne s) stamp x i found .0) (unopposed unheld-here) in
         rw (← noted-new-reply) at (kept-taken M concluding s (adding (rowOf m g)) zero noted-new-after)
 
 -- ---- message 1
@@ -172,7 +172,7 @@ answered-stored p o something byRule c q d ec eq ed =
       retry = retry;
     }
 
-module _ (s : List ℕ) (stamp i : ℕ) (bytes : AllBytes s) (lawful : Lawful valley s) (held-at : placeOf (tableAt formatOne s .rows) stamp ≡ place.Held i) where
+module _ (s : List ℕ) (stamp i : ℕ) (bytes : AllBytes s) (has-image : BeginsWithImage valley s) (held-at : placeOf (tableAt formatOne s .rows) stamp ≡ place.Held i) where
   abbrev here : RowFields
   here = fieldsAt s (24 + 24 * i)
 
@@ -183,14 +183,14 @@ module _ (s : List ℕ) (stamp i : ℕ) (bytes : AllBytes s) (lawful : Lawful va
   byte = answeredByte (fieldsAt s (24 + 24 * i) .prepare) (fieldsAt s (24 + 24 * i) .outcome)
 
   facts : RowByRule row
-  facts = row-facts row (by-rule-here valley s stamp i bytes lawful held-at)
+  facts = row-facts row (by-rule-here valley s stamp i bytes has-image held-at)
 
   stored : Answered (row .prepare) (row .outcome) (here .prepare) (here .retry) (here .outcome)
   stored =
       answered-stored (row .prepare) (row .outcome) (facts .held) (facts .retry) (here .prepare) (here .retry) (here .outcome)
-      (prepare-here valley s stamp i bytes lawful held-at)
-      (retry-here valley s stamp i bytes lawful held-at)
-      (outcome-here valley s stamp i bytes lawful held-at)
+      (prepare-here valley s stamp i bytes has-image held-at)
+      (retry-here valley s stamp i bytes has-image held-at)
+      (outcome-here valley s stamp i bytes has-image held-at)
 
   pub answered-storable : (answeredByte (fieldsAt s (24 + 24 * i) .prepare) (fieldsAt s (24 + 24 * i) .outcome) ≤ 8) × (retryByCode (answeredByte (fieldsAt s (24 + 24 * i) .prepare) (fieldsAt s (24 + 24 * i) .outcome)) (fieldsAt s (24 + 24 * i) .retry) ≡ true)
   answered-storable = (stored .low, stored .byCode)
@@ -199,24 +199,24 @@ module _ (s : List ℕ) (stamp i : ℕ) (bytes : AllBytes s) (lawful : Lawful va
     answered-after : onRow i (withPrepare (prepareNumbered byte (here .retry))) (tableAt formatOne s) ≡ tableAfter check (tableAt formatOne s) (proposePrepare stamp x)
     unfolding tableAfter prepareProposed
     answered-after =
-        rw (held-here valley s stamp i bytes lawful held-at)
-        (ap (withRows (tableAt formatOne s)) (changed-here valley s stamp i bytes lawful held-at (λ r. withPrepare (answered (r .prepare) (r .outcome)) r) (withPrepare (prepareNumbered byte (here .retry))) (ap (λ p. withPrepare p row) (sym (stored .numbered)))))
+        rw (held-here valley s stamp i bytes has-image held-at)
+        (ap (withRows (tableAt formatOne s)) (changed-here valley s stamp i bytes has-image held-at (λ r. withPrepare (answered (r .prepare) (r .outcome)) r) (withPrepare (prepareNumbered byte (here .retry))) (ap (λ p. withPrepare p row) (sym (stored .numbered)))))
 
     answered-reply : doneReply (headerAt s) 1 byte stamp (here .retry) ≡ replyAs (replyFrom (tableAfter check (tableAt formatOne s) (proposePrepare stamp x)) (proposePrepare stamp x))
     unfolding replyFrom stateByte replyStamp replyValue tableAfter prepareProposed tableAt
     answered-reply =
-        let t = held-then valley s stamp i bytes lawful held-at (λ r. withPrepare (answered (r .prepare) (r .outcome)) r) (λ r. refl) in
-        rw (held-here valley s stamp i bytes lawful held-at, t) (ap₂ (λ state value. doneReply (headerAt s) 1 state stamp value) (stored .code) (stored .retry))
+        let t = held-then valley s stamp i bytes has-image held-at (λ r. withPrepare (answered (r .prepare) (r .outcome)) r) (λ r. refl) in
+        rw (held-here valley s stamp i bytes has-image held-at, t) (ap₂ (λ state value. doneReply (headerAt s) 1 state stamp value) (stored .code) (stored .retry))
 
     pub answered-taken : Kept M (proposePrepare stamp x) s (doneReply (headerAt s) 1 (answeredByte (fieldsAt s (24 + 24 * i) .prepare) (fieldsAt s (24 + 24 * i) .outcome)) stamp (fieldsAt s (24 + 24 * i) .retry))
         (edited formatOne (onRow i (withPrepare (prepareNumbered (answeredByte (fieldsAt s (24 + 24 * i) .prepare) (fieldsAt s (24 + 24 * i) .outcome)) (fieldsAt s (24 + 24 * i) .retry)))) s)
     answered-taken =
-        let zero = proposal-clear M s stamp x (lawful-holds valley s lawful) (proposePrepare stamp x) false (number-1 M (tableAt formatOne s) stamp x) (λ e. refl) (held-clear M (tableAt formatOne s) stamp x i found .0) refl in
+        let zero = proposal-clear M s stamp x (image-holds valley s has-image) (proposePrepare stamp x) false (number-1 M (tableAt formatOne s) stamp x) (λ e. refl) (held-clear M (tableAt formatOne s) stamp x i found .0) refl in
         rw (← answered-reply) at (kept-taken M (proposePrepare stamp x) s (onRow i (withPrepare (prepareNumbered byte (here .retry)))) zero answered-after)
 
-module _ (M : Model) (s : List ℕ) (stamp : ℕ) (x : Body) (lawful : Lawful valley s) where
+module _ (M : Model) (s : List ℕ) (stamp : ℕ) (x : Body) (has-image : BeginsWithImage valley s) where
   pub prepare-proposal-refused : (k : ℕ) → toPropose M (tableAt formatOne s) stamp x ≡ Against k → Kept M (proposePrepare stamp x) s (replyAs (refusal k)) s
-  prepare-proposal-refused k e = proposal-refused M s stamp x (lawful-holds valley s lawful) (proposePrepare stamp x) false (number-1 M (tableAt formatOne s) stamp x) (λ z. refl) k e
+  prepare-proposal-refused k e = proposal-refused M s stamp x (image-holds valley s has-image) (proposePrepare stamp x) false (number-1 M (tableAt formatOne s) stamp x) (λ z. refl) k e
 
   abbrev result : Result
   result = check (tableAt formatOne s .rows) stamp x
@@ -224,7 +224,7 @@ module _ (M : Model) (s : List ℕ) (stamp : ℕ) (x : Body) (lawful : Lawful va
   pub checked-storable : (resultCode (check (tableAt formatOne s .rows) stamp x) ≤ 8) × (retryByCode (resultCode (check (tableAt formatOne s .rows) stamp x)) (resultRetry (check (tableAt formatOne s .rows) stamp x)) ≡ true)
   unfolding retryByRule
   checked-storable =
-      (prepare-code-limit (tentative result), retry-of-code (tentative result) ∙ check-by-rule (tableAt formatOne s .rows) stamp x (lawful-regular valley s lawful .0 .rows))
+      (prepare-code-limit (tentative result), retry-of-code (tentative result) ∙ check-by-rule (tableAt formatOne s .rows) stamp x (image-regular valley s has-image .0 .rows))
 
   module _ (i : ℕ) (m : List ℕ) (g : RowFields) (found : toPropose M (tableAt formatOne s) stamp x ≡ New i)
       (itsStamp : g .stamp ≡ stamp) (itsBody : bodyAt m (g .offset) (g .reads) (g .writes) ≡ x) (itsPrepare : g .prepare ≡ resultCode (check (tableAt formatOne s .rows) stamp x)) (itsRetry : g .retry ≡ resultRetry (check (tableAt formatOne s .rows) stamp x)) (itsOutcome : g .outcome ≡ 0) where
@@ -247,5 +247,5 @@ module _ (M : Model) (s : List ℕ) (stamp : ℕ) (x : Body) (lawful : Lawful va
 
     pub checked-taken : Kept M (proposePrepare stamp x) s (doneReply (headerAt s) 1 (g .prepare) stamp (g .retry)) (edited formatOne (adding (rowOf m g)) s)
     checked-taken =
-        let zero = proposal-clear M s stamp x (lawful-holds valley s lawful) (proposePrepare stamp x) false (number-1 M (tableAt formatOne s) stamp x) (λ e. refl) (new-clear M (tableAt formatOne s) stamp x i found .0) refl in
+        let zero = proposal-clear M s stamp x (image-holds valley s has-image) (proposePrepare stamp x) false (number-1 M (tableAt formatOne s) stamp x) (λ e. refl) (new-clear M (tableAt formatOne s) stamp x i found .0) refl in
         rw (← checked-reply) at (kept-taken M (proposePrepare stamp x) s (adding (rowOf m g)) zero checked-after)

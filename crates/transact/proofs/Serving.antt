@@ -15,11 +15,12 @@ use Rattle.rules.specs.Check.{check}
 use Rattle.rules.proofs.Logic.{either-none}
 use Rattle.table.specs.Images.{formatOne}
 use Rattle.table.specs.Parse.{tableAt}
-use Rattle.edit.specs.Edited.{Holds, edited}
+use Rattle.edit.specs.Inner.Holding.{Holds}
+use Rattle.edit.specs.Edited.{edited}
 use Rattle.edit.proofs.EditedBuffers.{edited-same, edited-as}
 use Rattle.transact.specs.declared.reply.Reply.{Reply}
 use Rattle.transact.specs.Replies.{replyAs}
-use Rattle.transact.specs.Served.{servedNumber, served, servedReply, servedBuffer}
+use Rattle.transact.specs.Inner.Served.{servedNumber, served, servedReply, servedBuffer}
 
 -- ---- the number of each kind: what may refuse it, in 01's order
 

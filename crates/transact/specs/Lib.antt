@@ -1,2 +1,2 @@
 pub mod Replies
-pub mod Served
+pub mod Inner

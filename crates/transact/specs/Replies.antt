@@ -3,7 +3,6 @@ use mathlib.Core.List.{List, _++_}
 use Prim.Native.Nat.{ℕ}
 use Rattle.wire.specs.Numbers.{bytes}
 use Rattle.rules.specs.Answers as rules
-use Rattle.table.specs.declared.header.Header.{Header}
 use Rattle.transact.specs.declared.reply.Reply.{Reply}
 
 -- a reply of `rules` as the code has it
@@ -15,7 +14,3 @@ unfoldable pub replyBytes : Reply → List ℕ
 replyBytes r =
     (bytes 1 (r .number) ++ (bytes 1 (r .kind) ++ (bytes 1 (r .boxnumber) ++ bytes 1 (r .state))))
     ++ (bytes 4 (r .view) ++ (bytes 8 (r .stamp) ++ bytes 8 (r .value)))
-
--- a reply numbered 0 by the header of the table, whose view the call does not change
-abbrev pub doneReply : Header → ℕ → ℕ → ℕ → ℕ → Reply
-doneReply h kind state stamp value = record { number = 0; kind = kind; boxnumber = h .boxnumber; state = state; view = h .view; stamp = stamp; value = value }

@@ -8,15 +8,16 @@ ghost use Prim.Native.Nat.{_+_, _≤_, _<_};
 ghost use lib.ListN.{length};
 ghost use Rattle.rules.specs.Tables.{rising};
 ghost use Rattle.rows.specs.Read.{rowOf};
-ghost use Rattle.rows.specs.Rows.{sizeOf, BodyInside};
-ghost use Rattle.rows.specs.Places.{placeOf};
+ghost use Rattle.rows.specs.Inner.Rows.{sizeOf, BodyInside};
+ghost use Rattle.rows.specs.Inner.Places.{placeOf};
 ghost use Rattle.rows.specs.declared.lookup.Place.the-variants.{Absent};
 ghost use Rattle.table.specs.Headers.{headerAt};
 ghost use Rattle.table.specs.Images.{formatOne};
 ghost use Rattle.table.specs.Parse.{tableAt};
-ghost use Rattle.edit.specs.Changes.{Storable, adding};
-ghost use Rattle.edit.specs.Edited.{Holds, edited};
-ghost use Rattle.transact.specs.Replies.{doneReply};
+ghost use Rattle.edit.specs.Inner.Changes.{Storable, adding};
+ghost use Rattle.edit.specs.Inner.Holding.{Holds};
+ghost use Rattle.edit.specs.Edited.{edited};
+ghost use Rattle.transact.specs.Inner.DoneReplies.{doneReply};
 
 // Adds the row, and replies with the state byte that the kind asks for and the row's retry stamp.
 pub fn add_new(

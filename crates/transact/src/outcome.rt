@@ -17,14 +17,14 @@ ghost use Rattle.rules.specs.Circumstances.{oppositeOutcome};
 ghost use Rattle.rows.specs.Fields.{verdictNumbered, outcomeNumbered};
 ghost use Rattle.rows.specs.Bytes.{bodyLength};
 ghost use Rattle.rows.specs.Read.{bodyAt};
-ghost use Rattle.rows.specs.Places.{placeOf};
+ghost use Rattle.rows.specs.Inner.Places.{placeOf};
 ghost use Rattle.rows.specs.declared.lookup.Place.the-variants as place;
 ghost use Rattle.table.specs.Images.{formatOne};
-ghost use Rattle.table.specs.Parse.{tableAt};
+ghost use Rattle.table.specs.Parse.{tableAt, BeginsWithImage};
 ghost use Rattle.message.specs.Messages.{verdictByCode};
-ghost use Rattle.seek.specs.Lent.{limited, Lawful};
-ghost use Rattle.transact.specs.Served.{servedReply, servedBuffer};
-ghost use Rattle.seek.specs.Sought.{toFinalise, toPropose};
+ghost use Rattle.seek.specs.Inner.Limits.{limited};
+ghost use Rattle.transact.specs.Inner.Served.{servedReply, servedBuffer};
+ghost use Rattle.seek.specs.Inner.Findings.{toFinalise, toPropose};
 ghost use Rattle.seek.specs.declared.Finding.the-variants.{Known};
 ghost use Rattle.seek.specs.declared.Proposal.the-variants.{Held};
 
@@ -55,7 +55,7 @@ fn noted_as(verdict: u8, outcome: u8) -> u8
 
 // Message 3, of a row that the table holds with this body: noted, unless the opposite is held.
 fn note_held(table: &mut [u8], index: usize, stamp: u64, verdict: u8) -> Reply
-    requires { ⌜ Lawful valley (now table) × (placeOf (tableAt formatOne (now table) .rows) stamp ≡ place.Held index) × (verdictByCode verdict ≡ true) ⌝ }
+    requires { ⌜ BeginsWithImage valley (now table) × (placeOf (tableAt formatOne (now table) .rows) stamp ≡ place.Held index) × (verdictByCode verdict ≡ true) ⌝ }
     ensures { λ r. ⌜ ((M : Model) (x : Body) → toPropose M (tableAt formatOne (now (table .entry))) stamp x ≡ Held index →
         (r ≡ servedReply M (proposeOutcome stamp (verdictNumbered verdict) x) (now (table .entry))) × (now (table .exit) ≡ servedBuffer M (proposeOutcome stamp (verdictNumbered verdict) x) (now (table .entry)))) ⌝ }
 {
@@ -87,7 +87,7 @@ pub fn propose_outcome(
     writes: u8,
     limit: u16,
 ) -> Reply
-    requires { ⌜ Lawful valley (now table) × (limit ≤ 512) × (24 + 96 * limit ≤ length (now table)) ⌝ }
+    requires { ⌜ BeginsWithImage valley (now table) × (limit ≤ 512) × (24 + 96 * limit ≤ length (now table)) ⌝ }
     requires { ⌜ (verdictByCode verdict ≡ true) × (isStamp stamp ≡ true) × (countsByRule reads writes ≡ true) × (12 + bodyLength reads writes ≤ length (now message)) ⌝ }
     ensures { λ r. ⌜ r ≡ servedReply (limited limit) (proposeOutcome stamp (verdictNumbered verdict) (bodyAt (now (message .entry)) 12 reads writes)) (now (table .entry)) ⌝ }
     ensures { λ _. ⌜ now (table .exit) ≡ servedBuffer (limited limit) (proposeOutcome stamp (verdictNumbered verdict) (bodyAt (now (message .entry)) 12 reads writes)) (now (table .entry)) ⌝ }
@@ -111,7 +111,7 @@ pub fn propose_outcome(
 
 // Message 4, of a row that the table holds: done, if an outcome is held and not the opposite one.
 fn finalise_held(table: &mut [u8], index: usize, stamp: u64, verdict: u8) -> Reply
-    requires { ⌜ Lawful valley (now table) × (placeOf (tableAt formatOne (now table) .rows) stamp ≡ place.Held index) × (verdictByCode verdict ≡ true) ⌝ }
+    requires { ⌜ BeginsWithImage valley (now table) × (placeOf (tableAt formatOne (now table) .rows) stamp ≡ place.Held index) × (verdictByCode verdict ≡ true) ⌝ }
     ensures { λ r. ⌜ ((view : ℕ) → toFinalise (tableAt formatOne (now (table .entry))) stamp view ≡ Known index →
         (r ≡ servedReply valley (finaliseOutcome stamp view (verdictNumbered verdict)) (now (table .entry))) × (now (table .exit) ≡ servedBuffer valley (finaliseOutcome stamp view (verdictNumbered verdict)) (now (table .entry)))) ⌝ }
 {
@@ -137,7 +137,7 @@ fn finalise_held(table: &mut [u8], index: usize, stamp: u64, verdict: u8) -> Rep
 
 // Message 4, finalise outcome: in this view, of an outcome that is held and not the opposite one.
 pub fn finalise_outcome(table: &mut [u8], stamp: u64, view: u32, verdict: u8) -> Reply
-    requires { ⌜ Lawful valley (now table) × (verdictByCode verdict ≡ true) ⌝ }
+    requires { ⌜ BeginsWithImage valley (now table) × (verdictByCode verdict ≡ true) ⌝ }
     ensures { λ r. ⌜ r ≡ servedReply valley (finaliseOutcome stamp view (verdictNumbered verdict)) (now (table .entry)) ⌝ }
     ensures { λ _. ⌜ now (table .exit) ≡ servedBuffer valley (finaliseOutcome stamp view (verdictNumbered verdict)) (now (table .entry)) ⌝ }
 {

@@ -20,18 +20,17 @@ ghost use Rattle.rules.specs.Check.{check};
 ghost use Rattle.rows.specs.Bytes.{bodyLength};
 ghost use Rattle.rows.specs.Fields.{resultNumbered, prepareNumbered, retryByCode};
 ghost use Rattle.rows.specs.Read.{bodyAt};
-ghost use Rattle.rows.specs.Rows.{sizeOf, BodyInside};
-ghost use Rattle.rows.specs.Places.{placeOf};
+ghost use Rattle.rows.specs.Inner.Rows.{sizeOf, BodyInside};
+ghost use Rattle.rows.specs.Inner.Places.{placeOf};
 ghost use Rattle.rows.specs.declared.lookup.Place.the-variants as place;
 ghost use Rattle.table.specs.Headers.{headerAt};
 ghost use Rattle.table.specs.Images.{formatOne};
-ghost use Rattle.table.specs.Parse.{tableAt};
-ghost use Rattle.checks.specs.Given.{checkedAs};
+ghost use Rattle.table.specs.Parse.{tableAt, BeginsWithImage};
+ghost use Rattle.checks.specs.Inner.Given.{checkedAs};
 ghost use Rattle.message.specs.Messages.{resultByCode};
-ghost use Rattle.seek.specs.Lent.{limited, Lawful};
-ghost use Rattle.transact.specs.Served.{servedReply, servedBuffer};
-ghost use Rattle.transact.specs.Served.{answeredByte};
-ghost use Rattle.seek.specs.Sought.{toFinalise, toPropose};
+ghost use Rattle.seek.specs.Inner.Limits.{limited};
+ghost use Rattle.transact.specs.Inner.Served.{servedReply, servedBuffer, answeredByte};
+ghost use Rattle.seek.specs.Inner.Findings.{toFinalise, toPropose};
 ghost use Rattle.seek.specs.declared.Finding.the-variants.{Known};
 ghost use Rattle.seek.specs.declared.Proposal.the-variants.{Held, New};
 
@@ -53,7 +52,7 @@ fn answered(prepare: u8, outcome: u8) -> u8
 
 // Message 1, of a row that the table holds with this body: what it holds is answered, and no check is made.
 fn answer_held(table: &mut [u8], index: usize, stamp: u64) -> Reply
-    requires { ⌜ Lawful valley (now table) × (placeOf (tableAt formatOne (now table) .rows) stamp ≡ place.Held index) ⌝ }
+    requires { ⌜ BeginsWithImage valley (now table) × (placeOf (tableAt formatOne (now table) .rows) stamp ≡ place.Held index) ⌝ }
     ensures { λ r. ⌜ ((M : Model) (x : Body) → toPropose M (tableAt formatOne (now (table .entry))) stamp x ≡ Held index →
         (r ≡ servedReply M (proposePrepare stamp x) (now (table .entry))) × (now (table .exit) ≡ servedBuffer M (proposePrepare stamp x) (now (table .entry)))) ⌝ }
 {
@@ -74,7 +73,7 @@ fn answer_held(table: &mut [u8], index: usize, stamp: u64) -> Reply
 
 // The check's result for a stamp that the table does not hold: its body lies in the message.
 fn check_new<'a>(table: &'a [u8], message: &'a [u8], index: usize, row: RowFields) -> Checked
-    requires { ⌜ Lawful valley (now table) × BodyInside (now message) row ⌝ }
+    requires { ⌜ BeginsWithImage valley (now table) × BodyInside (now message) row ⌝ }
     ensures { λ r. ⌜ r ≡ checkedAs (check (tableAt formatOne (now (table .entry)) .rows) (row .stamp) (bodyAt (now (message .entry)) (row .offset) (row .reads) (row .writes))) ⌝ }
 {
     let h = header::read(table);
@@ -91,7 +90,7 @@ fn check_new<'a>(table: &'a [u8], message: &'a [u8], index: usize, row: RowField
 
 // Message 1, of a stamp that the table does not hold: a row with the check's tentative result.
 fn add_checked(table: &mut [u8], message: &[u8], index: usize, row: RowFields) -> Reply
-    requires { ⌜ Lawful valley (now table) × (placeOf (tableAt formatOne (now table) .rows) (row .stamp) ≡ place.Absent index) × BodyInside (now message) row × (countsByRule (row .reads) (row .writes) ≡ true) × (row .outcome ≡ 0) ⌝ }
+    requires { ⌜ BeginsWithImage valley (now table) × (placeOf (tableAt formatOne (now table) .rows) (row .stamp) ≡ place.Absent index) × BodyInside (now message) row × (countsByRule (row .reads) (row .writes) ≡ true) × (row .outcome ≡ 0) ⌝ }
     requires { ⌜ (headerAt (now table) .rows < 65536) × (headerAt (now table) .length + 24 + sizeOf row ≤ length (now table)) × (headerAt (now table) .length + 24 + sizeOf row < 4294967296) ⌝ }
     ensures { λ r. ⌜ ((M : Model) → toPropose M (tableAt formatOne (now (table .entry))) (row .stamp) (bodyAt (now (message .entry)) (row .offset) (row .reads) (row .writes)) ≡ New index →
         (r ≡ servedReply M (proposePrepare (row .stamp) (bodyAt (now (message .entry)) (row .offset) (row .reads) (row .writes))) (now (table .entry))) × (now (table .exit) ≡ servedBuffer M (proposePrepare (row .stamp) (bodyAt (now (message .entry)) (row .offset) (row .reads) (row .writes))) (now (table .entry)))) ⌝ }
@@ -116,7 +115,7 @@ pub fn propose_prepare(
     writes: u8,
     limit: u16,
 ) -> Reply
-    requires { ⌜ Lawful valley (now table) × (limit ≤ 512) × (24 + 96 * limit ≤ length (now table)) ⌝ }
+    requires { ⌜ BeginsWithImage valley (now table) × (limit ≤ 512) × (24 + 96 * limit ≤ length (now table)) ⌝ }
     requires { ⌜ (isStamp stamp ≡ true) × (countsByRule reads writes ≡ true) × (11 + bodyLength reads writes ≤ length (now message)) ⌝ }
     ensures { λ r. ⌜ r ≡ servedReply (limited limit) (proposePrepare stamp (bodyAt (now (message .entry)) 11 reads writes)) (now (table .entry)) ⌝ }
     ensures { λ _. ⌜ now (table .exit) ≡ servedBuffer (limited limit) (proposePrepare stamp (bodyAt (now (message .entry)) 11 reads writes)) (now (table .entry)) ⌝ }
@@ -154,7 +153,7 @@ fn unequal_final(prepare: u8, held: u64, result: u8, retry: u64) -> bool
 
 // Message 2, of a row that the table holds: final with this result, if a prepare is held and no other final one.
 fn finalise_held(table: &mut [u8], index: usize, stamp: u64, result: u8, retry: u64) -> Reply
-    requires { ⌜ Lawful valley (now table) × (placeOf (tableAt formatOne (now table) .rows) stamp ≡ place.Held index) × (resultByCode result retry ≡ true) ⌝ }
+    requires { ⌜ BeginsWithImage valley (now table) × (placeOf (tableAt formatOne (now table) .rows) stamp ≡ place.Held index) × (resultByCode result retry ≡ true) ⌝ }
     ensures { λ r. ⌜ ((view : ℕ) → toFinalise (tableAt formatOne (now (table .entry))) stamp view ≡ Known index →
         (r ≡ servedReply valley (finalisePrepare stamp view (resultNumbered result retry)) (now (table .entry))) × (now (table .exit) ≡ servedBuffer valley (finalisePrepare stamp view (resultNumbered result retry)) (now (table .entry)))) ⌝ }
 {
@@ -180,7 +179,7 @@ fn finalise_held(table: &mut [u8], index: usize, stamp: u64, result: u8, retry: 
 
 // Message 2, finalise prepare: in this view, of a prepare that is held, and not against another final result.
 pub fn finalise_prepare(table: &mut [u8], stamp: u64, view: u32, result: u8, retry: u64) -> Reply
-    requires { ⌜ Lawful valley (now table) × (resultByCode result retry ≡ true) ⌝ }
+    requires { ⌜ BeginsWithImage valley (now table) × (resultByCode result retry ≡ true) ⌝ }
     ensures { λ r. ⌜ r ≡ servedReply valley (finalisePrepare stamp view (resultNumbered result retry)) (now (table .entry)) ⌝ }
     ensures { λ _. ⌜ now (table .exit) ≡ servedBuffer valley (finalisePrepare stamp view (resultNumbered result retry)) (now (table .entry)) ⌝ }
 {

@@ -10,16 +10,17 @@ ghost use Rattle.wire.specs.Parts.{replaced};
 ghost use Rattle.rules.specs.Messages.{held, withPrepare, withOutcome, promising};
 ghost use Rattle.rows.specs.Fields.{fieldsAt, prepareNumbered, outcomeNumbered, retryByCode};
 ghost use Rattle.rows.specs.Read.{rowOf, rowsAt};
-ghost use Rattle.rows.specs.Rows.{sizeOf, BodyInside, RowsInside};
-ghost use Rattle.rows.specs.Places.{placeOf, heldBody};
+ghost use Rattle.rows.specs.Inner.Rows.{sizeOf, BodyInside, RowsInside};
+ghost use Rattle.rows.specs.Inner.Places.{placeOf, heldBody};
 ghost use Rattle.rows.specs.declared.lookup.Place.the-variants.{Absent};
 ghost use Rattle.table.specs.Headers.{headerAt};
 ghost use Rattle.table.specs.Images.{formatOne};
 ghost use Rattle.table.specs.Parse.{tableAt};
-ghost use Rattle.edit.specs.Changes.{withViews, onRow, Storable, adding, taking};
-ghost use Rattle.edit.specs.Edited.{Holds, edited};
+ghost use Rattle.edit.specs.Inner.Changes.{withViews, onRow, Storable, adding, taking};
+ghost use Rattle.edit.specs.Inner.Holding.{Holds};
+ghost use Rattle.edit.specs.Edited.{edited};
 ghost use Rattle.answer.specs.Calls.{callNumber, callTable, callReply};
-ghost use Rattle.boxes.specs.Lent.{bufferOf, withBuffer, startNumber, startTables, mergeBoxesNumber, mergeBoxesRun, mergeBoxesOutput};
+ghost use Rattle.boxes.specs.Inner.OneBuffer.{bufferOf, withBuffer, startNumber, startTables, mergeBoxesNumber, mergeBoxesRun, mergeBoxesOutput};
 
 #[no_mangle]
 pub extern "C" fn trial_set_views(table: &mut [u8], mode: u8, view: u32, promised: u32)

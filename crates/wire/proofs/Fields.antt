@@ -5,7 +5,8 @@ use mathlib.Core.List.{List, _++_, append-assoc}
 use Prim.Native.Nat.{ℕ, _+_, _^_, _≤_, _<_}
 use lib.ListN.{length, length-append}
 use Rattle.wire.specs.Parts.{part, replaced}
-use Rattle.wire.specs.Numbers.{number, bytes, numberAt, AllBytes}
+use Rattle.wire.specs.Numbers.{number, bytes, numberAt}
+use Rattle.wire.specs.Inner.ByteLists.{AllBytes}
 use Rattle.wire.proofs.Parts.{length-part, replaced-joined}
 use Rattle.wire.proofs.Numbers.{length-bytes, number-bytes, bytes-number, bytes-fit, all-part, all-joined}
 use Rattle.wire.proofs.Stands.{Stands, stands-left, stands-right, stands-joined}

@@ -9,7 +9,8 @@ use lib.Arith.{digits-lt, digits-div, digits-mod, mod-mul}
 use lib.ListN.{length, take, drop, getD, length-append}
 use lib.Seq.{take-add, drop-drop}
 use Rattle.wire.specs.Parts.{part, replaced}
-use Rattle.wire.specs.Numbers.{number, bytes, numberAt, AllBytes}
+use Rattle.wire.specs.Numbers.{number, bytes, numberAt}
+use Rattle.wire.specs.Inner.ByteLists.{AllBytes}
 use Rattle.wire.proofs.Parts.{length-part, part-part, part-replaced}
 
 pub power-positive : (width : ℕ) → 0 < 256 ^ width

@@ -1,2 +1,3 @@
 pub mod Parts
 pub mod Numbers
+pub mod Inner

@@ -1,6 +1,6 @@
 -- Numbers in bytes. 01, 'Stamps and bodies': "All numbers are big-endian." The width is the count of bytes: 01 has numbers of 1, 4 and 8.
 use mathlib.Core.List.{List, [], _∷_}
-use Prim.Native.Nat.{ℕ, zero, suc, _+_, _*_, _/_, _%_, _^_, _<_}
+use Prim.Native.Nat.{ℕ, zero, suc, _+_, _*_, _/_, _%_, _^_}
 use lib.ListN.{length}
 use Rattle.wire.specs.Parts.{part}
 
@@ -17,8 +17,3 @@ bytes (suc width) x = x / 256 ^ width ∷ bytes width (x % 256 ^ width)
 -- the number in the bytes of s from at
 unfoldable pub numberAt : List ℕ → ℕ → ℕ → ℕ
 numberAt s at width = number (part s at width)
-
--- every element is a byte, as in any slice of bytes
-abbrev pub AllBytes : List ℕ → Type 0
-AllBytes [] = Unit {0}
-AllBytes (b ∷ bs) = (b < 256) × AllBytes bs

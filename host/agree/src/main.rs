@@ -75,6 +75,10 @@ fn definitions(specs: &Path) -> io::Result<Vec<(String, Vec<String>)>> {
     let mut found = Vec::new();
     for entry in fs::read_dir(specs)? {
         let path = entry?.path();
+        // What stands in a folder there, no answer is computed by.
+        if path.is_dir() {
+            continue;
+        }
         let module = path.file_stem().unwrap_or_default().to_string_lossy();
         let names: Vec<String> = fs::read_to_string(&path)?
             .lines()

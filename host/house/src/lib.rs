@@ -1,5 +1,7 @@
 //! What the tests of the repository share: where it is, which crates it lists, and what its papers cite.
 
+pub mod trust;
+
 use std::fs;
 use std::os::unix::fs::PermissionsExt;
 use std::path::{Path, PathBuf};

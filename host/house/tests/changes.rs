@@ -1,6 +1,7 @@
 //! The changes of the definitions that `tools/noticed` tries are changes of the definitions as they are. That each is noticed is
 //! for that tool to say, since it takes minutes.
 
+use house::trust::{self, Kind};
 use house::{files, text, Edit};
 use std::collections::BTreeSet;
 
@@ -23,14 +24,12 @@ fn a_change_of_the_definitions_fits_its_source() {
 fn every_file_of_the_definitions_is_changed_somewhere() {
     let texts: Vec<String> = files(CHANGES, ".edit").iter().map(|f| text(f)).collect();
     let changed: BTreeSet<&str> = texts.iter().map(|change| Edit::of(change).file).collect();
-    for file in files("crates/rules/specs", ".antt") {
-        let file = file.trim_start_matches("crates/rules/");
-        // That one only lists the others.
-        assert!(
-            changed.contains(file) || file == "specs/Lib.antt",
-            "{}",
-            file
-        );
+    let of_rules = trust::files()
+        .into_iter()
+        .filter(|file| file.starts_with("rules/"));
+    for file in of_rules.filter(|file| trust::kind(file) == Kind::Promised) {
+        let file = format!("{}.antt", file.trim_start_matches("rules/"));
+        assert!(changed.contains(file.as_str()), "{}", file);
     }
 }
 

@@ -207,7 +207,7 @@ fn every_must_fail_edit_is_cited_by_a_claim() {
 }
 
 /// Crates whose check takes few seconds, as `docs/BENCHMARKS.md` has it. An edit costs a check of its crate.
-const QUICK: [&str; 6] = ["rules", "history", "histories", "quorums", "cases", "group"];
+const QUICK: [&str; 6] = ["rules", "history", "history_cases", "quorums", "cases", "group"];
 
 #[test]
 fn the_gate_has_time_for_two_edits_of_a_crate_that_is_not_quick() {

@@ -127,7 +127,7 @@ of the write that was read, or 0 for never written. For example:
 Whether a message may be sent is not judged here. What was declared final, or
 accepted by f+1 boxes in one view, is not lost, and no two committed
 transactions clash, if whoever sends messages keeps the seven rules, which
-README.md has, and sends one merge for a view.
+docs/GROUP.md has, and sends one merge for a view.
 
   --at TIME   for read: the stamp TIME:65535, the last one of that time, which
               finds what was written up to that time and at it, by any client

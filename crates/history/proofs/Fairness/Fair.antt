@@ -7,7 +7,7 @@ use mathlib.Core.List.{List}
 use Prim.Native.Nat.{ℕ}
 use Rattle.rules.specs.Tables.{Result, Result.OK, Prepare.final, Verdict, Verdict.commit, Outcome.noOutcome, Outcome.done, Row, Table}
 use Rattle.rules.specs.Messages.{held, prepareOf, outcomeOf}
-use Rattle.rules.specs.Check.{clash, accepted}
+use Rattle.rules.specs.Inner.Clashes.{clash, accepted}
 use Rattle.rules.specs.Merge.{holdsVerdict, rowsOf, isAgreed}
 use Rattle.rules.proofs.Lists.{_∈_}
 

@@ -10,7 +10,8 @@ use Rattle.rules.specs.Tests.{both, any}
 use Rattle.rules.specs.Groups.{fOf, agreementCount}
 use Rattle.rules.specs.Tables.{Result, Result.OK, Result.ABORT, Result.ABSTAIN, Result.RETRY, Prepare.noPrepare, Prepare.final, Verdict, Verdict.commit, Outcome, Outcome.noOutcome, Outcome.done, somethingHeld, Row, Table, Model}
 use Rattle.rules.specs.Messages.{held, prepareOf, outcomeOf}
-use Rattle.rules.specs.Check.{check, accepted}
+use Rattle.rules.specs.Check.{check}
+use Rattle.rules.specs.Inner.Clashes.{accepted}
 use Rattle.rules.specs.Merge.{used, stamps, rowsOf, holdsVerdict, mergedOutcome, Standing.hasAgreed, standing, agreedPrepare, bodyOf, uncheckedRow, isSettled, amongAgreed, mergedRows, groupOf, mergedTable, contradictory, merge}
 use Rattle.rules.proofs.Logic.{impossible, none-some}
 use Rattle.rules.proofs.Lists.{_∈_, in-all, all-from}

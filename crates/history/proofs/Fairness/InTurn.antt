@@ -10,7 +10,8 @@ use borrow.Author.Tests.{eq-eqb, not-true}
 use Rattle.rules.specs.Tests.{both, those}
 use Rattle.rules.specs.Tables.{Result, Result.OK, Prepare.final, Row, Table}
 use Rattle.rules.specs.Messages.{withPrepare}
-use Rattle.rules.specs.Check.{check, clash, accepted}
+use Rattle.rules.specs.Check.{check}
+use Rattle.rules.specs.Inner.Clashes.{clash, accepted}
 use Rattle.rules.specs.Merge.{stamps, rowsOf, Standing, Standing.hasNone, Standing.hasFinal, Standing.hasAgreed, Standing.hasOpen, standing, uncheckedRow, uncheckedRows, isSettled, amongAgreed, amongOpen, toCheck, checkedAt, checkedInTurn, mergedRows}
 use Rattle.rules.proofs.Logic.{impossible, same?, both-left, both-right, both-true}
 use Rattle.rules.proofs.Lists.{_∈_, those-of, in-those}

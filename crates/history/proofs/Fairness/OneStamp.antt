@@ -12,7 +12,8 @@ use Rattle.rules.specs.Tests.{both, either, any, count}
 use Rattle.rules.specs.Tables.{Result, Result.OK, Result.ABORT, Result.ABSTAIN, Result.RETRY, Prepare, Prepare.noPrepare, Prepare.tentative, Prepare.final, prepareCode, resultCode, Verdict, Verdict.commit, Verdict.abort, Outcome, Outcome.noOutcome, Outcome.noted, Outcome.done, outcomeCode, verdictCode, somethingHeld, Row}
 use Rattle.rules.specs.Messages.{withPrepare}
 use Rattle.rules.specs.Circumstances.{oppositeOutcome}
-use Rattle.rules.specs.Check.{committed, prepared, accepted}
+use Rattle.rules.specs.Check.{committed, prepared}
+use Rattle.rules.specs.Inner.Clashes.{accepted}
 use Rattle.rules.specs.Merge.{holdsVerdict, mergedOutcome, finalResult, finalOf, holdsTentative, isAgreed, tentativeResult, ifAgreed, agreedOf, holdsPrepare, Standing, Standing.hasNone, Standing.hasFinal, Standing.hasAgreed, Standing.hasOpen, standingFrom, standing, uncheckedPrepare, uncheckedRow, isSettled, amongAgreed, unequalFinals, oppositeOutcomes, contradictory}
 use Rattle.rules.proofs.Logic.{impossible, none-some, cases, not-false-of, both-right, either-left, either-right}
 use Rattle.rules.proofs.Lists.{_∈_, none-any, any-some, some-any, pair-none, provided-some, first-from, first-is, none-first}

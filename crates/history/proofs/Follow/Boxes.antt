@@ -12,7 +12,7 @@ use Rattle.rules.specs.Tests.{both}
 use Rattle.rules.specs.Tables.{Result.OK, Verdict, Row, Table, normalMode, changingMode, modeByRule}
 use Rattle.rules.specs.Messages.{held, prepareOf, outcomeOf, changed, added, withRows}
 use Rattle.rules.specs.Circumstances.{isChanging}
-use Rattle.rules.specs.Check.{clash}
+use Rattle.rules.specs.Inner.Clashes.{clash}
 use Rattle.rules.proofs.Logic.{impossible, cases, both-left, both-right, either-cases, same?, eqb-self}
 use Rattle.rules.proofs.Lists.{_∈_}
 use Rattle.rules.proofs.Rows.{held-from, changed-from, added-from}

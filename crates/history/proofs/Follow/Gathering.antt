@@ -12,7 +12,7 @@ use Rattle.rules.specs.Tests.{bit, count, kept, those, twice, provided, firstOf
 use Rattle.rules.specs.Groups.{fOf, agreementCount}
 use Rattle.rules.specs.Tables.{Result, Result.OK, Prepare.tentative, Prepare.final, Verdict, Outcome.noOutcome, Outcome.done, Row, Table}
 use Rattle.rules.specs.Messages.{held, prepareOf, outcomeOf}
-use Rattle.rules.specs.Check.{accepted}
+use Rattle.rules.specs.Inner.Clashes.{accepted}
 use Rattle.rules.specs.Merge.{rowsOf, holdsTentative, isAgreed}
 use Rattle.rules.proofs.Logic.{impossible, either-left, either-right, either-false, eqb-self}
 use Rattle.rules.proofs.Lists.{_∈_, any-none, none-any, those-of, provided-some, first-is}

@@ -13,7 +13,7 @@ use Rattle.rules.specs.Stamps.{Body}
 use Rattle.rules.specs.Tables.{Result, Result.OK, Result.ABORT, Result.ABSTAIN, Result.RETRY, Prepare, Prepare.noPrepare, Prepare.tentative, Verdict, Verdict.commit, Verdict.abort, Outcome, Outcome.noOutcome, Outcome.noted, prepareCode, outcomeCode, Row, Model}
 use Rattle.rules.specs.Messages.{Check, held, prepareOf, outcomeOf, changed, added}
 use Rattle.rules.specs.Circumstances.{Room, settled}
-use Rattle.rules.specs.Check.{clash, accepted}
+use Rattle.rules.specs.Inner.Clashes.{clash, accepted}
 use Rattle.rules.proofs.Logic.{impossible, both-left, both-right, same?, eqb-self}
 use Rattle.rules.proofs.Lists.{_∈_, every-one}
 use Rattle.rules.proofs.Groups.{group-size}

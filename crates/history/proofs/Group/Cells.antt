@@ -7,7 +7,8 @@ use native.Mathlib.Omega.{arith}
 use lib.Dec.{eqb, leb}
 use Rattle.rules.specs.Tests.{both, either}
 use Rattle.rules.specs.Tables.{Result, Result.OK, Result.ABORT, Result.ABSTAIN, Result.RETRY, Prepare, Prepare.noPrepare, Prepare.tentative, Prepare.final, Verdict, Verdict.commit, Verdict.abort, Outcome, Outcome.noOutcome, Outcome.noted, Outcome.done, prepareCode, verdictCode, outcomeCode, Row}
-use Rattle.rules.specs.Check.{accepted, committed, prepared}
+use Rattle.rules.specs.Inner.Clashes.{accepted}
+use Rattle.rules.specs.Check.{committed, prepared}
 use Rattle.rules.specs.Merge.{holdsVerdict}
 use Rattle.rules.proofs.Logic.{impossible, both-false, eqb-self}
 use Rattle.rules.proofs.Same.{same-verdict}

@@ -3,7 +3,7 @@ use mathlib.Core.Path.{sym, _∙_}
 use denote.Ref.{now}
 use borrow.Author.Needs.{needs}
 use Rattle.wire.proofs.Numbers.{all-of}
-use Rattle.wire.specs.Numbers.{AllBytes}
+use Rattle.wire.specs.Inner.ByteLists.{AllBytes}
 use Rattle.seek.proofs.SoughtRows.{needed-inside, row-inside, counts-differ, needed-length, bytes-tell}
 use Rattle.seek.proofs.other_body.Statement.{statement}
 use Rattle.seek.proofs.other_body.Tie as tie

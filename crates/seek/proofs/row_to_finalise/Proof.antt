@@ -5,13 +5,13 @@ use Rattle.rules.specs.Tables.{valley}
 use Rattle.table.proofs.Images.{valley-sound}
 use Rattle.table.specs.Images.{formatOne}
 use Rattle.edit.proofs.Holding.{one-starts, holds-least}
-use Rattle.seek.proofs.HeldRows.{lawful-holds}
+use Rattle.seek.proofs.HeldRows.{image-holds}
 use Rattle.seek.proofs.SoughtRows.{can-be-sought, finalise-changing, finalise-other-view, finalise-place}
 use Rattle.seek.proofs.row_to_finalise.Statement.{statement}
 use Rattle.seek.proofs.row_to_finalise.Tie as tie
 
 read-requires : tie.Need-read-requires
-read-requires c κs = let p = c .before in holds-least formatOne (now (p .args .table)) one-starts (lawful-holds valley (now (p .args .table)) (p .pre))
+read-requires c κs = let p = c .before in holds-least formatOne (now (p .args .table)) one-starts (image-holds valley (now (p .args .table)) (p .pre))
 
 returns : tie.Need-returns
 returns c = let p = c .before .before .before .before in finalise-changing (now (p .args .table)) (p .args .stamp) (p .args .view) (rw (c .before .before .read .ensures) at (c .if1 .taken))

@@ -3,13 +3,13 @@ use mathlib.Core.Path.{sym, _∙_}
 use denote.Ref.{now}
 use borrow.Author.Needs.{needs}
 use Rattle.wire.proofs.Numbers.{all-of}
-use Rattle.wire.specs.Numbers.{AllBytes}
+use Rattle.wire.specs.Inner.ByteLists.{AllBytes}
 use Rattle.rules.specs.Tables.{valley}
 use Rattle.rows.specs.Read.{bodyAt}
 use Rattle.table.proofs.Images.{valley-sound}
 use Rattle.table.specs.Images.{formatOne}
 use Rattle.edit.proofs.Holding.{one-starts, holds-least, holds-rows-at}
-use Rattle.seek.proofs.HeldRows.{lawful-holds, held-here}
+use Rattle.seek.proofs.HeldRows.{image-holds, held-here}
 use Rattle.seek.proofs.SoughtRows.{can-be-sought, propose-changing, propose-other, propose-held, propose-new, propose-full}
 use Rattle.seek.proofs.row_to_propose.Reads as reads
 use Rattle.seek.proofs.row_to_propose.Statement.{statement}
@@ -19,7 +19,7 @@ table-bytes : (c : tie.After-shared-slice-known) → AllBytes (now (c .before .a
 table-bytes c = all-of (now (c .before .args .table)) (λ i. c .shared-slice-known .given i .fits)
 
 read-requires : tie.Need-read-requires
-read-requires c κs = let p = (c .before .before) in holds-least formatOne (now (p .args .table)) one-starts (lawful-holds valley (now (p .args .table)) (p .pre .0))
+read-requires c κs = let p = (c .before .before) in holds-least formatOne (now (p .args .table)) one-starts (image-holds valley (now (p .args .table)) (p .pre .0))
 
 returns : tie.Need-returns
 returns c = let p = (c .before .before .before .before .before) in propose-changing (now (p .args .table)) (p .args .given .stamp) (p .args .limit) (bodyAt (now (p .args .message)) (p .args .given .offset) (p .args .given .reads) (p .args .given .writes)) (rw ((c .before .before) .read .ensures) at (c .if1 .taken))

@@ -5,7 +5,7 @@ use mathlib.Core.Bool.{true}
 use native.Mathlib.Omega.{arith}
 use denote.Ref.{now}
 use borrow.Author.Needs.{needs}
-use Rattle.wire.specs.Numbers.{AllBytes}
+use Rattle.wire.specs.Inner.ByteLists.{AllBytes}
 use Rattle.wire.proofs.Numbers.{all-of}
 use Rattle.rows.specs.Fields.{fieldsAt, retryByCode}
 use Rattle.rows.proofs.Turns.{length-body-part}

@@ -10,8 +10,8 @@ use Rattle.wire.proofs.Numbers.{all-of}
 use Rattle.rules.specs.Tables.{valley}
 use Rattle.table.specs.Images.{formatOne}
 use Rattle.edit.proofs.Holding.{one-starts, holds-least, holds-row-inside}
-use Rattle.run.specs.Runs.{tablesOf}
-use Rattle.gather.specs.Held.{usedOf}
+use Rattle.image_run.specs.Inner.WholeRuns.{tablesOf}
+use Rattle.gather.specs.Inner.UsedTables.{usedOf}
 use Rattle.settle.proofs.CheckedInPlace.{Turn, inside, rows-begin, rows-passed, rows-checked, rows-end}
 use Rattle.settle.proofs.check_rows.Statement.{statement}
 use Rattle.settle.proofs.check_rows.Tie as tie

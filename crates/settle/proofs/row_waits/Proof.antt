@@ -4,8 +4,8 @@ use denote.Ref.{now}
 use borrow.Author.Needs.{needs}
 use Rattle.rules.specs.Tables.{valley}
 use Rattle.rows.specs.Fields.{fieldsAt}
-use Rattle.run.specs.Runs.{tablesOf}
-use Rattle.gather.specs.Held.{usedOf}
+use Rattle.image_run.specs.Inner.WholeRuns.{tablesOf}
+use Rattle.gather.specs.Inner.UsedTables.{usedOf}
 use Rattle.settle.proofs.CheckedInPlace.{prepared-waits-not, decided-waits-not, open-waits-is, agreed-waits-is}
 use Rattle.settle.proofs.row_waits.Statement.{statement}
 use Rattle.settle.proofs.row_waits.Tie as tie

@@ -2,7 +2,7 @@
 use mathlib.Core.Path.{subst, _∙_}
 use native.Mathlib.Omega.{arith}
 use borrow.Author.Needs.{needs}
-use Rattle.sprondilu.specs.Calls.{ResultFits}
+use Rattle.sprondilu.specs.Inner.Words.{ResultFits}
 use Rattle.sprondilu.proofs.CountWords.{without-result}
 use Rattle.sprondilu.proofs.answer_word.Statement.{statement}
 use Rattle.sprondilu.proofs.answer_word.Tie as tie

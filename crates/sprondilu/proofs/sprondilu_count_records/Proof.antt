@@ -43,7 +43,8 @@ use Rattle.count.proofs.lent.count as count
 use Rattle.count.proofs.lent.count.Symbol as count-def
 use Rattle.count.proofs.lent.count.Symbol.{name as #count}
 use Rattle.count.proofs.lent.count.Met as count-thm
-use Rattle.sprondilu.specs.Calls.{countAnswer, ResultFits}
+use Rattle.sprondilu.specs.Calls.{countAnswer}
+use Rattle.sprondilu.specs.Inner.Words.{ResultFits}
 use Rattle.sprondilu.proofs.CountWords.{lent-fits}
 use Rattle.sprondilu.proofs.answer_word as word
 use Rattle.sprondilu.proofs.answer_word.Symbol as word-def

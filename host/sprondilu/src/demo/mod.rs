@@ -84,8 +84,8 @@ WHAT YOU HAVE SEEN
     merge for a later view, whoever was away and whatever was lost.
 
 That the last two hold in every history in which clients keep seven rules and a
-view starts with one merge, as here, is proved; README.md has the rules, and
-says what is assumed.
+view starts with one merge, as here, is proved. docs/GROUP.md has the rules, and
+README.md says what is assumed.
 
 The files of this demo, to look at with the other commands:
   sprondilu demo --keep FOLDER

@@ -5,8 +5,8 @@ use denote.Ref.{now}
 use borrow.Author.Needs.{needs}
 use Rattle.table.specs.Images.{formatOne}
 use Rattle.table.specs.Parse.{parse}
-use Rattle.seek.specs.Lent.{limited}
-use Rattle.answer.proofs.Responding.{found-nothing, found-lawful, widened, some-boxes, heard-so}
+use Rattle.seek.specs.Inner.Limits.{limited}
+use Rattle.answer.proofs.Responding.{found-nothing, found-begins, widened, some-boxes, heard-so}
 use Rattle.answer.proofs.call.respond.Statement.{statement}
 use Rattle.answer.proofs.call.respond.Tie as tie
 
@@ -39,19 +39,19 @@ read-requires : tie.Need-read-requires
 read-requires c κs = omega arith
 
 read-requires-2 : tie.Need-read-requires-2
-read-requires-2 c κs = let p = (c .before .before .before .before .before .before .before .before) in rw (c .read .ensures) (some-boxes (limited (p .args .limit)) (now (p .args .table)) (found-lawful (limited (p .args .limit)) (now (p .args .table)) _ (sym ((c .before .before) .enum-told .given .1) ∙ (c .before .before .before .before) .find .ensures)))
+read-requires-2 c κs = let p = (c .before .before .before .before .before .before .before .before) in rw (c .read .ensures) (some-boxes (limited (p .args .limit)) (now (p .args .table)) (found-begins (limited (p .args .limit)) (now (p .args .table)) _ (sym ((c .before .before) .enum-told .given .1) ∙ (c .before .before .before .before) .find .ensures)))
 
 serve-requires : tie.Need-serve-requires
 serve-requires c κs = let p = (c .before .before .before .before .before .before .before .before .before .before) in
     let m = (c .before) .read2 .ensures in
-    ((widened (p .args .limit) (now (p .args .table)) (p .pre .0) (found-lawful (limited (p .args .limit)) (now (p .args .table)) _ (sym ((c .before .before .before .before) .enum-told .given .1) ∙ (c .before .before .before .before .before .before) .find .ensures)), p .pre .0, p .pre .1), (rw ((c .before .before) .read .ensures) at (m .0), m .1))
+    ((widened (p .args .limit) (now (p .args .table)) (p .pre .0) (found-begins (limited (p .args .limit)) (now (p .args .table)) _ (sym ((c .before .before .before .before) .enum-told .given .1) ∙ (c .before .before .before .before .before .before) .find .ensures)), p .pre .0, p .pre .1), (rw ((c .before .before) .read .ensures) at (m .0), m .1))
 
 same-length-2 : tie.Need-same-length-2
 same-length-2 c = search needs
 
 returns-2 : tie.Need-returns-2
 returns-2 c = let p = (c .before .before .before .before .before .before .before .before .before .before .before .before .before) in
-    let (reply, buffer) = heard-so (limited (p .args .limit)) (now (p .args .table)) (now (p .args .message)) _ (found-lawful (limited (p .args .limit)) (now (p .args .table)) _ (sym ((c .before .before .before .before .before .before .before) .enum-told .given .1) ∙ (c .before .before .before .before .before .before .before .before .before) .find .ensures)) (rw ((c .before .before .before .before .before) .read .ensures) at ((c .before .before .before .before) .read2 .ensures .0)) in
+    let (reply, buffer) = heard-so (limited (p .args .limit)) (now (p .args .table)) (now (p .args .message)) _ (found-begins (limited (p .args .limit)) (now (p .args .table)) _ (sym ((c .before .before .before .before .before .before .before) .enum-told .given .1) ∙ (c .before .before .before .before .before .before .before .before .before) .find .ensures)) (rw ((c .before .before .before .before .before) .read .ensures) at ((c .before .before .before .before) .read2 .ensures .0)) in
     ((c .before .before) .serve .ensures .0 ∙ reply, (c .before .before) .serve .ensures .1 ∙ buffer)
 
 pub respond-spec : {M : Type 1} → statement M

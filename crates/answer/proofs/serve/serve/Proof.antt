@@ -5,13 +5,13 @@ use lib.ListN.{drop}
 use denote.Ref.{now}
 use borrow.Author.Needs.{needs}
 use Rattle.wire.proofs.Numbers.{all-of}
-use Rattle.wire.specs.Numbers.{AllBytes}
+use Rattle.wire.specs.Inner.ByteLists.{AllBytes}
 use Rattle.rules.specs.Tables.{valley}
 use Rattle.table.specs.Headers.{headerAt}
 use Rattle.table.specs.Images.{formatOne}
 use Rattle.table.specs.Parse.{tableAt}
-use Rattle.seek.specs.Lent.{limited}
-use Rattle.seek.proofs.HeldRows.{lawful-holds}
+use Rattle.seek.specs.Inner.Limits.{limited}
+use Rattle.seek.proofs.HeldRows.{image-holds}
 use Rattle.transact.proofs.Serving.{same-2, same-4, same-5, same-6, same-7, kept-any}
 use Rattle.answer.proofs.Asked.{prepare-given, outcome-given, start-given, up-to-end}
 use Rattle.answer.proofs.Responding.{none-answered}
@@ -125,12 +125,12 @@ same-length-7 c = search needs
 returns-7 : tie.Need-returns-7
 returns-7 c = let p = (c .before .before .before .before .before .before .before) in
     let s = now (p .args .table) in
-    rw ((c .before .before .before) .asked7 .given .1) (kept-any valley (limited (p .args .limit)) _ s (λ T. same-7 valley (limited (p .args .limit)) T _ _) (c .read-register .ensures, read-keeps valley s _ _ (lawful-holds valley s (p .pre .0 .0))))
+    rw ((c .before .before .before) .asked7 .given .1) (kept-any valley (limited (p .args .limit)) _ s (λ T. same-7 valley (limited (p .args .limit)) T _ _) (c .read-register .ensures, read-keeps valley s _ _ (image-holds valley s (p .pre .0 .0))))
 
 returns-8 : tie.Need-returns-8
 returns-8 c = let p = (c .before .before .before .before .before) in
     let s = now (p .args .table) in
-    rw ((c .before) .enum-told .given .1, c .refusal .ensures) (none-answered (limited (p .args .limit)) s (lawful-holds valley s (p .pre .0 .0)))
+    rw ((c .before) .enum-told .given .1, c .refusal .ensures) (none-answered (limited (p .args .limit)) s (image-holds valley s (p .pre .0 .0)))
 
 pub serve-spec : {M : Type 1} → statement M
 serve-spec =

@@ -5,7 +5,7 @@ use native.Mathlib.Omega.{arith}
 use denote.Ref.{now}
 use borrow.Author.Needs.{needs}
 use Rattle.rules.specs.Tables.{valley}
-use Rattle.boxes.specs.Lent.{withBuffer}
+use Rattle.boxes.specs.Inner.OneBuffer.{withBuffer}
 use Rattle.boxes.proofs.LentTables.{lent-is, lent-back, arrives-nowhere}
 use Rattle.boxes.proofs.arrive.arrive.Statement.{statement}
 use Rattle.boxes.proofs.arrive.arrive.Tie as tie

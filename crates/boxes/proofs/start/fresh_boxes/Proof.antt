@@ -6,7 +6,7 @@ use lib.ListN.{length}
 use denote.Ref.{now}
 use Rattle.rules.specs.Tables.{valley}
 use Rattle.table.specs.Fresh.{freshBuffer}
-use Rattle.boxes.specs.Lent.{bufferOf, withBuffer, freshFirst}
+use Rattle.boxes.specs.Inner.OneBuffer.{bufferOf, withBuffer, freshFirst}
 use Rattle.boxes.proofs.LentTables.{lent-is, lent-back, first-turn}
 use Rattle.boxes.proofs.start.fresh_boxes.Statement.{statement}
 use Rattle.boxes.proofs.start.fresh_boxes.Tie as tie

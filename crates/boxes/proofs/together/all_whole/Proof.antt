@@ -9,7 +9,7 @@ use Rattle.rules.specs.Tests.{isSome}
 use Rattle.rules.specs.Tables.{Model, valley}
 use Rattle.table.specs.Images.{formatOne}
 use Rattle.table.specs.Parse.{parse, imageFound}
-use Rattle.boxes.specs.Lent.{tablesNamed}
+use Rattle.boxes.specs.Inner.OneBuffer.{tablesNamed}
 use Rattle.boxes.proofs.NamedTables.{bufferNamed, whole-turn, whole-not, whole-end}
 use Rattle.boxes.proofs.together.all_whole.Statement.{statement}
 use Rattle.boxes.proofs.together.all_whole.Tie as tie

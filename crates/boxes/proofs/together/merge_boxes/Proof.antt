@@ -7,7 +7,7 @@ use denote.Ref.{now}
 use borrow.Author.Tests.{not-true, not-false}
 use borrow.Author.Needs.{needs}
 use Rattle.rules.specs.Tables.{valley}
-use Rattle.boxes.specs.Lent.{noRunRoom}
+use Rattle.boxes.specs.Inner.OneBuffer.{noRunRoom}
 use Rattle.boxes.proofs.NamedTables.{crowded, room, roomy, together-crowded, together-small, together-bad, together-merged, laid-within, laid-part}
 use Rattle.boxes.proofs.together.merge_boxes.Statement.{statement}
 use Rattle.boxes.proofs.together.merge_boxes.Tie as tie

@@ -11,7 +11,7 @@ use Rattle.rules.specs.Stamps.{Access}
 use Rattle.rules.proofs.Chains.{tests}
 use Rattle.rows.specs.Read.{accessAt, accessesAt}
 use Rattle.checks.specs.declared.accesses.Write.the-variants.{Value}
-use Rattle.checks.specs.Sought.{writeTo}
+use Rattle.checks.specs.Inner.RegisterWrites.{writeTo}
 use Rattle.checks.proofs.Steps.{accesses-step, accesses-end}
 use Rattle.checks.proofs.Registers.{write-step, write-end}
 use Rattle.checks.proofs.accesses.write_to.Statement.{statement}

@@ -7,7 +7,7 @@ use denote.Ref.{now}
 use Rattle.rules.specs.Tables.{Row}
 use Rattle.rules.specs.Messages.{found}
 use Rattle.rows.specs.Read.{rowsAt}
-use Rattle.checks.specs.Given.{foundAs}
+use Rattle.checks.specs.Inner.Given.{foundAs}
 use Rattle.checks.proofs.Steps.{rows-step, rows-none, rows-all}
 use Rattle.checks.proofs.Rounds.{found-step, found-none}
 use Rattle.checks.proofs.newest.newest.Statement.{statement}

@@ -8,10 +8,10 @@ use borrow.Author.Needs.{needs}
 use denote.Ref.{now}
 use Rattle.rules.specs.Messages.{writeOf}
 use Rattle.rows.specs.Read.{rowOf, accessesAt}
-use Rattle.rows.specs.Rows.{sizeOf}
+use Rattle.rows.specs.Inner.Rows.{sizeOf}
 use Rattle.rows.proofs.Turns.{length-body-part}
-use Rattle.checks.specs.Given.{foundAs}
-use Rattle.checks.specs.Sought.{writeTo}
+use Rattle.checks.specs.Inner.Given.{foundAs}
+use Rattle.checks.specs.Inner.RegisterWrites.{writeTo}
 use Rattle.checks.proofs.Registers.{writtenAt, written-in}
 use Rattle.checks.proofs.newest.write_in.Statement.{statement}
 use Rattle.checks.proofs.newest.write_in.Tie as tie

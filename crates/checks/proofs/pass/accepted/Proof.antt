@@ -1,6 +1,6 @@
 use Rattle.rules.specs.Tests.{both, either}
 use Rattle.rules.proofs.Chains.{tests}
-use Rattle.checks.specs.Passed.{acceptedBytes}
+use Rattle.checks.specs.Inner.Passed.{acceptedBytes}
 use Rattle.checks.proofs.pass.accepted.Statement.{statement}
 use Rattle.checks.proofs.pass.accepted.Tie as tie
 

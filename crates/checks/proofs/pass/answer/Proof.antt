@@ -1,8 +1,8 @@
 use mathlib.Core.Path.{_≡_, sym, ap}
 use borrow.Author.Tests.{lt-ltb, le-ltb}
 use Rattle.rules.specs.Tables.{Result.OK, Result.ABORT, Result.ABSTAIN, Result.RETRY}
-use Rattle.checks.specs.Given.{checkedAs}
-use Rattle.checks.specs.Passed.{answerOf}
+use Rattle.checks.specs.Inner.Given.{checkedAs}
+use Rattle.checks.specs.Inner.Passed.{answerOf}
 use Rattle.checks.proofs.pass.answer.Statement.{statement}
 use Rattle.checks.proofs.pass.answer.Tie as tie
 

@@ -5,8 +5,8 @@ use native.Mathlib.Omega.{arith}
 use denote.Ref.{now}
 use Rattle.rows.specs.Read.{bodyAt, rowsAt}
 use Rattle.checks.specs.declared.pass.Seen.{Seen}
-use Rattle.checks.specs.Given.{checkedAs}
-use Rattle.checks.specs.Passed.{seenOf, answerOf}
+use Rattle.checks.specs.Inner.Given.{checkedAs}
+use Rattle.checks.specs.Inner.Passed.{seenOf, answerOf}
 use Rattle.checks.proofs.Steps.{rows-step, rows-none, rows-all}
 use Rattle.checks.proofs.Rounds.{seen-step, seen-none, answer-check}
 use Rattle.checks.proofs.pass.check.Statement.{statement}

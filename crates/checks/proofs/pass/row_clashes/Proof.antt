@@ -6,10 +6,10 @@ use native.Mathlib.Omega.{arith}
 use lib.ListN.{length}
 use borrow.Author.Needs.{needs}
 use denote.Ref.{now}
-use Rattle.rules.specs.Check.{clash}
+use Rattle.rules.specs.Inner.Clashes.{clash}
 use Rattle.rules.proofs.Chains.{both-yes, both-no}
 use Rattle.rows.specs.Read.{rowOf, bodyAt}
-use Rattle.rows.specs.Rows.{sizeOf}
+use Rattle.rows.specs.Inner.Rows.{sizeOf}
 use Rattle.rows.proofs.Turns.{length-body-part, body-of-part}
 use Rattle.checks.proofs.StateBytes.{accepted-bytes}
 use Rattle.checks.proofs.pass.row_clashes.Statement.{statement}

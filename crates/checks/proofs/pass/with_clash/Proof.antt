@@ -3,7 +3,7 @@ use Prim.Native.Nat.{max}
 use native.Mathlib.Omega.{arith}
 use native.Mathlib.Nat.{max-eq-left, max-eq-right}
 use Rattle.rules.proofs.Chains.{tests}
-use Rattle.checks.specs.Passed.{withClash}
+use Rattle.checks.specs.Inner.Passed.{withClash}
 use Rattle.checks.proofs.pass.with_clash.Statement.{statement}
 use Rattle.checks.proofs.pass.with_clash.Tie as tie
 

@@ -3,7 +3,7 @@ use mathlib.Core.Bool.{Bool}
 use borrow.Author.Needs.{needs}
 use denote.Ref.{now}
 use Rattle.rows.specs.Read.{rowOf}
-use Rattle.checks.specs.Passed.{withClash}
+use Rattle.checks.specs.Inner.Passed.{withClash}
 use Rattle.checks.proofs.StateBytes.{committed-byte}
 use Rattle.checks.proofs.Rounds.{seen-clash, seen-clear}
 use Rattle.checks.proofs.pass.with_row.Statement.{statement}

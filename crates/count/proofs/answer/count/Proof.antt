@@ -2,8 +2,8 @@
 use mathlib.Core.Path.{_≡_, sym, ap, _∙_}
 use mathlib.Core.Bool.{false}
 use borrow.Author.Needs.{needs}
-use Rattle.replies.specs.Held.{repliesIn}
-use Rattle.replies.specs.Bad.{areBad}
+use Rattle.replies.specs.Inner.HeldReplies.{repliesIn}
+use Rattle.replies.specs.Inner.Bad.{areBad}
 use Rattle.count.specs.Answers.{answerAs}
 use Rattle.replies.proofs.BadReplies.{good-read}
 use Rattle.count.proofs.Counts.{bad-refused, contradicted, clear}

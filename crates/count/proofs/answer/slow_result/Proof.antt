@@ -4,7 +4,7 @@ use mathlib.Core.Option.{some}
 use Rattle.rules.specs.Tests.{both, either}
 use Rattle.rows.specs.Fields.{resultNumbered, retryByCode}
 use Rattle.message.specs.Messages.{resultByCode}
-use Rattle.replies.specs.Results.{saidAs}
+use Rattle.replies.specs.Inner.Results.{saidAs}
 use Rattle.replies.proofs.BadReplies.{good-facts, good-read}
 use Rattle.count.proofs.Decisions.{slow-abort, slow-ok, slow-retry, slow-abstain}
 use Rattle.count.proofs.answer.slow_result.Statement.{statement}
@@ -34,11 +34,11 @@ greatest-retry-requires c κs = good-read _ _ ((c .before .before .before .befor
 
 returns-3 : tie.Need-returns-3
 unfolding resultNumbered
-returns-3 c = ap (λ r. saidAs (some r)) (sym (slow-retry _ _ _ ((c .before .before .before .before .before) .agreeing .ensures) ((c .before .before .before .before) .if1 .left) _ _ ((c .before .before .before) .agreeing2 .ensures) ((c .before .before .before .before .before .before) .quorum .ensures) ((c .before .before) .if2 .left) (good-facts _ _ ((c .before .before .before .before .before .before .before) .pre) .lawful) _ ((c .before) .greatest-retry .ensures) (c .if3 .taken)))
+returns-3 c = ap (λ r. saidAs (some r)) (sym (slow-retry _ _ _ ((c .before .before .before .before .before) .agreeing .ensures) ((c .before .before .before .before) .if1 .left) _ _ ((c .before .before .before) .agreeing2 .ensures) ((c .before .before .before .before .before .before) .quorum .ensures) ((c .before .before) .if2 .left) (good-facts _ _ ((c .before .before .before .before .before .before .before) .pre) .not-bad) _ ((c .before) .greatest-retry .ensures) (c .if3 .taken)))
 
 returns-4 : tie.Need-returns-4
 unfolding resultNumbered
-returns-4 c = ap (λ r. saidAs (some r)) (sym (slow-abstain _ _ _ ((c .before .before .before .before .before) .agreeing .ensures) ((c .before .before .before .before) .if1 .left) _ _ ((c .before .before .before) .agreeing2 .ensures) ((c .before .before .before .before .before .before) .quorum .ensures) ((c .before .before) .if2 .left) (good-facts _ _ ((c .before .before .before .before .before .before .before) .pre) .lawful) _ ((c .before) .greatest-retry .ensures) (c .if3 .left)))
+returns-4 c = ap (λ r. saidAs (some r)) (sym (slow-abstain _ _ _ ((c .before .before .before .before .before) .agreeing .ensures) ((c .before .before .before .before) .if1 .left) _ _ ((c .before .before .before) .agreeing2 .ensures) ((c .before .before .before .before .before .before) .quorum .ensures) ((c .before .before) .if2 .left) (good-facts _ _ ((c .before .before .before .before .before .before .before) .pre) .not-bad) _ ((c .before) .greatest-retry .ensures) (c .if3 .left)))
 
 pub slow-result-spec : {M : Type 1} → statement M
 slow-result-spec =

@@ -7,7 +7,7 @@ use native.Mathlib.Omega.{arith}
 use lib.ListN.{length, drop}
 use denote.Ref.{now}
 use Rattle.replies.specs.declared.held.Replies.{Replies}
-use Rattle.replies.specs.Held.{noneHeld, withReply, withReplies}
+use Rattle.replies.specs.Inner.HeldReplies.{noneHeld, withReply, withReplies}
 use Rattle.count.specs.Calls.{replyAt, repliesOf}
 use Rattle.count.proofs.HeardBytes.{replies-turn, replies-end}
 use Rattle.count.proofs.call.gather.Statement.{statement}

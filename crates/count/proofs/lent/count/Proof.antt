@@ -36,7 +36,7 @@ use denote.Triple.Table.{entered, cited}
 use Rattle.wire.proofs.HandWalks.{twice, lives, answers}
 use Rattle.replies.specs.declared.held.Reply.{Reply}
 use Rattle.replies.specs.declared.held.Replies.{Replies}
-use Rattle.replies.specs.Held.{repliesIn, noneHeld, withReplies}
+use Rattle.replies.specs.Inner.HeldReplies.{repliesIn, noneHeld, withReplies}
 use Rattle.replies.proofs.held.Reply as R
 use Rattle.replies.proofs.held.Replies as D
 use Rattle.replies.proofs.held.Replies.Laws as D′

@@ -45,7 +45,7 @@ use denote.Triple.Walked.{says, Stays, walkOf, goes-none-slice, Walks, ends-at, 
 use Rattle.wire.proofs.HandWalks.{twice, lives, answers, tests}
 use Rattle.replies.specs.declared.held.Reply.{Reply}
 use Rattle.replies.specs.declared.held.Replies.{Replies}
-use Rattle.replies.specs.Held.{noReply, noneHeld, withReply, withReplies}
+use Rattle.replies.specs.Inner.HeldReplies.{noReply, noneHeld, withReply, withReplies}
 use Rattle.replies.proofs.held.Reply as R
 use Rattle.replies.proofs.held.Reply.Laws as R′
 use Rattle.replies.proofs.held.Replies as D

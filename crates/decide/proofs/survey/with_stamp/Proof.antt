@@ -11,9 +11,9 @@ use Rattle.rules.specs.Tests.{either}
 use Rattle.rules.specs.Tables.{Row, valley}
 use Rattle.rules.specs.Merge.{rowsOf, twoBodies, contradictory}
 use Rattle.rules.proofs.Logic.{either-none, either-second}
-use Rattle.run.specs.Runs.{tablesOf}
-use Rattle.gather.specs.Held.{usedOf}
-use Rattle.gather.specs.State.{contradicts}
+use Rattle.image_run.specs.Inner.WholeRuns.{tablesOf}
+use Rattle.gather.specs.Inner.UsedTables.{usedOf}
+use Rattle.gather.specs.Inner.State.{contradicts}
 use Rattle.gather.proofs.StateSeen.{state-contradicts}
 use Rattle.decide.specs.declared.survey.Survey.{Survey}
 use Rattle.decide.proofs.survey.with_stamp.Statement.{statement}

@@ -5,8 +5,8 @@ use denote.Ref.{now}
 use borrow.Author.Needs.{needs}
 use Rattle.rules.specs.Tables.{Row, valley}
 use Rattle.rules.specs.Merge.{rowsOf, agreedOf}
-use Rattle.run.specs.Runs.{tablesOf}
-use Rattle.gather.specs.Held.{usedOf}
+use Rattle.image_run.specs.Inner.WholeRuns.{tablesOf}
+use Rattle.gather.specs.Inner.UsedTables.{usedOf}
 use Rattle.decide.proofs.UncheckedBytes.{with-final, without-final, agreed-code}
 use Rattle.decide.proofs.unchecked.unchecked_state.Statement.{statement}
 use Rattle.decide.proofs.unchecked.unchecked_state.Tie as tie

@@ -2,7 +2,7 @@
 use mathlib.Core.Path.{refl}
 use borrow.Author.Tests.{eq-eqb, ne-eqb}
 use borrow.Author.Needs.{needs}
-use Rattle.decide.specs.Unsettled.{withoutFinal}
+use Rattle.decide.specs.Inner.Unsettled.{withoutFinal}
 use Rattle.decide.proofs.unchecked.without_final.Statement.{statement}
 use Rattle.decide.proofs.unchecked.without_final.Tie as tie
 

@@ -1,7 +1,7 @@
 -- The two ways of the test.
 use borrow.Author.Tests.{lt-ltb, le-ltb}
 use borrow.Author.Needs.{needs}
-use Rattle.edit.specs.Parts.{bodyPlace}
+use Rattle.edit.specs.Inner.Parts.{bodyPlace}
 use Rattle.edit.proofs.add.body_place.Statement.{statement}
 use Rattle.edit.proofs.add.body_place.Tie as tie
 

@@ -5,7 +5,7 @@ use native.Mathlib.Nat.{sub-zero}
 use native.Mathlib.Omega.{arith}
 use lib.ListN.{length}
 use borrow.Author.Needs.{needs}
-use Rattle.edit.specs.Parts.{laid}
+use Rattle.edit.specs.Inner.Parts.{laid}
 use Rattle.edit.proofs.LaidRows.{lay-turn, lay-end}
 use Rattle.edit.proofs.add.lay_offsets.Statement.{statement}
 use Rattle.edit.proofs.add.lay_offsets.Tie as tie

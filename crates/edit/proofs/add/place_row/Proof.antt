@@ -1,6 +1,6 @@
 -- The three steps, one after the other.
 use borrow.Author.Needs.{needs}
-use Rattle.edit.specs.Parts.{placed}
+use Rattle.edit.specs.Inner.Parts.{placed}
 use Rattle.edit.proofs.add.place_row.Statement.{statement}
 use Rattle.edit.proofs.add.place_row.Tie as tie
 

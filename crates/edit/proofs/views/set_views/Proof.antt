@@ -4,7 +4,7 @@ use borrow.Author.Needs.{needs}
 use denote.Ref.{now}
 use Rattle.wire.proofs.Numbers.{all-of}
 use Rattle.table.specs.Images.{formatOne}
-use Rattle.edit.specs.Changes.{withViews}
+use Rattle.edit.specs.Inner.Changes.{withViews}
 use Rattle.edit.proofs.EditedParts.{header-edited}
 use Rattle.edit.proofs.Holding.{one-starts, holds-least, holds-header}
 use Rattle.edit.proofs.views.set_views.Statement.{statement}

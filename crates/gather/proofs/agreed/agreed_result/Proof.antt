@@ -6,12 +6,12 @@ use lib.ListN.{length, drop}
 use denote.Ref.{now}
 use Rattle.rules.specs.Tables.{valley}
 use Rattle.rules.specs.Merge.{rowsOf, agreedOf}
-use Rattle.gather.specs.Held.{usedOf}
-use Rattle.gather.specs.Agreed.{agreedAs}
-use Rattle.gather.proofs.Gathered.{lawful-part, agreed-is, agreed-next, agreed-end}
+use Rattle.gather.specs.Inner.UsedTables.{usedOf}
+use Rattle.gather.specs.Inner.Agreed.{agreedAs}
+use Rattle.gather.proofs.Gathered.{image-part, agreed-is, agreed-next, agreed-end}
 use Rattle.gather.proofs.AgreedSeen.{agreedAmong, agreed-all}
-use Rattle.run.specs.Runs.{tablesOf, Images}
-use Rattle.run.proofs.Walks.{room, goes-on, goes-far}
+use Rattle.image_run.specs.Inner.WholeRuns.{tablesOf, Images}
+use Rattle.image_run.proofs.Walks.{room, goes-on, goes-far}
 use Rattle.wire.proofs.Numbers.{all-of}
 use Rattle.gather.proofs.agreed.agreed_result.Statement.{statement}
 use Rattle.gather.proofs.agreed.agreed_result.Tie as tie
@@ -35,7 +35,7 @@ part-image-end : tie.Need-part-image-end Inv-loop μ-loop
 part-image-end c = omega arith
 
 fields-in-requires : tie.Need-fields-in-requires Inv-loop μ-loop
-fields-in-requires c κs = lawful-part _ _ ((c .before) .loop-test .taken) ((c .before .before) .loop .inv .1)
+fields-in-requires c κs = image-part _ _ ((c .before) .loop-test .taken) ((c .before .before) .loop .inv .1)
 
 is-enough-requires : tie.Need-is-enough-requires Inv-loop μ-loop
 is-enough-requires c κs = (c .before .before .before .before .before) .pre

@@ -12,11 +12,11 @@ use Rattle.rules.specs.Tests.{both, bit, count}
 use Rattle.rules.specs.Tables.{valley}
 use Rattle.rules.specs.Merge.{rowsOf}
 use Rattle.rules.proofs.Votes.{bit-most, all-counted}
-use Rattle.gather.specs.Held.{usedOf}
-use Rattle.gather.specs.Agreed.{holdsCodes}
-use Rattle.gather.proofs.Gathered.{lawful-part, votes-on, votes-end, added}
-use Rattle.run.specs.Runs.{tablesOf, Images}
-use Rattle.run.proofs.Walks.{room, goes-on, goes-far}
+use Rattle.gather.specs.Inner.UsedTables.{usedOf}
+use Rattle.gather.specs.Inner.Agreed.{holdsCodes}
+use Rattle.gather.proofs.Gathered.{image-part, votes-on, votes-end, added}
+use Rattle.image_run.specs.Inner.WholeRuns.{tablesOf, Images}
+use Rattle.image_run.proofs.Walks.{room, goes-on, goes-far}
 use Rattle.wire.proofs.Numbers.{all-of}
 use Rattle.gather.proofs.agreed.votes.Statement.{statement}
 use Rattle.gather.proofs.agreed.votes.Tie as tie
@@ -46,7 +46,7 @@ part-image-end : tie.Need-part-image-end Inv-loop μ-loop
 part-image-end c = omega arith
 
 fields-in-requires : tie.Need-fields-in-requires Inv-loop μ-loop
-fields-in-requires c κs = lawful-part _ _ ((c .before) .loop-test .taken) ((c .before .before) .loop .inv .1)
+fields-in-requires c κs = image-part _ _ ((c .before) .loop-test .taken) ((c .before .before) .loop .inv .1)
 
 has-codes-requires : tie.Need-has-codes-requires Inv-loop μ-loop
 has-codes-requires c κs = search needs

@@ -3,7 +3,7 @@ use mathlib.Core.Path.{ap, _∙_}
 use Prim.Native.Nat.{_-_}
 use borrow.Author.Needs.{needs}
 use Rattle.gather.proofs.OneTable.{header-inside, sought-in, rows-told, other-elsewhere, other-here}
-use Rattle.rows.specs.Places.{placeOf}
+use Rattle.rows.specs.Inner.Places.{placeOf}
 use Rattle.gather.proofs.bodies.other_in.Statement.{statement}
 use Rattle.gather.proofs.bodies.other_in.Tie as tie
 

@@ -6,10 +6,10 @@ use lib.ListN.{length, drop}
 use denote.Ref.{now}
 use Rattle.rules.specs.Tests.{any}
 use Rattle.rules.specs.Tables.{valley}
-use Rattle.gather.specs.Held.{otherIn}
-use Rattle.gather.proofs.Gathered.{lawful-part, other-is, other-next}
-use Rattle.run.specs.Runs.{tablesOf, Images}
-use Rattle.run.proofs.Walks.{room, goes-on, goes-far, any-end}
+use Rattle.gather.specs.Inner.UsedTables.{otherIn}
+use Rattle.gather.proofs.Gathered.{image-part, other-is, other-next}
+use Rattle.image_run.specs.Inner.WholeRuns.{tablesOf, Images}
+use Rattle.image_run.proofs.Walks.{room, goes-on, goes-far, any-end}
 use Rattle.wire.proofs.Numbers.{all-of}
 use Rattle.rows.specs.Read.{bodyAt}
 use Rattle.gather.proofs.bodies.some_other.Statement.{statement}
@@ -34,7 +34,7 @@ part-image-end : tie.Need-part-image-end Inv-loop μ-loop
 part-image-end c = omega arith
 
 other-in-requires : tie.Need-other-in-requires Inv-loop μ-loop
-other-in-requires c κs = (lawful-part _ _ ((c .before) .loop-test .taken) ((c .before .before) .loop .inv .1), (c .before .before .before .before .before) .pre .1)
+other-in-requires c κs = (image-part _ _ ((c .before) .loop-test .taken) ((c .before .before) .loop .inv .1), (c .before .before .before .before .before) .pre .1)
 
 returns : tie.Need-returns Inv-loop μ-loop
 returns c = let turned = other-is _ _ _ (all-of (now ((c .before .before .before .before .before .before .before) .args .run)) (λ i. (c .before .before .before .before .before .before) .shared-slice-known .given i .fits)) _ ((c .before .before .before) .loop-test .taken) ((c .before .before .before .before) .loop .inv .1) _ refl _ (sym ((c .before) .other-in .ensures) ∙ c .if1 .taken) in turned ∙ (c .before .before .before .before) .loop .inv .2

@@ -3,10 +3,10 @@ use mathlib.Core.Path.{_∙_}
 use Prim.Native.Nat.{_-_}
 use denote.Ref.{now}
 use Rattle.rules.specs.Tables.{valley}
-use Rattle.gather.specs.Held.{fromFirst}
+use Rattle.gather.specs.Inner.UsedTables.{fromFirst}
 use Rattle.gather.proofs.UsedRows.{FirstHeld, first-held}
-use Rattle.gather.proofs.FirstImages.{first-lawful, first-body, two-told}
-use Rattle.run.specs.Runs.{tablesOf}
+use Rattle.gather.proofs.FirstImages.{first-begins, first-body, two-told}
+use Rattle.image_run.specs.Inner.WholeRuns.{tablesOf}
 use Rattle.wire.proofs.Numbers.{all-of}
 use Rattle.gather.proofs.bodies.two_bodies.Statement.{statement}
 use Rattle.gather.proofs.bodies.two_bodies.Tie as tie
@@ -18,7 +18,7 @@ first-image-requires : tie.Need-first-image-requires
 first-image-requires c κs = (c .before) .pre .0
 
 fields-in-requires : tie.Need-fields-in-requires
-fields-in-requires c κs = first-lawful _ _ _ _ _ (held (c .before)) _ (c .first-image .ensures)
+fields-in-requires c κs = first-begins _ _ _ _ _ (held (c .before)) _ (c .first-image .ensures)
 
 some-other-requires : tie.Need-some-other-requires
 some-other-requires c κs = ((c .before .before .before) .pre .0, first-body _ _ _ _ _ (held (c .before .before)) _ ((c .before) .first-image .ensures) _ (c .fields-in .ensures))

@@ -5,11 +5,11 @@ use native.Mathlib.Omega.{arith}
 use lib.ListN.{length, drop}
 use denote.Ref.{now}
 use Rattle.rules.specs.Tables.{valley}
-use Rattle.gather.specs.Held.{fromFirst}
-use Rattle.gather.proofs.Gathered.{lawful-part, first-is, first-next, first-end}
-use Rattle.run.specs.Runs.{tablesOf, Images}
-use Rattle.run.proofs.Walks.{room, goes-on, goes-far}
-use Rattle.run.proofs.RunTurns.{rest-of}
+use Rattle.gather.specs.Inner.UsedTables.{fromFirst}
+use Rattle.gather.proofs.Gathered.{image-part, first-is, first-next, first-end}
+use Rattle.image_run.specs.Inner.WholeRuns.{tablesOf, Images}
+use Rattle.image_run.proofs.Walks.{room, goes-on, goes-far}
+use Rattle.image_run.proofs.RunTurns.{rest-of}
 use Rattle.wire.proofs.Numbers.{all-of}
 use Rattle.gather.proofs.held.first_image.Statement.{statement}
 use Rattle.gather.proofs.held.first_image.Tie as tie
@@ -33,7 +33,7 @@ part-image-end : tie.Need-part-image-end Inv-loop μ-loop
 part-image-end c = omega arith
 
 is-held-requires : tie.Need-is-held-requires Inv-loop μ-loop
-is-held-requires c κs = lawful-part _ _ ((c .before) .loop-test .taken) ((c .before .before) .loop .inv .1)
+is-held-requires c κs = image-part _ _ ((c .before) .loop-test .taken) ((c .before .before) .loop .inv .1)
 
 returns : tie.Need-returns Inv-loop μ-loop
 returns c = let turned = first-is _ _ _ (all-of (now ((c .before .before .before .before .before .before) .args .run)) (λ i. (c .before .before .before .before .before) .shared-slice-known .given i .fits)) _ ((c .before .before .before) .loop-test .taken) ((c .before .before .before .before) .loop .inv .1) _ refl (sym ((c .before) .is-held .ensures) ∙ c .if1 .taken) in turned ∙ (c .before .before .before .before) .loop .inv .2

@@ -7,11 +7,11 @@ use lib.ListN.{length, drop}
 use denote.Ref.{now}
 use Rattle.rules.specs.Tables.{valley}
 use Rattle.rules.specs.Merge.{stamps}
-use Rattle.gather.specs.Held.{usedOf}
-use Rattle.gather.specs.Stamps.{nextAfter}
-use Rattle.gather.proofs.Gathered.{lawful-part, next-step, next-over, next-start}
-use Rattle.run.specs.Runs.{tablesOf, Images}
-use Rattle.run.proofs.Walks.{room, goes-on, goes-far}
+use Rattle.gather.specs.Inner.UsedTables.{usedOf}
+use Rattle.gather.specs.Inner.Stamps.{nextAfter}
+use Rattle.gather.proofs.Gathered.{image-part, next-step, next-over, next-start}
+use Rattle.image_run.specs.Inner.WholeRuns.{tablesOf, Images}
+use Rattle.image_run.proofs.Walks.{room, goes-on, goes-far}
 use Rattle.wire.proofs.Numbers.{all-of}
 use Rattle.gather.proofs.stamps.next_stamp.Statement.{statement}
 use Rattle.gather.proofs.stamps.next_stamp.Tie as tie
@@ -41,7 +41,7 @@ part-image-end : tie.Need-part-image-end Inv-loop μ-loop
 part-image-end c = omega arith
 
 stamp-above-requires : tie.Need-stamp-above-requires Inv-loop μ-loop
-stamp-above-requires c κs = (lawful-part _ _ ((c .before) .loop-test .taken) ((c .before .before) .loop .inv .1), (c .before .before .before .before) .pre .1)
+stamp-above-requires c κs = (image-part _ _ ((c .before) .loop-test .taken) ((c .before .before) .loop .inv .1), (c .before .before .before .before) .pre .1)
 
 read-requires : tie.Need-read-requires Inv-loop μ-loop
 read-requires c κs = room _ _ ((c .before .before .before) .loop-test .taken) ((c .before .before .before .before) .loop .inv .1)

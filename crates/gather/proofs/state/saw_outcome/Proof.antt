@@ -3,7 +3,7 @@ use mathlib.Core.Path.{refl}
 use Prim.Native.Nat.{_-_}
 use borrow.Author.Tests.{eq-eqb, ne-eqb}
 use Rattle.rules.specs.Tests.{either}
-use Rattle.gather.specs.State.{sawOutcome}
+use Rattle.gather.specs.Inner.State.{sawOutcome}
 use Rattle.gather.proofs.state.saw_outcome.Statement.{statement}
 use Rattle.gather.proofs.state.saw_outcome.Tie as tie
 

@@ -3,7 +3,7 @@ use mathlib.Core.Path.{refl}
 use Prim.Native.Nat.{_-_}
 use borrow.Author.Tests.{eq-eqb, ne-eqb, lt-ltb, le-ltb}
 use borrow.Author.Needs.{needs}
-use Rattle.gather.specs.State.{sawPrepare}
+use Rattle.gather.specs.Inner.State.{sawPrepare}
 use Rattle.gather.proofs.state.saw_prepare.Statement.{statement}
 use Rattle.gather.proofs.state.saw_prepare.Tie as tie
 

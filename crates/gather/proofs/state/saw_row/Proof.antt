@@ -2,7 +2,7 @@
 use mathlib.Core.Path.{ap, _∙_}
 use Prim.Native.Nat.{_-_}
 use borrow.Author.Needs.{needs}
-use Rattle.gather.specs.State.{sawOutcome}
+use Rattle.gather.specs.Inner.State.{sawOutcome}
 use Rattle.gather.proofs.state.saw_row.Statement.{statement}
 use Rattle.gather.proofs.state.saw_row.Tie as tie
 

@@ -7,12 +7,12 @@ use denote.Ref.{now}
 use borrow.Author.Needs.{needs}
 use Rattle.rules.specs.Tables.{valley}
 use Rattle.rules.specs.Merge.{rowsOf}
-use Rattle.gather.specs.State.{stateOf}
-use Rattle.gather.specs.Held.{usedOf}
-use Rattle.gather.proofs.Gathered.{lawful-part, state-on, state-end}
+use Rattle.gather.specs.Inner.State.{stateOf}
+use Rattle.gather.specs.Inner.UsedTables.{usedOf}
+use Rattle.gather.proofs.Gathered.{image-part, state-on, state-end}
 use Rattle.gather.proofs.StateSeen.{sawRows, state-seen}
-use Rattle.run.specs.Runs.{tablesOf, Images}
-use Rattle.run.proofs.Walks.{room, goes-on, goes-far}
+use Rattle.image_run.specs.Inner.WholeRuns.{tablesOf, Images}
+use Rattle.image_run.proofs.Walks.{room, goes-on, goes-far}
 use Rattle.wire.proofs.Numbers.{all-of}
 use Rattle.gather.proofs.state.state_of.Statement.{statement}
 use Rattle.gather.proofs.state.state_of.Tie as tie
@@ -36,7 +36,7 @@ part-image-end : tie.Need-part-image-end Inv-loop μ-loop
 part-image-end c = omega arith
 
 fields-in-requires : tie.Need-fields-in-requires Inv-loop μ-loop
-fields-in-requires c κs = lawful-part _ _ ((c .before) .loop-test .taken) ((c .before .before) .loop .inv .1)
+fields-in-requires c κs = image-part _ _ ((c .before) .loop-test .taken) ((c .before .before) .loop .inv .1)
 
 saw-row-requires : tie.Need-saw-row-requires Inv-loop μ-loop
 saw-row-requires c κs = search needs

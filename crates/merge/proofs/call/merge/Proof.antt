@@ -9,11 +9,12 @@ use borrow.Author.Tests.{not-true, not-false}
 use borrow.Author.Needs.{needs}
 use Rattle.rules.specs.Tables.{valley, Model}
 use Rattle.rules.specs.Merge.{areWrong}
-use Rattle.run.specs.Runs.{tablesOf, runTables}
-use Rattle.run.proofs.RunTurns.{run-told}
+use Rattle.image_run.specs.Inner.WholeRuns.{tablesOf}
+use Rattle.image_run.specs.Runs.{runTables}
+use Rattle.image_run.proofs.RunTurns.{run-told}
 use Rattle.merge.proofs.MergeSteps.{used-is, kept-small, kept-bad, kept-wrong, kept-survey, kept-done, stamps-counted, stamps-few}
 use Rattle.rules.specs.Tests.{isSome}
-use Rattle.decide.specs.Surveyed.{surveyNumber}
+use Rattle.decide.specs.Inner.Surveyed.{surveyNumber}
 use Rattle.merge.proofs.call.merge.Statement.{statement}
 use Rattle.merge.proofs.call.merge.Tie as tie
 

@@ -10,12 +10,12 @@ use Rattle.rules.specs.Merge.{stamps, mergedRows, mergedTable, groupOf}
 use Rattle.rules.specs.Check.{check}
 use Rattle.wire.proofs.Numbers.{all-of}
 use Rattle.table.specs.Images.{formatOne, image}
-use Rattle.run.specs.Runs.{tablesOf}
-use Rattle.run.proofs.Wrongs.{first-room, group-read, group-some}
-use Rattle.gather.specs.Held.{usedOf}
+use Rattle.image_run.specs.Inner.WholeRuns.{tablesOf}
+use Rattle.image_run.proofs.Wrongs.{first-room, group-read, group-some}
+use Rattle.gather.specs.Inner.UsedTables.{usedOf}
 use Rattle.gather.proofs.Gathered.{all-regular}
 use Rattle.gather.proofs.NextStamps.{AllRegular, used-regular}
-use Rattle.merge.specs.Written.{startHeader}
+use Rattle.merge.specs.Inner.Written.{startHeader}
 use Rattle.merge.proofs.RowsWritten.{bodies-all}
 use Rattle.merge.proofs.MergedBuffers.{starting, first-ready, second-ready, last-is, merged-is}
 use Rattle.table.specs.declared.header.Header.{Header}

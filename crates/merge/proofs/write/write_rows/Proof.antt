@@ -7,8 +7,8 @@ use denote.Ref.{now}
 use Rattle.rules.specs.Tables.{valley}
 use Rattle.rules.specs.Merge.{rowsOf, stamps, uncheckedRow}
 use Rattle.rows.specs.Bytes.{lengthOf}
-use Rattle.run.specs.Runs.{tablesOf}
-use Rattle.gather.specs.Held.{usedOf}
+use Rattle.image_run.specs.Inner.WholeRuns.{tablesOf}
+use Rattle.gather.specs.Inner.UsedTables.{usedOf}
 use Rattle.gather.proofs.Gathered.{all-regular}
 use Rattle.gather.proofs.NextStamps.{AllRegular, used-regular}
 use Rattle.gather.proofs.StampsInTurn.{next-above}

@@ -7,10 +7,10 @@ use denote.Ref.{now}
 use borrow.Author.Needs.{needs}
 use Rattle.rules.specs.Tables.{valley}
 use Rattle.wire.proofs.Numbers.{all-of}
-use Rattle.run.specs.Runs.{tablesOf}
-use Rattle.gather.specs.Held.{fromFirst}
+use Rattle.image_run.specs.Inner.WholeRuns.{tablesOf}
+use Rattle.gather.specs.Inner.UsedTables.{fromFirst}
 use Rattle.gather.proofs.UsedRows.{FirstHeld, first-held}
-use Rattle.gather.proofs.FirstImages.{first-lawful, first-body}
+use Rattle.gather.proofs.FirstImages.{first-begins, first-body}
 use Rattle.gather.proofs.Gathered.{all-regular}
 use Rattle.merge.proofs.RowsWritten.{body-long, stamp-laid}
 use Rattle.wire.specs.Parts.{replaced}
@@ -24,7 +24,7 @@ first-image-requires : tie.Need-first-image-requires
 first-image-requires c κs = search needs
 
 fields-in-requires : tie.Need-fields-in-requires
-fields-in-requires c κs = first-lawful _ _ _ _ _ (held (c .before)) _ (c .first-image .ensures)
+fields-in-requires c κs = first-begins _ _ _ _ _ (held (c .before)) _ (c .first-image .ensures)
 
 unchecked-state-requires : tie.Need-unchecked-state-requires
 unchecked-state-requires c κs = search needs

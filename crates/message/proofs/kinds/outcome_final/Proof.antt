@@ -1,7 +1,6 @@
 use Rattle.rules.proofs.Logic.{both-left, both-right}
-use mathlib.Core.Path.{sym, _∙_}
+use mathlib.Core.Path.{sym, _∙_, _≡_}
 use borrow.Author.Needs.{needs}
-use mathlib.Core.Path.{_≡_}
 use Prim.Native.Nat.{ℕ}
 use borrow.Author.Tests.{ne-eqb}
 use denote.Ref.{now}
@@ -10,9 +9,8 @@ use Rattle.rules.specs.Tests.{both, provided}
 use Rattle.rules.specs.Tables.{Model}
 use Rattle.rules.specs.Messages.{Message.finaliseOutcome}
 use Rattle.rows.specs.Fields.{verdictNumbered}
-use Rattle.message.specs.Messages.{outcomeFinal}
-use Rattle.message.specs.Read.{lawful}
-use Rattle.message.proofs.Lawful.{final-outcome}
+use Rattle.message.specs.Messages.{outcomeFinal, keepingRules}
+use Rattle.message.proofs.KeepingRules.{final-outcome}
 use Rattle.message.proofs.kinds.outcome_final.Statement.{statement}
 use Rattle.message.proofs.kinds.outcome_final.Tie as tie
 
@@ -35,7 +33,7 @@ stamp-and-verdict-valid-requires c κs = search needs
 -- the message that these bytes are, by the test that was made
 told : (c : tie.After-stamp-and-verdict-valid) (M : Model) (n : ℕ) →
     let s = now (c .before .before .before .before .before .before .args .message) in
-    lawful M n (outcomeFinal s) ≡ provided (c .stamp-and-verdict-valid .result) (finaliseOutcome (c .before .before .before .u64-at .result) (c .before .before .u32-at .result) (verdictNumbered (c .before .u8-at .result)))
+    keepingRules M n (outcomeFinal s) ≡ provided (c .stamp-and-verdict-valid .result) (finaliseOutcome (c .before .before .before .u64-at .result) (c .before .before .u32-at .result) (verdictNumbered (c .before .u8-at .result)))
 told c M n = final-outcome M n _ _ _ _ _ (all-of (now (c .before .before .before .before .before .before .args .message)) (λ i. c .before .before .before .before .before .shared-slice-known .given i .fits)) (c .before .before .before .before .if1 .left) (c .before .before .before .u64-at .ensures) (c .before .before .u32-at .ensures) (c .before .u8-at .ensures) (c .stamp-and-verdict-valid .ensures)
 
 returns-2 : tie.Need-returns-2

@@ -1,7 +1,6 @@
 use Rattle.rules.proofs.Logic.{both-left, both-right}
-use mathlib.Core.Path.{sym, _∙_}
+use mathlib.Core.Path.{sym, _∙_, _≡_}
 use borrow.Author.Needs.{needs}
-use mathlib.Core.Path.{_≡_}
 use Prim.Native.Nat.{ℕ}
 use denote.Ref.{now}
 use Rattle.rules.specs.Tests.{provided}
@@ -9,9 +8,8 @@ use Rattle.rules.specs.Tables.{Model}
 use Rattle.rules.specs.Messages.{Message.proposeOutcome}
 use Rattle.rows.specs.Fields.{verdictNumbered}
 use Rattle.rows.specs.Read.{bodyAt}
-use Rattle.message.specs.Messages.{outcomeProposal}
-use Rattle.message.specs.Read.{lawful}
-use Rattle.message.proofs.Lawful.{proposed-outcome, short-outcome}
+use Rattle.message.specs.Messages.{outcomeProposal, keepingRules}
+use Rattle.message.proofs.KeepingRules.{proposed-outcome, short-outcome}
 use Rattle.message.proofs.kinds.outcome_proposal.Statement.{statement}
 use Rattle.message.proofs.kinds.outcome_proposal.Tie as tie
 
@@ -36,7 +34,7 @@ outcome-valid-requires c κs = search needs
 -- the message that these bytes are, by the test that was made
 told : (c : tie.After-outcome-valid) (M : Model) (n : ℕ) →
     let s = now (c .before .before .before .before .before .before .before .args .message) in
-    lawful M n (outcomeProposal s) ≡ provided (c .outcome-valid .result) (proposeOutcome (c .before .before .before .before .u64-at .result) (verdictNumbered (c .before .before .before .u8-at .result)) (bodyAt s 12 (c .before .before .u8-at2 .result) (c .before .u8-at3 .result)))
+    keepingRules M n (outcomeProposal s) ≡ provided (c .outcome-valid .result) (proposeOutcome (c .before .before .before .before .u64-at .result) (verdictNumbered (c .before .before .before .u8-at .result)) (bodyAt s 12 (c .before .before .u8-at2 .result) (c .before .u8-at3 .result)))
 told c M n = proposed-outcome M n _ _ _ _ _ _ (c .before .before .before .before .u64-at .ensures) (c .before .before .before .u8-at .ensures) (c .before .before .u8-at2 .ensures) (c .before .u8-at3 .ensures) (c .outcome-valid .ensures)
 
 returns-2 : tie.Need-returns-2

@@ -1,7 +1,6 @@
 use Rattle.rules.proofs.Logic.{both-left, both-right}
-use mathlib.Core.Path.{sym, _∙_}
+use mathlib.Core.Path.{sym, _∙_, _≡_}
 use borrow.Author.Needs.{needs}
-use mathlib.Core.Path.{_≡_}
 use Prim.Native.Nat.{ℕ}
 use borrow.Author.Tests.{ne-eqb}
 use denote.Ref.{now}
@@ -10,9 +9,8 @@ use Rattle.rules.specs.Tests.{both, provided}
 use Rattle.rules.specs.Tables.{Model}
 use Rattle.rules.specs.Messages.{Message.finalisePrepare}
 use Rattle.rows.specs.Fields.{resultNumbered}
-use Rattle.message.specs.Messages.{prepareFinal}
-use Rattle.message.specs.Read.{lawful}
-use Rattle.message.proofs.Lawful.{final-prepare}
+use Rattle.message.specs.Messages.{prepareFinal, keepingRules}
+use Rattle.message.proofs.KeepingRules.{final-prepare}
 use Rattle.message.proofs.kinds.prepare_final.Statement.{statement}
 use Rattle.message.proofs.kinds.prepare_final.Tie as tie
 
@@ -38,7 +36,7 @@ stamp-and-result-valid-requires c κs = search needs
 -- the message that these bytes are, by the test that was made
 told : (c : tie.After-stamp-and-result-valid) (M : Model) (n : ℕ) →
     let s = now (c .before .before .before .before .before .before .before .args .message) in
-    lawful M n (prepareFinal s) ≡ provided (c .stamp-and-result-valid .result) (finalisePrepare (c .before .before .before .before .u64-at .result) (c .before .before .before .u32-at .result) (resultNumbered (c .before .before .u8-at .result) (c .before .u64-at2 .result)))
+    keepingRules M n (prepareFinal s) ≡ provided (c .stamp-and-result-valid .result) (finalisePrepare (c .before .before .before .before .u64-at .result) (c .before .before .before .u32-at .result) (resultNumbered (c .before .before .u8-at .result) (c .before .u64-at2 .result)))
 told c M n = final-prepare M n _ _ _ _ _ _ (all-of (now (c .before .before .before .before .before .before .before .args .message)) (λ i. c .before .before .before .before .before .before .shared-slice-known .given i .fits)) (c .before .before .before .before .before .if1 .left) (c .before .before .before .before .u64-at .ensures) (c .before .before .before .u32-at .ensures) (c .before .before .u8-at .ensures) (c .before .u64-at2 .ensures) (c .stamp-and-result-valid .ensures)
 
 returns-2 : tie.Need-returns-2

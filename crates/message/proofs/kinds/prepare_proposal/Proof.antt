@@ -6,9 +6,8 @@ use Rattle.rules.specs.Tests.{provided}
 use Rattle.rules.specs.Tables.{Model}
 use Rattle.rules.specs.Messages.{Message.proposePrepare}
 use Rattle.rows.specs.Read.{bodyAt}
-use Rattle.message.specs.Messages.{prepareProposal}
-use Rattle.message.specs.Read.{lawful}
-use Rattle.message.proofs.Lawful.{proposed-prepare, short-prepare}
+use Rattle.message.specs.Messages.{prepareProposal, keepingRules}
+use Rattle.message.proofs.KeepingRules.{proposed-prepare, short-prepare}
 use Rattle.message.proofs.kinds.prepare_proposal.Statement.{statement}
 use Rattle.message.proofs.kinds.prepare_proposal.Tie as tie
 
@@ -30,7 +29,7 @@ proposal-valid-requires c κs = search needs
 -- the message that these bytes are, by the test that was made
 told : (c : tie.After-proposal-valid) (M : Model) (n : ℕ) →
     let s = now (c .before .before .before .before .before .before .args .message) in
-    lawful M n (prepareProposal s) ≡ provided (c .proposal-valid .result) (proposePrepare (c .before .before .before .u64-at .result) (bodyAt s 11 (c .before .before .u8-at .result) (c .before .u8-at2 .result)))
+    keepingRules M n (prepareProposal s) ≡ provided (c .proposal-valid .result) (proposePrepare (c .before .before .before .u64-at .result) (bodyAt s 11 (c .before .before .u8-at .result) (c .before .u8-at2 .result)))
 told c M n = proposed-prepare M n _ _ _ _ _ (c .before .before .before .u64-at .ensures) (c .before .before .u8-at .ensures) (c .before .u8-at2 .ensures) (c .proposal-valid .ensures)
 
 returns-2 : tie.Need-returns-2

@@ -1,9 +1,8 @@
 -- The first byte is the kind; each function told what a message of its kind is.
 use borrow.Author.Needs.{needs}
 use Rattle.rules.proofs.Chains.{tests}
-use Rattle.message.specs.Messages.{messageAt, messageOfKind}
-use Rattle.message.specs.Read.{messageTo}
-use Rattle.message.proofs.Lawful.{no-kind}
+use Rattle.message.specs.Messages.{messageAt, messageOfKind, messageTo}
+use Rattle.message.proofs.KeepingRules.{no-kind}
 use Rattle.message.proofs.kinds.read.Statement.{statement}
 use Rattle.message.proofs.kinds.read.Tie as tie
 

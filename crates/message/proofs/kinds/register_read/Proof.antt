@@ -6,9 +6,8 @@ use denote.Ref.{now}
 use Rattle.rules.specs.Tests.{both, provided}
 use Rattle.rules.specs.Tables.{Model}
 use Rattle.rules.specs.Messages.{Message.readRegister}
-use Rattle.message.specs.Messages.{registerRead}
-use Rattle.message.specs.Read.{lawful}
-use Rattle.message.proofs.Lawful.{read-register}
+use Rattle.message.specs.Messages.{registerRead, keepingRules}
+use Rattle.message.proofs.KeepingRules.{read-register}
 use Rattle.message.proofs.kinds.register_read.Statement.{statement}
 use Rattle.message.proofs.kinds.register_read.Tie as tie
 
@@ -28,7 +27,7 @@ stamp-and-register-valid-requires c κs = search needs
 -- the message that these bytes are, by the test that was made
 told : (c : tie.After-stamp-and-register-valid) (M : Model) (n : ℕ) →
     let s = now (c .before .before .before .before .before .args .message) in
-    lawful M n (registerRead s) ≡ provided (c .stamp-and-register-valid .result) (readRegister (c .before .before .u64-at .result) (c .before .u8-at .result))
+    keepingRules M n (registerRead s) ≡ provided (c .stamp-and-register-valid .result) (readRegister (c .before .before .u64-at .result) (c .before .u8-at .result))
 told c M n = read-register M n _ _ _ _ (c .before .before .before .if1 .left) (c .before .before .u64-at .ensures) (c .before .u8-at .ensures) (c .stamp-and-register-valid .ensures)
 
 returns-2 : tie.Need-returns-2

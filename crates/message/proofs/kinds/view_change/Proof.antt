@@ -4,7 +4,7 @@ use borrow.Author.Tests.{ne-eqb}
 use denote.Ref.{now}
 use Rattle.wire.proofs.Numbers.{all-of}
 use Rattle.message.specs.Messages.{viewChange}
-use Rattle.message.proofs.Lawful.{changed-view}
+use Rattle.message.proofs.KeepingRules.{changed-view}
 use Rattle.message.proofs.kinds.view_change.Statement.{statement}
 use Rattle.message.proofs.kinds.view_change.Tie as tie
 

@@ -7,11 +7,10 @@ use Rattle.wire.proofs.Numbers.{all-of}
 use Rattle.rules.specs.Tests.{provided}
 use Rattle.rules.specs.Messages.{Message.startView}
 use Rattle.table.specs.Images.{formatOne}
-use Rattle.table.specs.Models.{modelOf}
+use Rattle.table.specs.Inner.Models.{modelOf}
 use Rattle.table.specs.Parse.{tableAt}
-use Rattle.message.specs.Messages.{viewStart}
-use Rattle.message.specs.Read.{lawful}
-use Rattle.message.proofs.Lawful.{short-start, started-view}
+use Rattle.message.specs.Messages.{viewStart, keepingRules}
+use Rattle.message.proofs.KeepingRules.{short-start, started-view}
 use Rattle.message.proofs.kinds.view_start.Statement.{statement}
 use Rattle.message.proofs.kinds.view_start.Tie as tie
 
@@ -37,7 +36,7 @@ valid-requires c κs = search needs
 told : (c : tie.After-valid) →
     let a = c .before .before .before .before .before .args in
     let s = now (a .message) in
-    lawful (modelOf (a .model)) (a .n) (viewStart formatOne s) ≡ provided (c .valid .result) (startView (c .before .before .u32-at .result) (tableAt formatOne (drop 5 s)))
+    keepingRules (modelOf (a .model)) (a .n) (viewStart formatOne s) ≡ provided (c .valid .result) (startView (c .before .before .u32-at .result) (tableAt formatOne (drop 5 s)))
 told c =
     let s = now (c .before .before .before .before .before .args .message) in
     let l : 5 ≤ length s = c .before .before .before .if1 .left in

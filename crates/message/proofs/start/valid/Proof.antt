@@ -9,9 +9,9 @@ use Rattle.rules.specs.Tables.{tableByRule}
 use Rattle.rules.proofs.Logic.{both-right}
 use Rattle.rows.specs.Read.{begins}
 use Rattle.table.specs.Images.{formatOne, image, imageLength}
-use Rattle.table.specs.Models.{modelOf}
+use Rattle.table.specs.Inner.Models.{modelOf}
 use Rattle.table.specs.Parse.{tableAt}
-use Rattle.message.specs.Begun.{startsAt}
+use Rattle.message.specs.Inner.Begun.{startsAt}
 use Rattle.message.proofs.Starting.{image-found, nothing-found, rows-inside}
 use Rattle.message.proofs.start.valid.Statement.{statement}
 use Rattle.message.proofs.start.valid.Tie as tie

@@ -3,8 +3,8 @@ use mathlib.Core.Path.{_≡_, refl, sym, ap, _∙_}
 use Prim.Native.Nat.{_-_, _≤_}
 use native.Mathlib.Omega.{arith}
 use borrow.Author.Needs.{needs}
-use Rattle.replies.specs.Held.{repliesIn}
-use Rattle.replies.specs.Bad.{anyBad}
+use Rattle.replies.specs.Inner.HeldReplies.{repliesIn}
+use Rattle.replies.specs.Inner.Bad.{anyBad}
 use Rattle.replies.proofs.Turns.{left, left-all}
 use Rattle.replies.proofs.BadReplies.{bad-wrong, bad-twice, bad-on, bad-over}
 use Rattle.replies.proofs.bad.any_bad.Statement.{statement}

@@ -3,7 +3,7 @@ use mathlib.Core.Bool.{not}
 use borrow.Author.Needs.{needs}
 use borrow.Author.Tests.{eq-eqb, ne-eqb, le-ltb, lt-ltb}
 use Rattle.rules.specs.Tests.{either}
-use Rattle.replies.specs.Bad.{isWrong}
+use Rattle.replies.specs.Inner.Bad.{isWrong}
 use Rattle.replies.proofs.bad.is_wrong.Statement.{statement}
 use Rattle.replies.proofs.bad.is_wrong.Tie as tie
 

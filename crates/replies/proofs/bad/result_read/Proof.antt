@@ -1,7 +1,7 @@
 use borrow.Author.Needs.{needs}
 use Rattle.rules.specs.Tests.{both}
 use Rattle.rules.proofs.Chains.{chain}
-use Rattle.replies.specs.Heard.{resultRead}
+use Rattle.replies.specs.PlainReplies.{resultRead}
 use Rattle.replies.proofs.bad.result_read.Statement.{statement}
 use Rattle.replies.proofs.bad.result_read.Tie as tie
 

@@ -8,9 +8,9 @@ use lib.Dec.{eqb}
 use borrow.Author.Needs.{needs}
 use Rattle.rules.specs.Tests.{both, bit}
 use Rattle.rules.specs.Count.{agreeing}
-use Rattle.replies.specs.Heard.{allHeard}
-use Rattle.replies.specs.Held.{replyIn, heardIn}
-use Rattle.replies.specs.Results.{resultOf}
+use Rattle.replies.specs.PlainReplies.{allHeard}
+use Rattle.replies.specs.Inner.HeldReplies.{replyIn, heardIn}
+use Rattle.replies.specs.Inner.Results.{resultOf}
 use Rattle.rules.proofs.Votes.{bit-most, all-counted}
 use Rattle.replies.proofs.Turns.{left, left-all, LeftRead, read-on, compared, agreeing-on, agreeing-over}
 use Rattle.rules.specs.Count as rules

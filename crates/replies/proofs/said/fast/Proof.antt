@@ -5,9 +5,9 @@ use Prim.Native.Nat.{_-_, _≤_}
 use native.Mathlib.Omega.{arith}
 use borrow.Author.Needs.{needs}
 use Rattle.rules.specs.Count.{agreeing, fastOf, isFast}
-use Rattle.replies.specs.Heard.{resultRead}
-use Rattle.replies.specs.Held.{replyIn, heardIn}
-use Rattle.replies.specs.Results.{saidBy, saidAs}
+use Rattle.replies.specs.PlainReplies.{resultRead}
+use Rattle.replies.specs.Inner.HeldReplies.{replyIn, heardIn}
+use Rattle.replies.specs.Inner.Results.{saidBy, saidAs}
 use Rattle.replies.proofs.Turns.{left, left-all, LeftRead, read-on, by-code, fast-yes, fast-no, chosen, chosen-is, chosen-on, chosen-over}
 use Rattle.message.specs.Messages.{resultByCode}
 use Rattle.replies.specs.declared.held.Reply.{Reply}

@@ -5,8 +5,8 @@ use native.Mathlib.Omega.{arith}
 use borrow.Author.Needs.{needs}
 use borrow.Author.Tests.{eq-eqb, ne-eqb}
 use Rattle.rules.specs.Count.{finalHeard}
-use Rattle.replies.specs.Held.{heardIn}
-use Rattle.replies.specs.Results.{saidAs}
+use Rattle.replies.specs.Inner.HeldReplies.{heardIn}
+use Rattle.replies.specs.Inner.Results.{saidAs}
 use Rattle.replies.proofs.Turns.{left, left-all, LeftRead, read-on, chosen, chosen-is, chosen-on, chosen-over}
 use Rattle.replies.proofs.said.first_final.Statement.{statement}
 use Rattle.replies.proofs.said.first_final.Tie as tie

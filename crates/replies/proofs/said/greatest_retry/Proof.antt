@@ -4,8 +4,8 @@ use mathlib.Core.Logic.{⊎-elim}
 use Prim.Native.Nat.{_-_, _≤_, max}
 use native.Mathlib.Omega.{arith}
 use Rattle.rules.specs.Count.{greatestRetry}
-use Rattle.replies.specs.Heard.{allHeard}
-use Rattle.replies.specs.Held.{replyIn, heardIn}
+use Rattle.replies.specs.PlainReplies.{allHeard}
+use Rattle.replies.specs.Inner.HeldReplies.{replyIn, heardIn}
 use Rattle.replies.proofs.Turns.{left, left-all, all-seen, LeftRead, read-on, greatest-on, greatest-over}
 use Rattle.replies.proofs.said.greatest_retry.Statement.{statement}
 use Rattle.replies.proofs.said.greatest_retry.Tie as tie

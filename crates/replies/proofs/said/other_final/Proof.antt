@@ -6,9 +6,9 @@ use native.Mathlib.Omega.{arith}
 use lib.Dec.{eqb}
 use borrow.Author.Needs.{needs}
 use Rattle.rules.specs.Tests.{both, any}
-use Rattle.replies.specs.Heard.{resultRead, heard}
-use Rattle.replies.specs.Held.{repliesIn, heardIn}
-use Rattle.replies.specs.Results.{resultOf}
+use Rattle.replies.specs.PlainReplies.{resultRead, heard}
+use Rattle.replies.specs.Inner.HeldReplies.{repliesIn, heardIn}
+use Rattle.replies.specs.Inner.Results.{resultOf}
 use Rattle.replies.proofs.Turns.{left, left-all, LeftRead, read-on, other-codes, any-is, any-on, any-over, any-heard}
 use Rattle.rules.specs.Tables.{sameResult}
 use Rattle.message.specs.Messages.{resultByCode}

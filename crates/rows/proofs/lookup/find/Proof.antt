@@ -9,7 +9,7 @@ use denote.Ref.{now}
 use Rattle.rules.proofs.Chains.{tests}
 use Rattle.rows.specs.Fields.{fieldsAt}
 use Rattle.rows.specs.declared.lookup.Place.the-variants.{Held, Absent}
-use Rattle.rows.specs.Places.{placeOf}
+use Rattle.rows.specs.Inner.Places.{placeOf}
 use Rattle.rows.specs.Read.{rowsAt}
 use Rattle.rows.proofs.Sought.{sought, place-sought, sought-turn, sought-end}
 use Rattle.rows.proofs.lookup.find.Statement.{statement}

@@ -1,7 +1,7 @@
 -- The part from the offset on has as many bytes as the counts say.
 use native.Mathlib.Nat.{add-sub-cancel-left}
 use borrow.Author.Needs.{needs}
-use Rattle.rows.specs.Rows.{bodyPart}
+use Rattle.rows.specs.Inner.Rows.{bodyPart}
 use Rattle.rows.proofs.row.body_of.Statement.{statement}
 use Rattle.rows.proofs.row.body_of.Tie as tie
 

@@ -1,7 +1,7 @@
 use borrow.Author.Needs.{needs}
 use Rattle.rules.specs.Tests.{both}
 use Rattle.rules.proofs.Chains.{tests}
-use Rattle.rows.specs.Fields.{codesByRule}
+use Rattle.rows.specs.Inner.FieldTests.{codesByRule}
 use Rattle.rows.proofs.row.codes_valid.Statement.{statement}
 use Rattle.rows.proofs.row.codes_valid.Tie as tie
 

@@ -1,6 +1,6 @@
 use borrow.Author.Needs.{needs}
 use Rattle.rules.proofs.Chains.{chain}
-use Rattle.rows.specs.Fields.{fieldsByRule}
+use Rattle.rows.specs.Inner.FieldTests.{fieldsByRule}
 use Rattle.rows.proofs.row.fields_valid.Statement.{statement}
 use Rattle.rows.proofs.row.fields_valid.Tie as tie
 

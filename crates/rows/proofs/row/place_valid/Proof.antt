@@ -1,7 +1,7 @@
 use borrow.Author.Needs.{needs}
 use Rattle.rules.specs.Tests.{both}
 use Rattle.rules.proofs.Chains.{chain}
-use Rattle.rows.specs.Rows.{placeByRule}
+use Rattle.rows.specs.Inner.Rows.{placeByRule}
 use Rattle.rows.proofs.row.place_valid.Statement.{statement}
 use Rattle.rows.proofs.row.place_valid.Tie as tie
 

@@ -9,7 +9,7 @@ use borrow.Author.Needs.{needs}
 use denote.Ref.{now}
 use Rattle.rules.specs.Stamps.{contentsByRule}
 use Rattle.rules.proofs.Chains.{both-yes, chain}
-use Rattle.rows.specs.Rows.{sizeOf, BodyInside, bodyByRuleAt}
+use Rattle.rows.specs.Inner.Rows.{sizeOf, BodyInside, bodyByRuleAt}
 use Rattle.rows.specs.Read.{bodyAt}
 use Rattle.rows.proofs.Turns.{length-body-part, body-of-part}
 use Rattle.rows.proofs.walk.body_valid.Reads as reads

@@ -3,7 +3,7 @@ use mathlib.Core.Path.{sym, _∙_}
 use borrow.Author.Needs.{needs}
 use Rattle.rules.proofs.Logic.{both-left}
 use Rattle.rules.proofs.Chains.{chain}
-use Rattle.rows.specs.Rows.{rowByRuleAt}
+use Rattle.rows.specs.Inner.Rows.{rowByRuleAt}
 use Rattle.rows.proofs.Turns.{fields-facts}
 use Rattle.rows.proofs.walk.row_valid.Statement.{statement}
 use Rattle.rows.proofs.walk.row_valid.Tie as tie

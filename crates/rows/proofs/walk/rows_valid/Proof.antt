@@ -8,7 +8,7 @@ use borrow.Author.Tests.{not-true, not-false}
 use denote.Ref.{now}
 use Rattle.wire.proofs.Numbers.{all-of}
 use Rattle.rules.specs.Tests.{both}
-use Rattle.rows.specs.Rows.{sizeOf, rowByRuleAt, rowsByRuleAt}
+use Rattle.rows.specs.Inner.Rows.{sizeOf, rowByRuleAt, rowsByRuleAt}
 use Rattle.rows.specs.Fields.{fieldsAt}
 use Rattle.rows.proofs.RowsRead.{rows-walked}
 use Rattle.rows.proofs.Turns.{rows-turn, rows-end, row-room}

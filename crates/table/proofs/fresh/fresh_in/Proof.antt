@@ -4,7 +4,7 @@ use borrow.Author.Tests.{lt-ltb, le-ltb}
 use borrow.Author.Needs.{needs}
 use denote.Ref.{now}
 use Rattle.rules.specs.Circumstances.{tooSmall, badGroup}
-use Rattle.table.specs.Models.{modelOf}
+use Rattle.table.specs.Inner.Models.{modelOf}
 use Rattle.table.proofs.FreshCall.{fresh-image, fresh-small, fresh-bad, fresh-done}
 use Rattle.table.proofs.fresh.fresh_in.Statement.{statement}
 use Rattle.table.proofs.fresh.fresh_in.Tie as tie

@@ -1,7 +1,7 @@
 use borrow.Author.Needs.{needs}
 use Rattle.rules.specs.Tests.{both}
 use Rattle.rules.proofs.Chains.{tests}
-use Rattle.table.specs.Headers.{sizesByRule}
+use Rattle.table.specs.Inner.HeaderTests.{sizesByRule}
 use Rattle.table.proofs.header.sizes_valid.Statement.{statement}
 use Rattle.table.proofs.header.sizes_valid.Tie as tie
 

@@ -1,6 +1,6 @@
 use borrow.Author.Needs.{needs}
 use Rattle.rules.proofs.Chains.{chain}
-use Rattle.table.specs.Headers.{headerByRuleAt}
+use Rattle.table.specs.Inner.HeaderTests.{headerByRuleAt}
 use Rattle.table.proofs.header.valid.Statement.{statement}
 use Rattle.table.proofs.header.valid.Tie as tie
 

@@ -9,7 +9,7 @@ use Rattle.rules.specs.Tests.{provided}
 use Rattle.rules.proofs.Logic.{both-right}
 use Rattle.table.specs.Parse.{parse, tableAt}
 use Rattle.table.specs.Images.{formatOne}
-use Rattle.table.specs.Models.{modelOf}
+use Rattle.table.specs.Inner.Models.{modelOf}
 use Rattle.table.proofs.Found.{parse-short, parse-tests, found-length}
 use Rattle.table.proofs.image.find.Statement.{statement}
 use Rattle.table.proofs.image.find.Tie as tie

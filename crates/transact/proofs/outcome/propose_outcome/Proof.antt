@@ -8,8 +8,8 @@ use Rattle.rows.proofs.Sought.{absent-none}
 use Rattle.rows.specs.Read.{bodyAt}
 use Rattle.table.specs.Images.{formatOne}
 use Rattle.table.specs.Parse.{tableAt}
-use Rattle.seek.specs.Lent.{limited}
-use Rattle.seek.proofs.HeldRows.{lawful-regular, lawful-holds}
+use Rattle.seek.specs.Inner.Limits.{limited}
+use Rattle.seek.proofs.HeldRows.{image-regular, image-holds}
 use Rattle.transact.proofs.CodesMeant.{verdict-range}
 use Rattle.transact.proofs.NewRows.{room-for-row, no-retry}
 use Rattle.transact.proofs.Proposals.{held-clear, new-clear, room-found}
@@ -51,7 +51,7 @@ add-new-requires c κs = let p = (c .before .before .before .before .before .bef
     let clear = new-clear M T (p .args .stamp) x _ found in
     let unheld = absent-none (T .rows) (p .args .stamp) _ (clear .1) in
     let room = room-for-row s (p .args .limit) (record { stamp = p .args .stamp; retry = 0; offset = 12; reads = p .args .reads; writes = p .args .writes; prepare = 0; outcome = p .args .verdict }) (p .pre .0 .0) (p .pre .0 .1) (p .pre .0 .2) (p .pre .1 .1) (p .pre .1 .2) (let (low, high) = verdict-range (p .args .verdict) (p .pre .1 .0) in omega arith) (room-found M T (p .args .stamp) unheld (clear .0 .2)) in
-    ((lawful-holds valley s (p .pre .0 .0), lawful-regular valley s (p .pre .0 .0) .0 .rise, clear .1), (((p .pre .1 .2, omega arith, (let (low, high) = verdict-range (p .args .verdict) (p .pre .1 .0) in omega arith), no-retry), p .pre .1 .3), room))
+    ((image-holds valley s (p .pre .0 .0), image-regular valley s (p .pre .0 .0) .0 .rise, clear .1), (((p .pre .1 .2, omega arith, (let (low, high) = verdict-range (p .args .verdict) (p .pre .1 .0) in omega arith), no-retry), p .pre .1 .3), room))
 
 same-length : tie.Need-same-length
 same-length c = search needs

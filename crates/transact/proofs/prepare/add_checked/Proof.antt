@@ -5,7 +5,7 @@ use denote.Ref.{now}
 use borrow.Author.Needs.{needs}
 use Rattle.rules.specs.Tables.{valley}
 use Rattle.rows.specs.Read.{bodyAt}
-use Rattle.seek.proofs.HeldRows.{lawful-regular, lawful-holds}
+use Rattle.seek.proofs.HeldRows.{image-regular, image-holds}
 use Rattle.transact.proofs.Proposed.{checked-storable, checked-taken}
 use Rattle.transact.proofs.prepare.add_checked.Reads as reads
 use Rattle.transact.proofs.prepare.add_checked.Statement.{statement}
@@ -24,7 +24,7 @@ add-new-requires c κs = let p = (c .before .before .before .before .before .bef
     let r = p .args .row in
     let x = bodyAt (now (p .args .message)) (r .offset) (r .reads) (r .writes) in
     let k = checked-storable valley s (r .stamp) x (q .0) in
-    rw (c .with-prepare .ensures, (c .before .before) .check-new .ensures) ((lawful-holds valley s (q .0), lawful-regular valley s (q .0) .0 .rise, q .1), (((q .3, k .0, rw (q .4) (omega arith), k .1), q .2), p .pre .1))
+    rw (c .with-prepare .ensures, (c .before .before) .check-new .ensures) ((image-holds valley s (q .0), image-regular valley s (q .0) .0 .rise, q .1), (((q .3, k .0, rw (q .4) (omega arith), k .1), q .2), p .pre .1))
 
 same-length : tie.Need-same-length
 same-length c = search needs

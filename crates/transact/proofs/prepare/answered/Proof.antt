@@ -1,7 +1,7 @@
 -- By the two bytes.
 use borrow.Author.Tests.{eq-eqb, ne-eqb}
 use Rattle.rules.specs.Tests.{either}
-use Rattle.transact.specs.Served.{answeredByte}
+use Rattle.transact.specs.Inner.Served.{answeredByte}
 use Rattle.transact.proofs.prepare.answered.Statement.{statement}
 use Rattle.transact.proofs.prepare.answered.Tie as tie
 

@@ -7,13 +7,13 @@ use Rattle.rows.proofs.Turns.{length-body-part, body-of-part}
 use Rattle.table.proofs.Images.{valley-sound}
 use Rattle.table.specs.Images.{formatOne}
 use Rattle.edit.proofs.Holding.{holds-rows-at, one-starts, holds-least}
-use Rattle.seek.proofs.HeldRows.{lawful-holds}
+use Rattle.seek.proofs.HeldRows.{image-holds}
 use Rattle.seek.proofs.SoughtRows.{rows-inside}
 use Rattle.transact.proofs.prepare.check_new.Statement.{statement}
 use Rattle.transact.proofs.prepare.check_new.Tie as tie
 
 read-requires : tie.Need-read-requires
-read-requires c κs = let p = (c .before .before) in holds-least formatOne (now (p .args .table)) one-starts (lawful-holds valley (now (p .args .table)) (p .pre .0))
+read-requires c κs = let p = (c .before .before) in holds-least formatOne (now (p .args .table)) one-starts (image-holds valley (now (p .args .table)) (p .pre .0))
 
 cast-check : tie.Need-cast-check
 cast-check c = search needs

@@ -4,11 +4,11 @@ use native.Mathlib.Omega.{arith}
 use denote.Ref.{now}
 use borrow.Author.Needs.{needs}
 use Rattle.wire.proofs.Numbers.{all-of}
-use Rattle.wire.specs.Numbers.{AllBytes}
+use Rattle.wire.specs.Inner.ByteLists.{AllBytes}
 use Rattle.rules.specs.Tables.{valley}
 use Rattle.table.specs.Images.{formatOne}
 use Rattle.edit.proofs.Holding.{one-starts, holds-least, holds-row-inside}
-use Rattle.seek.proofs.HeldRows.{index-here, codes-here, lawful-holds}
+use Rattle.seek.proofs.HeldRows.{index-here, codes-here, image-holds}
 use Rattle.transact.proofs.CodesMeant.{result-range, retry-final}
 use Rattle.transact.proofs.Finalised.{prepare-missing, prepare-against, prepare-taken}
 use Rattle.transact.proofs.prepare.finalise_held.Statement.{statement}
@@ -19,7 +19,7 @@ known : (c : tie.After-slice-known) → AllBytes (now (c .before .args .table))
 known c = all-of (now (c .before .args .table)) (λ i. c .slice-known .given i .fits)
 
 row-at-requires : tie.Need-row-at-requires
-row-at-requires c κs = let p = (c .before .before) in holds-row-inside formatOne (now (p .args .table)) (p .args .index) one-starts (lawful-holds valley (now (p .args .table)) (p .pre .0)) (index-here valley (now (p .args .table)) (p .args .stamp) (p .args .index) (known (c .before)) (p .pre .0) (p .pre .1))
+row-at-requires c κs = let p = (c .before .before) in holds-row-inside formatOne (now (p .args .table)) (p .args .index) one-starts (image-holds valley (now (p .args .table)) (p .pre .0)) (index-here valley (now (p .args .table)) (p .args .stamp) (p .args .index) (known (c .before)) (p .pre .0) (p .pre .1))
 
 refusal-requires : tie.Need-refusal-requires
 refusal-requires c κs = search needs
@@ -51,7 +51,7 @@ returns-2 c = λ view found.
     rw (c .refusal2 .ensures) (prepare-against valley s (p .args .stamp) view (known (c .before .before .before .before .before .before .before)) (p .pre .0) (p .args .result) (p .args .retry) (p .pre .2) (p .args .index) found (rw ((c .before .before .before .before .before) .row-at .ensures) at ((c .before .before .before) .if1 .left)) (rw (← (c .before .before .before .before .before) .row-at .ensures) (sym ((c .before .before) .unequal-final .ensures) ∙ (c .before) .if2 .taken)))
 
 read-requires : tie.Need-read-requires
-read-requires c κs = let p = (c .before .before .before .before .before .before .before .before) in holds-least formatOne (now (p .args .table)) one-starts (lawful-holds valley (now (p .args .table)) (p .pre .0))
+read-requires c κs = let p = (c .before .before .before .before .before .before .before .before) in holds-least formatOne (now (p .args .table)) one-starts (image-holds valley (now (p .args .table)) (p .pre .0))
 
 add-set-prepare : tie.Need-add-set-prepare
 add-set-prepare c = let p = (c .before .before .before .before .before .before .before .before .before .before) in let (low, high, by) = result-range (p .args .result) (p .args .retry) (p .pre .2) in omega arith
@@ -59,7 +59,7 @@ add-set-prepare c = let p = (c .before .before .before .before .before .before .
 set-prepare-requires : tie.Need-set-prepare-requires
 set-prepare-requires c κs = let p = (c .before .before .before .before .before .before .before .before .before .before) in
     let s = now (p .args .table) in
-    (lawful-holds valley s (p .pre .0), index-here valley s (p .args .stamp) (p .args .index) (known (c .before .before .before .before .before .before .before .before .before)) (p .pre .0) (p .pre .1), (let (low, high, by) = result-range (p .args .result) (p .args .retry) (p .pre .2) in omega arith), retry-final (p .args .result) (p .args .retry) (p .pre .2))
+    (image-holds valley s (p .pre .0), index-here valley s (p .args .stamp) (p .args .index) (known (c .before .before .before .before .before .before .before .before .before)) (p .pre .0) (p .pre .1), (let (low, high, by) = result-range (p .args .result) (p .args .retry) (p .pre .2) in omega arith), retry-final (p .args .result) (p .args .retry) (p .pre .2))
 
 add-t17 : tie.Need-add-t17
 add-t17 c = let p = (c .before .before .before .before .before .before .before .before .before .before .before .before .before) in let (low, high, by) = result-range (p .args .result) (p .args .retry) (p .pre .2) in omega arith

@@ -7,7 +7,7 @@ use Rattle.rows.proofs.Sought.{absent-none}
 use Rattle.rows.specs.Read.{bodyAt}
 use Rattle.table.specs.Images.{formatOne}
 use Rattle.table.specs.Parse.{tableAt}
-use Rattle.seek.specs.Lent.{limited}
+use Rattle.seek.specs.Inner.Limits.{limited}
 use Rattle.transact.proofs.NewRows.{room-for-row}
 use Rattle.transact.proofs.Proposals.{held-clear, new-clear, room-found}
 use Rattle.transact.proofs.Proposed.{prepare-proposal-refused}

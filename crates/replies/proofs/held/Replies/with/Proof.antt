@@ -1,6 +1,6 @@
 use borrow.Author.Needs.{needs}
 use borrow.Author.Tests.{lt-ltb, le-ltb}
-use Rattle.replies.specs.Held.{withReply}
+use Rattle.replies.specs.Inner.HeldReplies.{withReply}
 use Rattle.replies.proofs.held.Replies.with.Statement.{statement}
 use Rattle.replies.proofs.held.Replies.with.Tie as tie
 

@@ -1,0 +1,4 @@
+-- What no promise names: functions below a call speak of it, and laws about them.
+pub mod RegisterWrites
+pub mod Given
+pub mod Passed

@@ -1,0 +1,4 @@
+-- What no promise names: functions below a call speak of it, and laws about them.
+pub mod Changes
+pub mod Holding
+pub mod Parts

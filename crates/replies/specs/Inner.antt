@@ -1,0 +1,4 @@
+-- What no promise names: functions below a call speak of it, and laws about them.
+pub mod HeldReplies
+pub mod Bad
+pub mod Results

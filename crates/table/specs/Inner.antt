@@ -1,0 +1,4 @@
+-- What no promise names: functions below a call speak of it, and laws about them.
+pub mod Models
+pub mod ChangedHeaders
+pub mod HeaderTests
