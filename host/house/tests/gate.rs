@@ -3,7 +3,10 @@
 //! Each test runs the project's own `.ci/run` and `test` in a folder of its own, where `rt` and `cargo` are stand-ins that end as
 //! the test wants, and looks at the exit status and the very last line.
 
+mod terminal;
+
 use std::env;
+use std::ffi::OsString;
 use std::fs;
 use std::os::unix::fs::symlink;
 use std::path::{Path, PathBuf};
@@ -45,6 +48,7 @@ impl Gate {
             "tools/assumptions",
             "tools/install",
             "tools/library",
+            "tools/progress",
         ] {
             house::copy_script(file, &folder);
         }
@@ -53,7 +57,7 @@ impl Gate {
         // Nothing of this machine is on the gate's PATH but these, so that a tool can be missing there.
         for tool in [
             "bash", "cat", "chmod", "dirname", "env", "grep", "ln", "mkdir", "mktemp", "readlink",
-            "rm", "sed", "tail", "tee",
+            "rm", "sed", "sleep", "stty", "tail", "tee",
         ] {
             symlink(which(tool), gate.folder.join("bin").join(tool)).unwrap();
         }
@@ -113,6 +117,24 @@ impl Gate {
         let said = String::from_utf8(done.stderr).unwrap();
         let last = printed.lines().last().unwrap_or("").to_string();
         (done.status.success(), last, printed + &said)
+    }
+
+    fn command(&self) -> String {
+        let folder = self.folder.display();
+        format!("'{folder}/bin/bash' '{folder}/.ci/run'")
+    }
+
+    fn path(&self) -> OsString {
+        self.folder.join("bin").into()
+    }
+
+    /// Whether the gate passed on a terminal, and what it wrote there.
+    fn on_a_terminal(&self) -> (bool, String) {
+        let done = terminal::run(&self.command(), &self.path());
+        (
+            done.status.success(),
+            String::from_utf8(done.stdout).unwrap(),
+        )
     }
 
     /// The gate is red, and names the step at which it stopped.
@@ -347,4 +369,202 @@ fn what_is_missing_is_installed_by_name() {
     gate.without("cargo");
     gate.tool("apt-get", "exit 100\n");
     gate.is_red_at("tools/install");
+}
+
+/// The steps as the gate names them.
+const STEPS: [&str; 10] = [
+    "tools/install, what this machine lacks",
+    "rt fmt --check, the layout of the files",
+    "rt ci, every proof and every must-fail edit",
+    "tools/assumptions after the checks: no proof leans on what nothing proves",
+    "tools/library sprondilu, the library that the host tests link",
+    "tools/library trial, the changes of a table for the host tests alone",
+    "tools/assumptions after the libraries: no function in them leans on what nothing proves",
+    "cargo test, the host tests",
+    "tools/agree, the definitions against the second program",
+    "./demo, the README's first command",
+];
+
+/// What stands before the first comma or colon of a step is its name.
+fn name_of(step: &str) -> &str {
+    step.split(&[',', ':'][..]).next().unwrap()
+}
+
+/// Three crates and three edits, of which one stands where rt does not look. Those that are begun take this time.
+fn with_crates_and_edits(gate: &Gate, time: &str) {
+    gate.rt("exit 0", &CHECKS.replace("TIME", time));
+    gate.crates("wire:\nrows: wire # and a note\ntrial: wire\n");
+    for edit in [
+        "wire/must-fail/one",
+        "rows/must-fail/two",
+        "rows/more-must-fail/three",
+    ] {
+        let file = gate.folder.join(format!("crates/{}.edit", edit));
+        fs::create_dir_all(file.parent().unwrap()).unwrap();
+        fs::write(file, "").unwrap();
+    }
+}
+
+/// As rt does with these, two at a time, with the files that it writes.
+const CHECKS: &str = "rm -rf target\n\
+    mkdir -p target/log target/must-fail/rows target/must-fail/wire\n\
+    echo failed >target/log/wire.res\n\
+    sleep 0.1\n\
+    : >target/log/wire.say\n\
+    sleep TIME\n\
+    echo 'logic=proved functions=16 sum=0' >target/log/wire.out\n\
+    echo proved >target/log/wire.res\n\
+    echo 'fn wire::u32_at: proved'\n\
+    echo 'rt: wire proved (1 s)'\n\
+    echo 'rt: rows proved (2 s)'\n\
+    echo 'rt: trial proved (2 s)'\n\
+    : >target/must-fail/wire/one.out\n\
+    : >target/must-fail/rows/two.out\n\
+    sleep TIME\n\
+    for edit in wire/one rows/two; do\n\
+    echo \"rt: must-fail $edit: refused, as it must be (1 s)\" | tee target/must-fail/$edit.out\n\
+    done\n\
+    echo 'rt: ok, 3 crates proved, 2 must-fail edits refused'\n\
+    echo '5 passed, 0 failed'\n";
+
+#[test]
+fn each_step_has_a_line_in_the_beginning_and_one_with_its_time() {
+    let (passed, last, all) = Gate::new("steps").run();
+    assert!(passed, "{}", all);
+    assert_eq!(last, "7 passed, 0 failed");
+    assert!(!all.contains(&['\r', '\u{1b}'][..]), "{}", all);
+    let said = all.lines().filter(|line| line.starts_with("test: step "));
+    let said: Vec<&str> = said.collect();
+    assert_eq!(said.len(), 2 * STEPS.len(), "{}", all);
+    for (i, step) in STEPS.iter().enumerate() {
+        let head = format!("test: step {} of 10: ", i + 1);
+        let begins = said[2 * i].trim_end_matches("..");
+        assert!(format!("{}{}", head, step).starts_with(begins), "{}", all);
+        let ends = format!("{}{} took ", head, name_of(step));
+        assert!(said[2 * i + 1].starts_with(&ends), "{}", all);
+        assert!(said[2 * i].len() < 80, "{}", all);
+    }
+}
+
+#[test]
+fn crates_and_edits_are_counted() {
+    let gate = Gate::new("counted");
+    with_crates_and_edits(&gate, "0");
+    let (passed, last, all) = gate.run();
+    assert!(passed, "{}", all);
+    assert_eq!(last, "5 passed, 0 failed");
+    // Each behind rt's own line, from which the times are read.
+    for expected in [
+        "\nrt: wire proved (1 s)\ntest: step 3 of 10: wire proved, 1 of 3 crates, ",
+        "\nrt: rows proved (2 s)\ntest: step 3 of 10: rows proved, 2 of 3 crates, ",
+        "\nrt: must-fail rows/two: refused, as it must be (1 s)\ntest: step 3 of 10: rows/two refused, 2 of 2 edits, ",
+    ] {
+        assert!(all.contains(expected), "{}", all);
+    }
+    let took = all
+        .lines()
+        .find(|line| line.starts_with("test: step 3 of 10: rt ci took "));
+    assert!(took.unwrap().ends_with(" s, 3 crates, 2 edits"), "{}", all);
+}
+
+#[test]
+fn the_crates_of_the_host_are_counted() {
+    let gate = Gate::new("host-counted");
+    for name in ["archive", "bench"] {
+        let folder = gate.folder.join("host").join(name);
+        fs::create_dir_all(&folder).unwrap();
+        fs::write(folder.join("Cargo.toml"), "").unwrap();
+    }
+    gate.tool(
+        "cargo",
+        "echo '   Compiling archive v0.1.0 (/somewhere/host/archive)' >&2\n\
+         for name in archive bench bench; do\n\
+         echo \"     Running unittests src/lib.rs (target/host/release/deps/$name-2e12607addee7163)\" >&2\n\
+         done\n\
+         echo '     Running tests/long.rs (target/host/release/deps/long-2e12607addee7163)' >&2\n\
+         echo '   Doc-tests archive' >&2\n\
+         echo '   Doc-tests bench' >&2\n",
+    );
+    let (passed, _, all) = gate.run();
+    assert!(passed, "{}", all);
+    for expected in [
+        "test: step 8 of 10: compiling archive, ",
+        "test: step 8 of 10: host/archive tested, 1 of 2 crates, ",
+        "test: step 8 of 10: host/bench tested, 2 of 2 crates, ",
+    ] {
+        assert_eq!(all.matches(expected).count(), 1, "{}", all);
+    }
+}
+
+#[test]
+fn on_a_terminal_one_line_changes_and_a_line_for_each_step_stays() {
+    let gate = Gate::new("terminal");
+    with_crates_and_edits(&gate, "2.4");
+    let (passed, written) = gate.on_a_terminal();
+    assert!(passed, "{:?}", written);
+    for expected in [
+        "\rtest: step 3 of 10: proving wire, 0 of 3 crates done, ",
+        "\rtest: step 3 of 10: trying rows/two, 0 of 2 edits done, ",
+    ] {
+        assert!(written.contains(expected), "{:?}", written);
+    }
+    let stands = terminal::standing(&written);
+    assert_eq!(stands.len(), STEPS.len() + 1, "{:?}", written);
+    for (i, step) in STEPS.iter().enumerate() {
+        let line = format!("test: step {} of 10: {} took ", i + 1, name_of(step));
+        assert!(stands[i].starts_with(&line), "{:?}", written);
+    }
+    assert!(
+        stands[2].ends_with(" s, 3 crates, 2 edits"),
+        "{:?}",
+        written
+    );
+    assert_eq!(stands[STEPS.len()], "5 passed, 0 failed");
+}
+
+#[test]
+fn on_a_terminal_what_a_failed_step_said_is_shown() {
+    let gate = Gate::new("terminal-red");
+    gate.tool(
+        "cargo",
+        "echo 'test result: FAILED. 2 passed; 1 failed'\necho '9 passed, 0 failed'\nexit 101\n",
+    );
+    let (passed, written) = gate.on_a_terminal();
+    assert!(!passed, "{:?}", written);
+    let stands = terminal::standing(&written);
+    assert_eq!(
+        stands[7..],
+        [
+            "test result: FAILED. 2 passed; 1 failed",
+            "test: not passed: cargo test, the host tests (exit status 101)"
+        ],
+        "{:?}",
+        written
+    );
+}
+
+#[test]
+fn ctrl_c_is_red_and_ends_all_that_was_started() {
+    let gate = Gate::new("ctrl-c");
+    let started = gate.folder.join("started");
+    gate.rt(
+        "exit 0",
+        "sleep 1000 >/dev/null 2>&1 &\necho $! >started\nwait\n",
+    );
+    let command = format!(
+        "{}; sleep 1; grep -qs sleep \"/proc/$(cat '{}')/cmdline\" || echo nothing is left",
+        gate.command(),
+        started.display()
+    );
+    let done = terminal::run_until(&started, &command, &gate.path());
+    let written = String::from_utf8_lossy(&done.stdout);
+    assert_eq!(
+        terminal::standing(&written)[2..],
+        [
+            "test: not passed: rt ci, every proof and every must-fail edit (exit status 130)",
+            "nothing is left"
+        ],
+        "{:?}",
+        written
+    );
 }
