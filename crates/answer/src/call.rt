@@ -18,13 +18,13 @@ ghost use Rattle.answer.specs.Calls.{callNumber, callTable, callReply};
 
 // The reply to any bytes of a message, by the table of at most `limit` rows that a buffer begins with, or by none.
 fn respond(table: &mut [u8], message: &[u8], limit: u16) -> Reply
-    requires { ⌜ (limit ≤ 512) × (24 + 96 * limit ≤ length (now table)) ⌝ }
+    requires { ⌜ (limit ≤ 512) × (limited limit .leastBuffer ≤ length (now table)) ⌝ }
     ensures { λ r. ⌜ r ≡ heardReply (limited limit) (now (message .entry)) (parse formatOne (limited limit) (now (table .entry))) ⌝ }
     ensures { λ _. ⌜ now (table .exit) ≡ heardBuffer (limited limit) (now (message .entry)) (now (table .entry)) (parse formatOne (limited limit) (now (table .entry))) ⌝ }
 {
     let model = Model {
         limit,
-        least: 24 + 96 * limit as usize,
+        least: header::LENGTH + seek::GREATEST_ROW * limit as usize,
     };
     let Found::Image { length: _ } = image::find(table, model) else {
         return Reply::refusal(2);

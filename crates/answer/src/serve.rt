@@ -19,7 +19,7 @@ ghost use Rattle.answer.specs.Inner.BoxAnswers.{answerReply, answerBuffe
 
 // The answer to one of the seven messages, or to none.
 pub fn serve(table: &mut [u8], message: &[u8], asked: Message, limit: u16) -> Reply
-    requires { ⌜ BeginsWithImage valley (now table) × (limit ≤ 512) × (24 + 96 * limit ≤ length (now table)) ⌝ }
+    requires { ⌜ BeginsWithImage valley (now table) × (limit ≤ 512) × (limited limit .leastBuffer ≤ length (now table)) ⌝ }
     requires { ⌜ (meant formatOne (now message) asked ≡ messageTo formatOne (limited limit) (headerAt (now table) .n) (now message)) × Coded asked ⌝ }
     ensures { λ r. ⌜ r ≡ answerReply (limited limit) (meant formatOne (now (message .entry)) asked) (now (table .entry)) ⌝ }
     ensures { λ _. ⌜ now (table .exit) ≡ answerBuffer (limited limit) (meant formatOne (now (message .entry)) asked) (now (table .entry)) ⌝ }

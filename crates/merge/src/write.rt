@@ -11,6 +11,8 @@ ghost use lib.ListN.{length};
 ghost use Rattle.rules.specs.Tables.{valley};
 ghost use Rattle.rules.specs.Merge.{rowsOf, stamps, uncheckedRow, uncheckedRows};
 ghost use Rattle.rows.specs.Bytes.{lengthOf, bodiesLength};
+ghost use Rattle.rows.specs.Fields.{rowLength};
+ghost use Rattle.table.specs.Headers.{headerLength};
 ghost use Rattle.image_run.specs.Inner.WholeRuns.{tablesOf, Images};
 ghost use Rattle.gather.specs.Inner.UsedTables.{usedOf};
 ghost use Rattle.merge.specs.Inner.Written.{laidDown, rowLaid};
@@ -26,7 +28,7 @@ fn write_stamp(
     agreement: usize,
 ) -> usize
     requires { ⌜ Images valley (now run) × (0 < length (rowsOf (usedOf newest (tablesOf valley (now run))) stamp)) ⌝ }
-    requires { ⌜ (index < 512) × (24 + 24 * index + 24 ≤ length (now out)) × (due + lengthOf (uncheckedRow agreement stamp (rowsOf (usedOf newest (tablesOf valley (now run))) stamp) .body) ≤ 49176) × (49176 ≤ length (now out)) ⌝ }
+    requires { ⌜ (index < 512) × (headerLength + rowLength * index + rowLength ≤ length (now out)) × (due + lengthOf (uncheckedRow agreement stamp (rowsOf (usedOf newest (tablesOf valley (now run))) stamp) .body) ≤ 49176) × (49176 ≤ length (now out)) ⌝ }
     ensures { λ r. ⌜ r ≡ due + lengthOf (uncheckedRow agreement stamp (rowsOf (usedOf newest (tablesOf valley (now (run .entry)))) stamp) .body) ⌝ }
     ensures { λ _. ⌜ now (out .exit) ≡ rowLaid (now (out .entry)) index due (uncheckedRow agreement stamp (rowsOf (usedOf newest (tablesOf valley (now (run .entry)))) stamp)) ⌝ }
 {
@@ -51,10 +53,10 @@ fn write_stamp(
 // Writes the rows of all stamps of the used tables of a run, as many as `rows`, with their bodies behind. The answer is where the image then ends.
 pub fn write_rows(out: &mut [u8], run: &[u8], newest: u32, agreement: usize, rows: usize) -> usize
     requires { ⌜ Images valley (now run) × (rows ≡ length (stamps (usedOf newest (tablesOf valley (now run))))) × (rows ≤ 512) × (49176 ≤ length (now out)) ⌝ }
-    ensures { λ r. ⌜ r ≡ 24 + 24 * rows + bodiesLength (uncheckedRows agreement (usedOf newest (tablesOf valley (now (run .entry))))) ⌝ }
-    ensures { λ _. ⌜ now (out .exit) ≡ laidDown (now (out .entry)) (24 + 24 * rows) (uncheckedRows agreement (usedOf newest (tablesOf valley (now (run .entry))))) ⌝ }
+    ensures { λ r. ⌜ r ≡ headerLength + rowLength * rows + bodiesLength (uncheckedRows agreement (usedOf newest (tablesOf valley (now (run .entry))))) ⌝ }
+    ensures { λ _. ⌜ now (out .exit) ≡ laidDown (now (out .entry)) (headerLength + rowLength * rows) (uncheckedRows agreement (usedOf newest (tablesOf valley (now (run .entry))))) ⌝ }
 {
-    let mut due = header::LENGTH + 24 * rows;
+    let mut due = header::LENGTH + row::LENGTH * rows;
     let mut i: usize = 0;
     let mut stamp = stamps::next_stamp(run, newest, 0);
     while stamp < stamps::NO_STAMP {

@@ -10,6 +10,13 @@ ghost use Rattle.rules.specs.Stamps.{isStamp, isRegister, bodyByRule};
 ghost use Rattle.rows.specs.Bytes.{bodyLength};
 ghost use Rattle.rows.specs.Read.{bodyAt};
 ghost use Rattle.message.specs.Messages.{resultByCode, verdictByCode};
+ghost use Rattle.message.specs.Inner.MeantMessages.{outcomeBody};
+
+// Where the body of message 1 lies: behind the kind, the stamp and the two counts.
+pub const PREPARE_BODY: usize = 11;
+
+// And that of message 3, which has the outcome besides.
+pub const OUTCOME_BODY: usize = 12;
 
 // A body at the start of lent bytes, for a stamp above 0: its counts, then its accesses.
 fn body_valid(bytes: &[u8], reads: u8, writes: u8, stamp: u64) -> bool
@@ -66,11 +73,11 @@ fn verdict_valid(verdict: u8) -> bool
 
 // A stamp, its outcome, and the body of its transaction.
 pub fn outcome_valid(message: &[u8], verdict: u8, reads: u8, writes: u8, stamp: u64) -> bool
-    requires { ⌜ 12 ≤ length (now message) ⌝ }
-    ensures { λ r. ⌜ r ≡ both (verdictByCode verdict) (both (isStamp stamp) (both (eqb (length (now (message .entry))) (12 + bodyLength reads writes)) (bodyByRule stamp (bodyAt (now (message .entry)) 12 reads writes)))) ⌝ }
+    requires { ⌜ outcomeBody ≤ length (now message) ⌝ }
+    ensures { λ r. ⌜ r ≡ both (verdictByCode verdict) (both (isStamp stamp) (both (eqb (length (now (message .entry))) (outcomeBody + bodyLength reads writes)) (bodyByRule stamp (bodyAt (now (message .entry)) outcomeBody reads writes)))) ⌝ }
 {
     if verdict_valid(verdict) {
-        return proposal_valid(message, 12, reads, writes, stamp);
+        return proposal_valid(message, OUTCOME_BODY, reads, writes, stamp);
     }
     false
 }

@@ -52,13 +52,13 @@ fn prepare_proposal(message: &[u8]) -> Message
     ensures { λ r. ⌜ ((M : rules.Model) (n : ℕ) → meant formatOne (now (message .entry)) r ≡ keepingRules M n (prepareProposal (now (message .entry)))) ⌝ }
     ensures { λ r. ⌜ Coded r ⌝ }
 {
-    if message.len() < 11 {
+    if message.len() < carried::PREPARE_BODY {
         return Message::Bad;
     }
     let stamp = wire::u64_at(message, 1);
     let reads = wire::u8_at(message, 9);
     let writes = wire::u8_at(message, 10);
-    if carried::proposal_valid(message, 11, reads, writes, stamp) {
+    if carried::proposal_valid(message, carried::PREPARE_BODY, reads, writes, stamp) {
         return Message::ProposePrepare {
             stamp,
             reads,
@@ -96,7 +96,7 @@ fn outcome_proposal(message: &[u8]) -> Message
     ensures { λ r. ⌜ ((M : rules.Model) (n : ℕ) → meant formatOne (now (message .entry)) r ≡ keepingRules M n (outcomeProposal (now (message .entry)))) ⌝ }
     ensures { λ r. ⌜ Coded r ⌝ }
 {
-    if message.len() < 12 {
+    if message.len() < carried::OUTCOME_BODY {
         return Message::Bad;
     }
     let stamp = wire::u64_at(message, 1);

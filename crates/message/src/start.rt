@@ -12,7 +12,8 @@ ghost use lib.ListN.{length};
 ghost use Rattle.rules.specs.Tests.{both, either, every};
 ghost use Rattle.rules.specs.Circumstances.{settled, startsView};
 ghost use Rattle.rows.specs.Read.{rowsAt};
-ghost use Rattle.table.specs.Headers.{headerAt};
+ghost use Rattle.rows.specs.Fields.{rowLength};
+ghost use Rattle.table.specs.Headers.{headerLength, headerAt};
 ghost use Rattle.table.specs.Images.{formatOne};
 ghost use Rattle.table.specs.Inner.Models.{modelOf};
 ghost use Rattle.table.specs.Parse.{tableAt};
@@ -50,7 +51,7 @@ fn codes_settled(prepare: u8, outcome: u8) -> bool
 
 // Every row is settled.
 fn rows_settled(image: &[u8], begin: usize, rows: usize) -> bool
-    requires { ⌜ begin + 24 * rows ≤ length (now image) ⌝ }
+    requires { ⌜ begin + rowLength * rows ≤ length (now image) ⌝ }
     ensures { λ r. ⌜ r ≡ every settled (rowsAt (now (image .entry)) begin rows) ⌝ }
 {
     let mut i: usize = 0;
@@ -101,7 +102,7 @@ fn header_begins(h: Header, n: u8, view: u32) -> bool
 
 // Whether the table that an image holds can start a view in a group of `n`.
 fn starts_view(image: &[u8], n: u8, view: u32) -> bool
-    requires { ⌜ (24 + 24 * headerAt (now image) .rows ≤ length (now image)) × (0 < n) ⌝ }
+    requires { ⌜ (headerLength + rowLength * headerAt (now image) .rows ≤ length (now image)) × (0 < n) ⌝ }
     ensures { λ r. ⌜ r ≡ startsView n view (tableAt formatOne (now (image .entry))) ⌝ }
 {
     let h = header::read(image);

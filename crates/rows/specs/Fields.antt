@@ -10,6 +10,10 @@ use Rattle.rules.specs.Stamps.{isStamp}
 use Rattle.rules.specs.Tables.{Result, Result.OK, Result.ABORT, Result.ABSTAIN, Result.RETRY, Prepare, Prepare.noPrepare, Prepare.tentative, Prepare.final, Verdict, Verdict.commit, Verdict.abort, Outcome, Outcome.noOutcome, Outcome.noted, Outcome.done, prepareCode, prepareRetry, outcomeCode, Row}
 use Rattle.rows.specs.declared.row.RowFields.{RowFields}
 
+-- the bytes of a row's fields: what the widths below come to
+abbrev pub rowLength : ℕ
+rowLength = 24
+
 -- "stamp 8, retry stamp 8, body offset 4, read count, write count, prepare byte, outcome byte"
 unfoldable pub fieldsAt : List ℕ → ℕ → RowFields
 fieldsAt s at = record {

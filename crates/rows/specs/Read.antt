@@ -9,7 +9,7 @@ use Rattle.rules.specs.Stamps.{Access, Body}
 use Rattle.rules.specs.Tables.{Row}
 use Rattle.rows.specs.declared.row.RowFields.{RowFields}
 use Rattle.rows.specs.declared.body.Access as declared
-use Rattle.rows.specs.Fields.{fieldsAt, prepareNumbered, outcomeNumbered}
+use Rattle.rows.specs.Fields.{rowLength, fieldsAt, prepareNumbered, outcomeNumbered}
 
 -- an access as the code has it
 unfoldable pub accessAt : List ℕ → ℕ → declared.Access
@@ -36,7 +36,7 @@ rowOf s f = record {
 
 unfoldable pub rowsAt : List ℕ → ℕ → ℕ → List Row
 rowsAt s at zero = []
-rowsAt s at (suc n) = rowOf s (fieldsAt s at) ∷ rowsAt s (at + 24) n
+rowsAt s at (suc n) = rowOf s (fieldsAt s at) ∷ rowsAt s (at + rowLength) n
 
 -- bytes begin with these
 unfoldable pub begins : List ℕ → List ℕ → Bool

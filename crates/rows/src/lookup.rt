@@ -6,6 +6,7 @@ ghost use Prim.Native.Nat.{_+_, _*_, _≤_};
 ghost use lib.ListN.{length};
 ghost use Rattle.rules.specs.Tables.{rising};
 ghost use Rattle.rules.specs.Messages.{held};
+ghost use Rattle.rows.specs.Fields.{rowLength};
 ghost use Rattle.rows.specs.Read.{rowsAt};
 ghost use Rattle.rows.specs.Inner.Rows.{RowsInside};
 ghost use Rattle.rows.specs.Inner.Places.{placeOf, heldBody};
@@ -18,7 +19,7 @@ pub enum Place {
 
 // Rows stand in the order of their stamps, so the first that is not lower settles it.
 pub fn find(image: &[u8], begin: usize, rows: usize, stamp: u64) -> Place
-    requires { ⌜ (begin + 24 * rows ≤ length (now image)) × (rising 0 (rowsAt (now image) begin rows) ≡ true) ⌝ }
+    requires { ⌜ (begin + rowLength * rows ≤ length (now image)) × (rising 0 (rowsAt (now image) begin rows) ≡ true) ⌝ }
     ensures { λ r. ⌜ r ≡ placeOf (rowsAt (now (image .entry)) begin rows) stamp ⌝ }
 {
     let mut i: usize = 0;

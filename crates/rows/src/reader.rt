@@ -6,7 +6,7 @@ use crate::row::RowFields;
 ghost use mathlib.Core.Path.{_≡_};
 ghost use Prim.Native.Nat.{_+_, _*_, _≤_};
 ghost use lib.ListN.{length};
-ghost use Rattle.rows.specs.Fields.{fieldsAt};
+ghost use Rattle.rows.specs.Fields.{rowLength, fieldsAt};
 ghost use Rattle.rows.specs.Inner.Rows.{BodyInside, bodyPart};
 
 // An image, where its rows begin, and the index of a row.
@@ -30,16 +30,16 @@ pub fn at<'a>(image: &'a [u8], begin: usize, index: usize) -> Reader<'a>
 impl<'a> Reader<'a> {
     // The row at which it stands.
     pub fn row(self) -> RowFields
-        requires { ⌜ self .begin + 24 * self .index + 24 ≤ length (now (self .image)) ⌝ }
-        ensures { λ r. ⌜ r ≡ fieldsAt (now (self .entry .image)) (self .entry .begin + 24 * self .entry .index) ⌝ }
+        requires { ⌜ self .begin + rowLength * self .index + rowLength ≤ length (now (self .image)) ⌝ }
+        ensures { λ r. ⌜ r ≡ fieldsAt (now (self .entry .image)) (self .entry .begin + rowLength * self .entry .index) ⌝ }
     {
         row::fields_at(self.image, self.begin, self.index)
     }
 
     // The body of that row, as the part of the image where it lies.
     pub fn body(self) -> &'a [u8]
-        requires { ⌜ (self .begin + 24 * self .index + 24 ≤ length (now (self .image))) × BodyInside (now (self .image)) (fieldsAt (now (self .image)) (self .begin + 24 * self .index)) ⌝ }
-        ensures { λ r. ⌜ now r ≡ bodyPart (now (self .entry .image)) (fieldsAt (now (self .entry .image)) (self .entry .begin + 24 * self .entry .index)) ⌝ }
+        requires { ⌜ (self .begin + rowLength * self .index + rowLength ≤ length (now (self .image))) × BodyInside (now (self .image)) (fieldsAt (now (self .image)) (self .begin + rowLength * self .index)) ⌝ }
+        ensures { λ r. ⌜ now r ≡ bodyPart (now (self .entry .image)) (fieldsAt (now (self .entry .image)) (self .entry .begin + rowLength * self .entry .index)) ⌝ }
     {
         row::body_in(self.image, self.begin, self.index)
     }

@@ -9,10 +9,13 @@ ghost use Rattle.wire.specs.Parts.{replaced};
 ghost use Rattle.rules.specs.Tests.{both};
 ghost use Rattle.rules.specs.Stamps.{isStamp, countsByRule};
 ghost use Rattle.rows.specs.Bytes.{bodyLength};
-ghost use Rattle.rows.specs.Fields.{fieldsAt, fieldsBytes, retryByCode};
+ghost use Rattle.rows.specs.Fields.{rowLength, fieldsAt, fieldsBytes, retryByCode};
 ghost use Rattle.rows.specs.Inner.ChangedFields.{withPrepareByte, withOutcomeByte};
 ghost use Rattle.rows.specs.Inner.FieldTests.{codesByRule, fieldsByRule};
 ghost use Rattle.rows.specs.Inner.Rows.{BodyInside, bodyPart, placeByRule};
+
+// The bytes of a row's fields.
+pub const LENGTH: usize = 24;
 
 // The fields of a row, in the order in which they stand.
 pub struct RowFields {
@@ -46,10 +49,10 @@ impl RowFields {
 
 // The fields of the row at an index of an image whose rows begin there: the reader's work, in a plain slice.
 pub fn fields_at(image: &[u8], begin: usize, index: usize) -> RowFields
-    requires { ⌜ begin + 24 * index + 24 ≤ length (now image) ⌝ }
-    ensures { λ r. ⌜ r ≡ fieldsAt (now (image .entry)) (begin + 24 * index) ⌝ }
+    requires { ⌜ begin + rowLength * index + rowLength ≤ length (now image) ⌝ }
+    ensures { λ r. ⌜ r ≡ fieldsAt (now (image .entry)) (begin + rowLength * index) ⌝ }
 {
-    let at = begin + 24 * index;
+    let at = begin + LENGTH * index;
     RowFields {
         stamp: wire::u64_at(image, at),
         retry: wire::u64_at(image, at + 8),
@@ -63,18 +66,18 @@ pub fn fields_at(image: &[u8], begin: usize, index: usize) -> RowFields
 
 // The row at an index of an image whose rows begin there, through a reader. Whoever goes over rows takes them from here.
 pub fn row_at(image: &[u8], begin: usize, index: usize) -> RowFields
-    requires { ⌜ begin + 24 * index + 24 ≤ length (now image) ⌝ }
-    ensures { λ r. ⌜ r ≡ fieldsAt (now (image .entry)) (begin + 24 * index) ⌝ }
+    requires { ⌜ begin + rowLength * index + rowLength ≤ length (now image) ⌝ }
+    ensures { λ r. ⌜ r ≡ fieldsAt (now (image .entry)) (begin + rowLength * index) ⌝ }
 {
     reader::at(image, begin, index).row()
 }
 
 // Writes the row at an index of an image whose rows begin there. Whoever writes a whole row writes it here.
 pub fn write_row(image: &mut [u8], begin: usize, index: usize, row: RowFields)
-    requires { ⌜ begin + 24 * index + 24 ≤ length (now image) ⌝ }
-    ensures { λ _. ⌜ now (image .exit) ≡ replaced (now (image .entry)) (begin + 24 * index) (fieldsBytes row) ⌝ }
+    requires { ⌜ begin + rowLength * index + rowLength ≤ length (now image) ⌝ }
+    ensures { λ _. ⌜ now (image .exit) ≡ replaced (now (image .entry)) (begin + rowLength * index) (fieldsBytes row) ⌝ }
 {
-    let at = begin + 24 * index;
+    let at = begin + LENGTH * index;
     wire::put_u64(image, at, row.stamp);
     wire::put_u64(image, at + 8, row.retry);
     wire::put_u32(image, at + 16, row.offset);
@@ -107,16 +110,16 @@ pub fn body_of(image: &[u8], row: RowFields) -> &[u8]
 
 // The body of the row at an index: the reader's work, in a plain slice.
 pub fn body_in(image: &[u8], begin: usize, index: usize) -> &[u8]
-    requires { ⌜ (begin + 24 * index + 24 ≤ length (now image)) × BodyInside (now image) (fieldsAt (now image) (begin + 24 * index)) ⌝ }
-    ensures { λ r. ⌜ now r ≡ bodyPart (now (image .entry)) (fieldsAt (now (image .entry)) (begin + 24 * index)) ⌝ }
+    requires { ⌜ (begin + rowLength * index + rowLength ≤ length (now image)) × BodyInside (now image) (fieldsAt (now image) (begin + rowLength * index)) ⌝ }
+    ensures { λ r. ⌜ now r ≡ bodyPart (now (image .entry)) (fieldsAt (now (image .entry)) (begin + rowLength * index)) ⌝ }
 {
     body_of(image, fields_at(image, begin, index))
 }
 
 // The body of the row at an index, through a reader.
 pub fn body_at(image: &[u8], begin: usize, index: usize) -> &[u8]
-    requires { ⌜ (begin + 24 * index + 24 ≤ length (now image)) × BodyInside (now image) (fieldsAt (now image) (begin + 24 * index)) ⌝ }
-    ensures { λ r. ⌜ now r ≡ bodyPart (now (image .entry)) (fieldsAt (now (image .entry)) (begin + 24 * index)) ⌝ }
+    requires { ⌜ (begin + rowLength * index + rowLength ≤ length (now image)) × BodyInside (now image) (fieldsAt (now image) (begin + rowLength * index)) ⌝ }
+    ensures { λ r. ⌜ now r ≡ bodyPart (now (image .entry)) (fieldsAt (now (image .entry)) (begin + rowLength * index)) ⌝ }
 {
     reader::at(image, begin, index).body()
 }

@@ -6,6 +6,7 @@ ghost use mathlib.Core.Path.{_≡_};
 ghost use Prim.Native.Nat.{_+_, _*_, _≤_, _<_};
 ghost use lib.ListN.{length};
 ghost use Rattle.rules.specs.Tests.{both};
+ghost use Rattle.rows.specs.Fields.{rowLength};
 ghost use Rattle.rows.specs.Inner.FieldTests.{fieldsByRule};
 ghost use Rattle.rows.specs.Inner.Rows.{placeByRule, bodyByRuleAt, rowByRuleAt, rowsByRuleAt};
 
@@ -48,11 +49,11 @@ fn row_valid(image: &[u8], row: RowFields, last: u64, due: usize, end: usize) ->
 
 // All rows, and their bodies behind them up to `end`.
 pub fn rows_valid(image: &[u8], begin: usize, rows: usize, end: usize) -> bool
-    requires { ⌜ (begin + 24 * rows ≤ end) × (end ≤ length (now image)) × (end < 4294967296) ⌝ }
+    requires { ⌜ (begin + rowLength * rows ≤ end) × (end ≤ length (now image)) × (end < 4294967296) ⌝ }
     ensures { λ r. ⌜ r ≡ rowsByRuleAt (now (image .entry)) begin rows end ⌝ }
 {
     let mut last: u64 = 0;
-    let mut due = begin + 24 * rows;
+    let mut due = begin + row::LENGTH * rows;
     let mut i: usize = 0;
     while i < rows {
         let row = row::row_at(image, begin, i);

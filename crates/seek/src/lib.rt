@@ -18,6 +18,9 @@ ghost use Rattle.table.specs.Parse.{tableAt, BeginsWithImage};
 ghost use Rattle.seek.specs.Inner.Limits.{limited};
 ghost use Rattle.seek.specs.Inner.Findings.{RowInside, neededBody, NeededInside, otherCounts, toFinalise, toPropose};
 
+// A row with the greatest body: its fields, and eight accesses of 9 bytes.
+pub const GREATEST_ROW: usize = 96;
+
 // What is found for a message that finalises.
 pub enum Finding {
     Known { index: usize },

@@ -11,9 +11,9 @@ ghost use lib.ListN.{length};
 ghost use Rattle.rules.specs.Tests.{every};
 ghost use Rattle.rules.specs.Tables.{valley, rising};
 ghost use Rattle.rules.specs.Messages.{withRows};
-ghost use Rattle.rows.specs.Fields.{fieldsAt};
+ghost use Rattle.rows.specs.Fields.{rowLength, fieldsAt};
 ghost use Rattle.rows.specs.Read.{rowOf};
-ghost use Rattle.table.specs.Headers.{headerAt};
+ghost use Rattle.table.specs.Headers.{headerLength, headerAt};
 ghost use Rattle.table.specs.Images.{formatOne};
 ghost use Rattle.table.specs.Parse.{tableAt};
 ghost use Rattle.edit.specs.Inner.Changes.{onRow};
@@ -51,8 +51,8 @@ fn row_waits(
     agreement: usize,
     unagreed: bool,
 ) -> bool
-    requires { ⌜ Images valley (now run) × (24 + 24 * index + 24 ≤ length (now out)) ⌝ }
-    ensures { λ r. ⌜ r ≡ waits unagreed agreement (usedOf newest (tablesOf valley (now (run .entry)))) (rowOf (now (out .entry)) (fieldsAt (now (out .entry)) (24 + 24 * index))) ⌝ }
+    requires { ⌜ Images valley (now run) × (headerLength + rowLength * index + rowLength ≤ length (now out)) ⌝ }
+    ensures { λ r. ⌜ r ≡ waits unagreed agreement (usedOf newest (tablesOf valley (now (run .entry)))) (rowOf (now (out .entry)) (fieldsAt (now (out .entry)) (headerLength + rowLength * index))) ⌝ }
 {
     let row = row::row_at(out, header::LENGTH, index);
     if row.prepare != 0 {

@@ -13,6 +13,9 @@ unfoldable pub fourByteFields : Header → List ℕ
 fourByteFields h = bytes 4 (h .rows) ++ (bytes 4 (h .view) ++ (bytes 4 (h .promised) ++ (bytes 4 (h .start) ++ bytes 4 (h .length))))
 
 -- "Header, 24 bytes"
+abbrev pub headerLength : ℕ
+headerLength = 24
+
 unfoldable pub headerBytes : Header → List ℕ
 headerBytes h = singleBytes h ++ fourByteFields h
 

@@ -4,8 +4,9 @@ use Prim.Native.Nat.{ℕ, _+_, _*_}
 use lib.ListN.{length}
 use Rattle.rules.specs.Tables.{Row, Table}
 use Rattle.rows.specs.Bytes.{bodiesBytes, bodiesLength, rowsBytes}
+use Rattle.rows.specs.Fields.{rowLength}
 use Rattle.table.specs.declared.header.Header.{Header}
-use Rattle.table.specs.Headers.{headerBytes}
+use Rattle.table.specs.Headers.{headerLength, headerBytes}
 
 -- what an image has before its rows: the format in its header, where the rows begin, and what stands between the header and them
 pub record Form : Type 0 where
@@ -15,11 +16,11 @@ pub record Form : Type 0 where
 
 -- "format 1": nothing stands between, and the rows begin after "Header, 24 bytes"
 abbrev pub formatOne : Form
-formatOne = record { format = 1; begin = 24; stored = λ rows. [] }
+formatOne = record { format = 1; begin = headerLength; stored = λ rows. [] }
 
 -- where the bodies begin
 abbrev pub bodiesAt : Form → List Row → ℕ
-bodiesAt F rows = F .begin + 24 * length rows
+bodiesAt F rows = F .begin + rowLength * length rows
 
 -- "total length"
 abbrev pub imageLength : Form → Table → ℕ

@@ -7,10 +7,11 @@ ghost use Prim.Native.Nat.{_≤_};
 ghost use Rattle.rules.specs.Tables.{valley};
 ghost use Rattle.table.specs.Inner.Models.{modelOf};
 ghost use Rattle.table.specs.Fresh.{freshNumber, freshBuffer};
+ghost use Rattle.table.specs.Headers.{headerLength};
 
 // The fresh table of a model, written into a lent buffer whose old bytes are never looked at.
 pub fn fresh_in(table: &mut [u8], model: Model, n: u8, boxnumber: u8) -> u8
-    requires { ⌜ 24 ≤ model .least ⌝ }
+    requires { ⌜ headerLength ≤ model .least ⌝ }
     ensures { λ r. ⌜ r ≡ freshNumber (modelOf model) (now (table .entry)) n boxnumber ⌝ }
     ensures { λ _. ⌜ now (table .exit) ≡ freshBuffer (modelOf model) (now (table .entry)) n boxnumber ⌝ }
 {

@@ -1,4 +1,5 @@
 // The header of an image: read from its 24 bytes, changed by value, written, and held against the rules.
+use rows::row;
 ghost use mathlib.Core.Path.{_≡_};
 ghost use Prim.Native.Nat.{_≤_};
 ghost use lib.Dec.{eqb, leb, ltb};
@@ -7,7 +8,7 @@ ghost use Rattle.wire.specs.Parts.{replaced};
 ghost use Rattle.rules.specs.Tests.{both};
 ghost use Rattle.rules.specs.Groups.{isGroup};
 ghost use Rattle.rules.specs.Tables.{modeByRule, freshTable};
-ghost use Rattle.table.specs.Headers.{fourByteFields, headerBytes, headerAt};
+ghost use Rattle.table.specs.Headers.{headerLength, fourByteFields, headerBytes, headerAt};
 ghost use Rattle.table.specs.Inner.ChangedHeaders.{withView, withPromised, withMode, withRows, withBox};
 ghost use Rattle.table.specs.Inner.HeaderTests.{sizesByRule, headerByRuleAt};
 ghost use Rattle.table.specs.Images.{headerOf, formatOne};
@@ -43,7 +44,7 @@ impl Header {
             view: 0,
             promised: 0,
             start: 0,
-            length: 24,
+            length: LENGTH as u32,
         }
     }
 
@@ -89,7 +90,7 @@ impl Header {
 
 // The header at the start of lent bytes, whatever they are.
 pub fn read(s: &[u8]) -> Header
-    requires { ⌜ 24 ≤ length (now s) ⌝ }
+    requires { ⌜ headerLength ≤ length (now s) ⌝ }
     ensures { λ r. ⌜ r ≡ headerAt (now (s .entry)) ⌝ }
 {
     Header {
@@ -107,7 +108,7 @@ pub fn read(s: &[u8]) -> Header
 
 // The last five fields have four bytes each.
 fn write_four_byte_fields(s: &mut [u8], h: Header)
-    requires { ⌜ 24 ≤ length (now s) ⌝ }
+    requires { ⌜ headerLength ≤ length (now s) ⌝ }
     ensures { λ _. ⌜ now (s .exit) ≡ replaced (now (s .entry)) 4 (fourByteFields h) ⌝ }
 {
     wire::put_u32(s, 4, h.rows);
@@ -119,7 +120,7 @@ fn write_four_byte_fields(s: &mut [u8], h: Header)
 
 // Writes a header at the start of a lent buffer.
 pub fn write(s: &mut [u8], h: Header)
-    requires { ⌜ 24 ≤ length (now s) ⌝ }
+    requires { ⌜ headerLength ≤ length (now s) ⌝ }
     ensures { λ _. ⌜ now (s .exit) ≡ replaced (now (s .entry)) 0 (headerBytes h) ⌝ }
 {
     wire::put_four_u8(s, 0, h.format, h.boxnumber, h.n, h.mode);
@@ -177,7 +178,7 @@ fn sizes_valid(h: Header, begin: usize, limit: u16, lent: usize) -> bool
     if lent < h.length as usize {
         return false;
     }
-    begin + 24 * (rows as usize) <= h.length as usize
+    begin + row::LENGTH * (rows as usize) <= h.length as usize
 }
 
 // The format, the group and the box.

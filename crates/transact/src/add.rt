@@ -10,6 +10,7 @@ ghost use Rattle.rules.specs.Tables.{rising};
 ghost use Rattle.rows.specs.Read.{rowOf};
 ghost use Rattle.rows.specs.Inner.Rows.{sizeOf, BodyInside};
 ghost use Rattle.rows.specs.Inner.Places.{placeOf};
+ghost use Rattle.rows.specs.Fields.{rowLength};
 ghost use Rattle.rows.specs.declared.lookup.Place.the-variants.{Absent};
 ghost use Rattle.table.specs.Headers.{headerAt};
 ghost use Rattle.table.specs.Images.{formatOne};
@@ -30,7 +31,7 @@ pub fn add_new(
 ) -> Reply
     requires { ⌜ Holds formatOne (now table) × (rising 0 (tableAt formatOne (now table) .rows) ≡ true) × (placeOf (tableAt formatOne (now table) .rows) (row .stamp) ≡ Absent index) ⌝ }
     requires { ⌜ Storable row × BodyInside (now message) row ⌝ }
-    requires { ⌜ (headerAt (now table) .rows < 65536) × (headerAt (now table) .length + 24 + sizeOf row ≤ length (now table)) × (headerAt (now table) .length + 24 + sizeOf row < 4294967296) ⌝ }
+    requires { ⌜ (headerAt (now table) .rows < 65536) × (headerAt (now table) .length + rowLength + sizeOf row ≤ length (now table)) × (headerAt (now table) .length + rowLength + sizeOf row < 4294967296) ⌝ }
     ensures { λ r. ⌜ r ≡ doneReply (headerAt (now (table .entry))) kind state (row .stamp) (row .retry) ⌝ }
     ensures { λ _. ⌜ now (table .exit) ≡ edited formatOne (adding (rowOf (now (message .entry)) row)) (now (table .entry)) ⌝ }
 {

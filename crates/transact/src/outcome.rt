@@ -1,6 +1,7 @@
 // Messages 3 and 4: an outcome proposed and finalised.
 use crate::add;
 use crate::reply::Reply;
+use message::carried;
 use rows::row;
 use rows::row::RowFields;
 use seek::Finding;
@@ -22,6 +23,7 @@ ghost use Rattle.rows.specs.declared.lookup.Place.the-variants as place;
 ghost use Rattle.table.specs.Images.{formatOne};
 ghost use Rattle.table.specs.Parse.{tableAt, BeginsWithImage};
 ghost use Rattle.message.specs.Messages.{verdictByCode};
+ghost use Rattle.message.specs.Inner.MeantMessages.{outcomeBody};
 ghost use Rattle.seek.specs.Inner.Limits.{limited};
 ghost use Rattle.transact.specs.Inner.Served.{servedReply, servedBuffer};
 ghost use Rattle.seek.specs.Inner.Findings.{toFinalise, toPropose};
@@ -87,15 +89,15 @@ pub fn propose_outcome(
     writes: u8,
     limit: u16,
 ) -> Reply
-    requires { ⌜ BeginsWithImage valley (now table) × (limit ≤ 512) × (24 + 96 * limit ≤ length (now table)) ⌝ }
-    requires { ⌜ (verdictByCode verdict ≡ true) × (isStamp stamp ≡ true) × (countsByRule reads writes ≡ true) × (12 + bodyLength reads writes ≤ length (now message)) ⌝ }
-    ensures { λ r. ⌜ r ≡ servedReply (limited limit) (proposeOutcome stamp (verdictNumbered verdict) (bodyAt (now (message .entry)) 12 reads writes)) (now (table .entry)) ⌝ }
-    ensures { λ _. ⌜ now (table .exit) ≡ servedBuffer (limited limit) (proposeOutcome stamp (verdictNumbered verdict) (bodyAt (now (message .entry)) 12 reads writes)) (now (table .entry)) ⌝ }
+    requires { ⌜ BeginsWithImage valley (now table) × (limit ≤ 512) × (limited limit .leastBuffer ≤ length (now table)) ⌝ }
+    requires { ⌜ (verdictByCode verdict ≡ true) × (isStamp stamp ≡ true) × (countsByRule reads writes ≡ true) × (outcomeBody + bodyLength reads writes ≤ length (now message)) ⌝ }
+    ensures { λ r. ⌜ r ≡ servedReply (limited limit) (proposeOutcome stamp (verdictNumbered verdict) (bodyAt (now (message .entry)) outcomeBody reads writes)) (now (table .entry)) ⌝ }
+    ensures { λ _. ⌜ now (table .exit) ≡ servedBuffer (limited limit) (proposeOutcome stamp (verdictNumbered verdict) (bodyAt (now (message .entry)) outcomeBody reads writes)) (now (table .entry)) ⌝ }
 {
     let row = RowFields {
         stamp,
         retry: 0,
-        offset: 12,
+        offset: carried::OUTCOME_BODY as u32,
         reads,
         writes,
         prepare: 0,

@@ -2,6 +2,7 @@
 use crate::add;
 use crate::reply::Reply;
 use checks::pass::Checked;
+use message::carried;
 use rows::lookup::Place;
 use rows::row;
 use rows::row::RowFields;
@@ -18,7 +19,7 @@ ghost use Rattle.rules.specs.Messages.{Message.proposePrepare, Message.finalise
 ghost use Rattle.rules.specs.Circumstances.{unequalFinal};
 ghost use Rattle.rules.specs.Check.{check};
 ghost use Rattle.rows.specs.Bytes.{bodyLength};
-ghost use Rattle.rows.specs.Fields.{resultNumbered, prepareNumbered, retryByCode};
+ghost use Rattle.rows.specs.Fields.{rowLength, resultNumbered, prepareNumbered, retryByCode};
 ghost use Rattle.rows.specs.Read.{bodyAt};
 ghost use Rattle.rows.specs.Inner.Rows.{sizeOf, BodyInside};
 ghost use Rattle.rows.specs.Inner.Places.{placeOf};
@@ -28,6 +29,7 @@ ghost use Rattle.table.specs.Images.{formatOne};
 ghost use Rattle.table.specs.Parse.{tableAt, BeginsWithImage};
 ghost use Rattle.checks.specs.Inner.Given.{checkedAs};
 ghost use Rattle.message.specs.Messages.{resultByCode};
+ghost use Rattle.message.specs.Inner.MeantMessages.{prepareBody};
 ghost use Rattle.seek.specs.Inner.Limits.{limited};
 ghost use Rattle.transact.specs.Inner.Served.{servedReply, servedBuffer, answeredByte};
 ghost use Rattle.seek.specs.Inner.Findings.{toFinalise, toPropose};
@@ -91,7 +93,7 @@ fn check_new<'a>(table: &'a [u8], message: &'a [u8], index: usize, row: RowField
 // Message 1, of a stamp that the table does not hold: a row with the check's tentative result.
 fn add_checked(table: &mut [u8], message: &[u8], index: usize, row: RowFields) -> Reply
     requires { ⌜ BeginsWithImage valley (now table) × (placeOf (tableAt formatOne (now table) .rows) (row .stamp) ≡ place.Absent index) × BodyInside (now message) row × (countsByRule (row .reads) (row .writes) ≡ true) × (row .outcome ≡ 0) ⌝ }
-    requires { ⌜ (headerAt (now table) .rows < 65536) × (headerAt (now table) .length + 24 + sizeOf row ≤ length (now table)) × (headerAt (now table) .length + 24 + sizeOf row < 4294967296) ⌝ }
+    requires { ⌜ (headerAt (now table) .rows < 65536) × (headerAt (now table) .length + rowLength + sizeOf row ≤ length (now table)) × (headerAt (now table) .length + rowLength + sizeOf row < 4294967296) ⌝ }
     ensures { λ r. ⌜ ((M : Model) → toPropose M (tableAt formatOne (now (table .entry))) (row .stamp) (bodyAt (now (message .entry)) (row .offset) (row .reads) (row .writes)) ≡ New index →
         (r ≡ servedReply M (proposePrepare (row .stamp) (bodyAt (now (message .entry)) (row .offset) (row .reads) (row .writes))) (now (table .entry))) × (now (table .exit) ≡ servedBuffer M (proposePrepare (row .stamp) (bodyAt (now (message .entry)) (row .offset) (row .reads) (row .writes))) (now (table .entry)))) ⌝ }
 {
@@ -115,15 +117,15 @@ pub fn propose_prepare(
     writes: u8,
     limit: u16,
 ) -> Reply
-    requires { ⌜ BeginsWithImage valley (now table) × (limit ≤ 512) × (24 + 96 * limit ≤ length (now table)) ⌝ }
-    requires { ⌜ (isStamp stamp ≡ true) × (countsByRule reads writes ≡ true) × (11 + bodyLength reads writes ≤ length (now message)) ⌝ }
-    ensures { λ r. ⌜ r ≡ servedReply (limited limit) (proposePrepare stamp (bodyAt (now (message .entry)) 11 reads writes)) (now (table .entry)) ⌝ }
-    ensures { λ _. ⌜ now (table .exit) ≡ servedBuffer (limited limit) (proposePrepare stamp (bodyAt (now (message .entry)) 11 reads writes)) (now (table .entry)) ⌝ }
+    requires { ⌜ BeginsWithImage valley (now table) × (limit ≤ 512) × (limited limit .leastBuffer ≤ length (now table)) ⌝ }
+    requires { ⌜ (isStamp stamp ≡ true) × (countsByRule reads writes ≡ true) × (prepareBody + bodyLength reads writes ≤ length (now message)) ⌝ }
+    ensures { λ r. ⌜ r ≡ servedReply (limited limit) (proposePrepare stamp (bodyAt (now (message .entry)) prepareBody reads writes)) (now (table .entry)) ⌝ }
+    ensures { λ _. ⌜ now (table .exit) ≡ servedBuffer (limited limit) (proposePrepare stamp (bodyAt (now (message .entry)) prepareBody reads writes)) (now (table .entry)) ⌝ }
 {
     let row = RowFields {
         stamp,
         retry: 0,
-        offset: 11,
+        offset: carried::PREPARE_BODY as u32,
         reads,
         writes,
         prepare: 0,

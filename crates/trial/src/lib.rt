@@ -8,7 +8,7 @@ ghost use lib.ListN.{length};
 ghost use Rattle.rules.specs.Tables.{rising, valley};
 ghost use Rattle.wire.specs.Parts.{replaced};
 ghost use Rattle.rules.specs.Messages.{held, withPrepare, withOutcome, promising};
-ghost use Rattle.rows.specs.Fields.{fieldsAt, prepareNumbered, outcomeNumbered, retryByCode};
+ghost use Rattle.rows.specs.Fields.{rowLength, fieldsAt, prepareNumbered, outcomeNumbered, retryByCode};
 ghost use Rattle.rows.specs.Read.{rowOf, rowsAt};
 ghost use Rattle.rows.specs.Inner.Rows.{sizeOf, BodyInside, RowsInside};
 ghost use Rattle.rows.specs.Inner.Places.{placeOf, heldBody};
@@ -58,8 +58,8 @@ pub extern "C" fn trial_set_outcome(table: &mut [u8], index: usize, outcome: u8)
 #[no_mangle]
 pub extern "C" fn trial_add_row(table: &mut [u8], index: usize, row: &[u8])
     requires { ⌜ Holds formatOne (now table) × (rising 0 (tableAt formatOne (now table) .rows) ≡ true) × (placeOf (tableAt formatOne (now table) .rows) (fieldsAt (now row) 0 .stamp) ≡ Absent index) ⌝ }
-    requires { ⌜ (24 ≤ length (now row)) × Storable (fieldsAt (now row) 0) × BodyInside (now row) (fieldsAt (now row) 0) ⌝ }
-    requires { ⌜ (headerAt (now table) .rows < 65536) × (headerAt (now table) .length + 24 + sizeOf (fieldsAt (now row) 0) ≤ length (now table)) × (headerAt (now table) .length + 24 + sizeOf (fieldsAt (now row) 0) < 4294967296) ⌝ }
+    requires { ⌜ (rowLength ≤ length (now row)) × Storable (fieldsAt (now row) 0) × BodyInside (now row) (fieldsAt (now row) 0) ⌝ }
+    requires { ⌜ (headerAt (now table) .rows < 65536) × (headerAt (now table) .length + rowLength + sizeOf (fieldsAt (now row) 0) ≤ length (now table)) × (headerAt (now table) .length + rowLength + sizeOf (fieldsAt (now row) 0) < 4294967296) ⌝ }
     ensures { λ _. ⌜ now (table .exit) ≡ edited formatOne (adding (rowOf (now (row .entry)) (fieldsAt (now (row .entry)) 0))) (now (table .entry)) ⌝ }
 {
     edit::add::add_row(table, index, rows::row::row_at(row, 0, 0), row)

@@ -5,7 +5,7 @@ use Prim.Native.Nat.{ℕ, zero, suc, _+_, _-_, _*_}
 use lib.Dec.{ltb}
 use Rattle.wire.specs.Parts.{part, replaced}
 use Rattle.wire.specs.Numbers.{bytes}
-use Rattle.rows.specs.Fields.{fieldsAt}
+use Rattle.rows.specs.Fields.{rowLength, fieldsAt}
 use Rattle.rows.specs.Inner.Rows.{sizeOf}
 
 -- ---- a row and a body put in between
@@ -17,14 +17,14 @@ slipped s at middle end row body = replaced s at (row ++ (part s at (middle - at
 -- n rows from `at` with their offsets laid anew by their counts, the first body at `due`: "Bodies follow in row order without gaps"
 unfoldable pub laid : List ℕ → ℕ → ℕ → ℕ → List ℕ
 laid s at zero due = s
-laid s at (suc n) due = laid (replaced s (at + 16) (bytes 4 due)) (at + 24) n (due + sizeOf (fieldsAt s at))
+laid s at (suc n) due = laid (replaced s (at + 16) (bytes 4 due)) (at + rowLength) n (due + sizeOf (fieldsAt s at))
 
 -- where the body of a row that comes to an index goes
 unfoldable pub bodyPlace : List ℕ → ℕ → ℕ → ℕ → ℕ → ℕ
-bodyPlace s begin rows index end = cond (ltb index rows) (fieldsAt s (begin + 24 * index) .offset) end
+bodyPlace s begin rows index end = cond (ltb index rows) (fieldsAt s (begin + rowLength * index) .offset) end
 
 -- a row and a body put in between, of rows that begin there and whose bodies end at `end`, and all offsets laid anew
 unfoldable pub placed : List ℕ → ℕ → ℕ → ℕ → ℕ → List ℕ → List ℕ → List ℕ
 placed s begin rows end index row body =
-    let filled = slipped s (begin + 24 * index) (bodyPlace s begin rows index end) end row body in
-    laid filled begin (rows + 1) (begin + 24 * (rows + 1))
+    let filled = slipped s (begin + rowLength * index) (bodyPlace s begin rows index end) end row body in
+    laid filled begin (rows + 1) (begin + rowLength * (rows + 1))

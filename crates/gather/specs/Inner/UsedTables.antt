@@ -11,9 +11,10 @@ use Rattle.rules.specs.Circumstances.{heldWithOtherBody}
 use Rattle.rows.specs.declared.row.RowFields.{RowFields}
 use Rattle.rows.specs.declared.lookup.Place.{Place}
 use Rattle.rows.specs.declared.lookup.Place.the-variants.{Held, Absent}
-use Rattle.rows.specs.Fields.{fieldsAt}
+use Rattle.rows.specs.Fields.{rowLength, fieldsAt}
 use Rattle.rows.specs.Inner.Places.{placeOf}
 use Rattle.table.specs.Images.{formatOne, imageLength}
+use Rattle.table.specs.Headers.{headerLength}
 
 -- "only those of the greatest last normal view are used": those of a view
 abbrev pub usedOf : ℕ → List Table → List Table
@@ -33,7 +34,7 @@ noFields = record { stamp = 0; retry = 0; offset = 0; reads = 0; writes = 0; pre
 
 -- the fields of the row that a look-up found, in an image of format 1
 abbrev pub fieldsFor : List ℕ → Place → RowFields
-fieldsFor s (Held i) = fieldsAt s (24 + 24 * i)
+fieldsFor s (Held i) = fieldsAt s (headerLength + rowLength * i)
 fieldsFor s (Absent i) = noFields
 
 -- the bytes of a run of these tables, from the first image on whose table is used and holds a stamp

@@ -4,15 +4,17 @@ use Prim.Native.Nat.{ℕ, _+_, _*_, _%_}
 use Rattle.wire.specs.Parts.{replaced}
 use Rattle.rules.specs.Tables.{Row, normalMode}
 use Rattle.rows.specs.Bytes.{bodyBytes, bodiesBytes, rowBytes, rowsBytes}
+use Rattle.rows.specs.Fields.{rowLength}
+use Rattle.table.specs.Headers.{headerLength}
 use Rattle.table.specs.declared.header.Header.{Header}
 
 -- rows from where an image's rows begin, with their bodies from `base` on: contents first, bodies after
 unfoldable pub laidDown : List ℕ → ℕ → List Row → List ℕ
-laidDown out base rows = replaced (replaced out 24 (rowsBytes base rows)) base (bodiesBytes rows)
+laidDown out base rows = replaced (replaced out headerLength (rowsBytes base rows)) base (bodiesBytes rows)
 
 -- one of them at its index, with its body where it is due
 abbrev pub rowLaid : List ℕ → ℕ → ℕ → Row → List ℕ
-rowLaid out index due r = replaced (replaced out (24 + 24 * index) (rowBytes due r)) due (bodyBytes (r .body))
+rowLaid out index due r = replaced (replaced out (headerLength + rowLength * index) (rowBytes due r)) due (bodyBytes (r .body))
 
 -- "The image is normal, view v, box v mod n, start rows equal to rows.": the header of a table that starts view v in a group of n, by how many rows it has and how long its image is
 abbrev pub startHeader : ℕ → ℕ → ℕ → ℕ → Header

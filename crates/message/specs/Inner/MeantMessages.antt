@@ -15,11 +15,19 @@ use Rattle.message.specs.declared.kinds.Message.{Message}
 use Rattle.message.specs.declared.kinds.Message.the-variants.{ProposePrepare, FinalisePrepare, ProposeOutcome, FinaliseOutcome, ChangeView, StartView, ReadRegister, Bad}
 use Rattle.message.specs.Messages.{resultByCode, verdictByCode}
 
+-- where the body of message 1 lies: behind the kind, the stamp and the two counts
+abbrev pub prepareBody : ℕ
+prepareBody = 11
+
+-- and that of message 3, which has the outcome besides
+abbrev pub outcomeBody : ℕ
+outcomeBody = 12
+
 -- the message of `rules` that an answer of the reader stands for, with the body or the image that lies in the message's bytes
 abbrev pub meant : Form → List ℕ → Message → Option rules.Message
-meant F s (ProposePrepare stamp reads writes) = some (proposePrepare stamp (bodyAt s 11 reads writes))
+meant F s (ProposePrepare stamp reads writes) = some (proposePrepare stamp (bodyAt s prepareBody reads writes))
 meant F s (FinalisePrepare stamp view code retry) = some (finalisePrepare stamp view (resultNumbered code retry))
-meant F s (ProposeOutcome stamp code reads writes) = some (proposeOutcome stamp (verdictNumbered code) (bodyAt s 12 reads writes))
+meant F s (ProposeOutcome stamp code reads writes) = some (proposeOutcome stamp (verdictNumbered code) (bodyAt s outcomeBody reads writes))
 meant F s (FinaliseOutcome stamp view code) = some (finaliseOutcome stamp view (verdictNumbered code))
 meant F s (ChangeView view) = some (changeView view)
 meant F s (StartView view) = some (startView view (tableAt F (drop 5 s)))

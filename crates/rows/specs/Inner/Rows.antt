@@ -10,7 +10,7 @@ use Rattle.rules.specs.Stamps.{contentsByRule}
 use Rattle.rules.specs.Tables.{rising, rowByRule}
 use Rattle.rows.specs.declared.row.RowFields.{RowFields}
 use Rattle.rows.specs.Bytes.{bodyLength, rowsBytes, bodiesBytes, bodiesLength}
-use Rattle.rows.specs.Fields.{fieldsAt}
+use Rattle.rows.specs.Fields.{rowLength, fieldsAt}
 use Rattle.rows.specs.Inner.FieldTests.{fieldsByRule}
 use Rattle.rows.specs.Read.{bodyAt, rowsAt, begins}
 
@@ -26,7 +26,7 @@ BodyInside s f = f .offset + sizeOf f ≤ length s
 
 -- n rows from begin lie inside, each with its body; of an image more is asked than that
 abbrev pub RowsInside : List ℕ → ℕ → ℕ → Type 0
-RowsInside s begin n = (begin + 24 * n ≤ length s) × ((i : ℕ) → i < n → BodyInside s (fieldsAt s (begin + 24 * i)))
+RowsInside s begin n = (begin + rowLength * n ≤ length s) × ((i : ℕ) → i < n → BodyInside s (fieldsAt s (begin + rowLength * i)))
 
 -- ---- one row, tested where it stands
 
@@ -47,6 +47,6 @@ rowByRuleAt s f last due end = both (both (fieldsByRule f) (placeByRule f last d
 unfoldable pub rowsByRuleAt : List ℕ → ℕ → ℕ → ℕ → Bool
 rowsByRuleAt s begin n end =
     let rows = rowsAt s begin n in
-    let bodies = begin + 24 * n in
+    let bodies = begin + rowLength * n in
     both (both (rising 0 rows) (every rowByRule rows))
     (both (begins (drop begin s) (rowsBytes bodies rows ++ bodiesBytes rows)) (eqb (bodies + bodiesLength rows) end))

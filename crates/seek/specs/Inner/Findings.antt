@@ -9,11 +9,12 @@ use Rattle.rules.specs.Stamps.{Body}
 use Rattle.rules.specs.Tables.{Model, Table}
 use Rattle.rules.specs.Circumstances.{belowLimit, isChanging, heldWithOtherBody, newButFull, forOtherView}
 use Rattle.rows.specs.declared.row.RowFields.{RowFields}
-use Rattle.rows.specs.Fields.{fieldsAt}
+use Rattle.rows.specs.Fields.{rowLength, fieldsAt}
 use Rattle.rows.specs.Inner.Rows.{BodyInside, bodyPart}
 use Rattle.rows.specs.declared.lookup.Place.{Place}
 use Rattle.rows.specs.declared.lookup.Place.the-variants.{Held, Absent}
 use Rattle.rows.specs.Inner.Places.{placeOf}
+use Rattle.table.specs.Headers.{headerLength}
 use Rattle.seek.specs.declared.Finding.{Finding}
 use Rattle.seek.specs.declared.Finding.the-variants.{Known, Refused}
 use Rattle.seek.specs.declared.Proposal.{Proposal}
@@ -46,19 +47,19 @@ toPropose M T s x =
 
 -- the row that a look-up found lies inside
 abbrev pub RowInside : List ℕ → Place → Type 0
-RowInside s (Held i) = 24 + 24 * i + 24 ≤ length s
+RowInside s (Held i) = headerLength + rowLength * i + rowLength ≤ length s
 RowInside s (Absent i) = Unit {0}
 
 -- "A body needed for an answer is read from the table if the stamp is known, else from the message."
 abbrev pub neededBody : List ℕ → List ℕ → RowFields → Place → List ℕ
-neededBody s m given (Held i) = bodyPart s (fieldsAt s (24 + 24 * i))
+neededBody s m given (Held i) = bodyPart s (fieldsAt s (headerLength + rowLength * i))
 neededBody s m given (Absent i) = bodyPart m given
 
 abbrev pub NeededInside : List ℕ → List ℕ → RowFields → Place → Type 0
-NeededInside s m given (Held i) = (24 + 24 * i + 24 ≤ length s) × BodyInside s (fieldsAt s (24 + 24 * i))
+NeededInside s m given (Held i) = (headerLength + rowLength * i + rowLength ≤ length s) × BodyInside s (fieldsAt s (headerLength + rowLength * i))
 NeededInside s m given (Absent i) = BodyInside m given
 
 -- the counts of a held row are not those of the message
 abbrev pub otherCounts : List ℕ → RowFields → Place → Bool
-otherCounts s given (Held i) = not (both (eqb (fieldsAt s (24 + 24 * i) .reads) (given .reads)) (eqb (fieldsAt s (24 + 24 * i) .writes) (given .writes)))
+otherCounts s given (Held i) = not (both (eqb (fieldsAt s (headerLength + rowLength * i) .reads) (given .reads)) (eqb (fieldsAt s (headerLength + rowLength * i) .writes) (given .writes)))
 otherCounts s given (Absent i) = false

@@ -18,6 +18,9 @@ use Rattle.transact.proofs.outcome.propose_outcome.Reads as reads
 use Rattle.transact.proofs.outcome.propose_outcome.Statement.{statement}
 use Rattle.transact.proofs.outcome.propose_outcome.Tie as tie
 
+cast-t13 : tie.Need-cast-t13
+cast-t13 c = search needs
+
 row-to-propose-requires : tie.Need-row-to-propose-requires
 row-to-propose-requires c κs = let p = (c .before .before .before) in (p .pre .0 .0, p .pre .1 .3)
 
@@ -90,6 +93,7 @@ pub propose-outcome-spec : {M : Type 1} → statement M
 propose-outcome-spec =
     tie.close
     (tie.spec
+    cast-t13
     row-to-propose-requires
     enum-known-proposal
     refusal-requires

@@ -15,6 +15,9 @@ use Rattle.transact.proofs.prepare.propose_prepare.Reads as reads
 use Rattle.transact.proofs.prepare.propose_prepare.Statement.{statement}
 use Rattle.transact.proofs.prepare.propose_prepare.Tie as tie
 
+cast-t12 : tie.Need-cast-t12
+cast-t12 c = search needs
+
 row-to-propose-requires : tie.Need-row-to-propose-requires
 row-to-propose-requires c κs = let p = (c .before .before .before) in (p .pre .0 .0, p .pre .1 .2)
 
@@ -87,6 +90,7 @@ pub propose-prepare-spec : {M : Type 1} → statement M
 propose-prepare-spec =
     tie.close
     (tie.spec
+    cast-t12
     row-to-propose-requires
     enum-known-proposal
     refusal-requires
