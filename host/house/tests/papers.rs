@@ -207,7 +207,14 @@ fn every_must_fail_edit_is_cited_by_a_claim() {
 }
 
 /// Crates whose check takes few seconds, as `docs/BENCHMARKS.md` has it. An edit costs a check of its crate.
-const QUICK: [&str; 6] = ["rules", "history", "history_cases", "quorums", "cases", "group"];
+const QUICK: [&str; 6] = [
+    "rules",
+    "history",
+    "history_cases",
+    "quorums",
+    "cases",
+    "group",
+];
 
 #[test]
 fn the_gate_has_time_for_two_edits_of_a_crate_that_is_not_quick() {
@@ -578,22 +585,43 @@ fn a_quote_is_cut_where_words_are_left_out() {
     assert_eq!(quoted(source), ["one", "and two", "three", "five"]);
 }
 
-#[test]
-fn the_decisions_are_numbered_once() {
-    let text = text("docs/DECISIONS.md");
-    let numbers: Vec<&str> = text
-        .lines()
+/// The numbers of the decisions, in the order in which they stand on their page.
+fn decisions(page: &str) -> Vec<&str> {
+    page.lines()
         .filter(|line| line.starts_with("**D"))
         .filter_map(|line| line[2..].split('.').next())
-        .collect();
-    assert!(
-        numbers.len() > 5,
-        "only {} decisions were found",
-        numbers.len()
-    );
+        .collect()
+}
+
+#[test]
+fn the_decisions_are_numbered_once() {
+    let page = text("docs/DECISIONS.md");
+    let numbers = decisions(&page);
+    assert!(numbers.len() > 150, "only {} were found", numbers.len());
     for (place, number) in numbers.iter().enumerate() {
         assert_eq!(*number, format!("D{}", place + 1));
     }
+}
+
+/// The decisions that stand under no subject of the index.
+fn under_no_subject(page: &str) -> Vec<&str> {
+    let index = page
+        .split("\n## ")
+        .find(|part| part.starts_with("Index by subject"));
+    let named: Vec<&str> = index.unwrap_or("").split_whitespace().collect();
+    let numbers = decisions(page).into_iter();
+    numbers.filter(|number| !named.contains(number)).collect()
+}
+
+#[test]
+fn every_decision_is_in_the_index() {
+    assert_eq!(under_no_subject(&text("docs/DECISIONS.md")), [""; 0]);
+}
+
+#[test]
+fn a_decision_that_is_not_in_the_index_is_noticed() {
+    let page = "# Decisions\n\n## Index by subject\n\n- **Gate**: D1 one\n\n## Gate\n\n**D1. One.**\n\n**D2. Two.**\n";
+    assert_eq!(under_no_subject(page), ["D2"]);
 }
 
 /// The constants of the C header: the words of the comment above each, its name and its value.
