@@ -3,19 +3,20 @@
  * every byte: docs/CLAIMS has it sentence by sentence, and docs/FORMAT.md byte by byte.
  *
  * A call works on buffers that its caller lends, keeps nothing between two calls, and ends with a number of 01's list.
- * What a call promises stands above it, and holds where all of this does:
+ * What a call promises stands above it. It holds if all of the following does:
  *
  * - The machine is an x86-64, calls go by the System V convention, and size_t has 64 bits.
- * - A pointer is valid for as many bytes as the length behind it says, and one to records for as many records, aligned
- *   as C aligns them: for reading, and where it is not const for writing too. A null pointer has length 0.
+ * - A pointer is valid for as many bytes as the length behind it says. One to records is valid for as many records, and
+ *   aligned as C aligns them. Valid means for reading, and where the pointer is not const for writing too. A null pointer
+ *   has length 0.
  * - Two buffers lent to one call do not overlap.
  * - Nobody else touches a lent buffer during a call: one call at a time for each buffer. Calls on other buffers may run
  *   at the same time.
  * - Whoever links supplies memset, memcpy and memmove, with C's meaning. Nothing else is needed.
- * - The caller's stack has room for a call. No proof says how much that is: docs/BENCHMARKS.md has what was measured, less
- *   than 1 KiB for each.
+ * - The caller's stack has room for a call. No proof says how much that is. Less than 1 KiB was measured for each call
+ *   (docs/BENCHMARKS.md).
  *
- * Where one of them does not hold, nothing is promised.
+ * Where one of these does not hold, nothing is promised.
  */
 #ifndef SPRONDILU_H
 #define SPRONDILU_H
@@ -32,7 +33,7 @@
 #define SPRONDILU_ALIGN_OF(type) _Alignof(type)
 #endif
 
-/* For this file alone: a call whose answer is dropped is warned of, by a compiler that can. A refusal that nobody looks at
+/* For this file alone: a compiler that is able to warns of a call whose answer is not used. A refusal that nobody looks at
  * would be an entry that is dropped without a word. */
 #if defined(__cplusplus) && __cplusplus >= 201703L
 #define SPRONDILU_MUST_USE [[nodiscard]]
@@ -51,8 +52,8 @@ extern "C" {
 SPRONDILU_ASSERT(sizeof(size_t) == 8, "libsprondilu.a takes lengths of 64 bits");
 
 /*
- * The numbers, each given exactly in the circumstances above it. The first that applies wins, in this order: 1, 2, 3, 4,
- * 9, 10, 11, 8, 5, 6, 7.
+ * The numbers. Each is given exactly in the circumstances that the comment above it has, in 01's words. The first that
+ * applies wins, in this order: 1, 2, 3, 4, 9, 10, 11, 8, 5, 6, 7.
  */
 
 /* done: none below applies */
@@ -85,14 +86,14 @@ SPRONDILU_ASSERT(sizeof(size_t) == 8, "libsprondilu.a takes lengths of 64 bits")
  * bodies. */
 #define SPRONDILU_TABLE_BYTES 49176
 
-/* Where in an image its box, its group's n and the view that the box has promised stand: the last is a number of 4 bytes. */
+/* The places in an image of its box, of its group's n and of the promised view, which is a number of 4 bytes. */
 #define SPRONDILU_TABLE_BOX 1
 #define SPRONDILU_TABLE_N 2
 #define SPRONDILU_TABLE_PROMISED 12
 
 /*
  * Messages. In messages, images and replies the first byte of a number counts most. Each message begins with its kind, in
- * 1 byte; behind it stand, in bytes:
+ * 1 byte. Behind it stand these parts, each with its length in bytes:
  *   SPRONDILU_PROPOSE_PREPARE    stamp 8, counts of reads and of writes 1 each, body
  *   SPRONDILU_FINALISE_PREPARE   stamp 8, view 4, result 1, retry stamp 8
  *   SPRONDILU_PROPOSE_OUTCOME    stamp 8, outcome 1, counts of reads and of writes 1 each, body
@@ -114,8 +115,9 @@ SPRONDILU_ASSERT(sizeof(size_t) == 8, "libsprondilu.a takes lengths of 64 bits")
 #define SPRONDILU_OUTCOME_COMMIT 1
 #define SPRONDILU_OUTCOME_ABORT 2
 
-/* Where the image begins in message 6, which is also how long message 5 is; the length of the longest message, which is
- * message 6 with the longest image; and that of the longest of any other kind, message 3 with eight accesses. */
+/* First, the place where the image begins in message 6, which is also the length of message 5. Second, the length of the
+ * longest message, which is message 6 with the longest image. Third, that of the longest message of any other kind, which
+ * is message 3 with eight accesses. */
 #define SPRONDILU_START_VIEW_IMAGE 5
 #define SPRONDILU_MESSAGE_BYTES 49181
 #define SPRONDILU_SMALL_MESSAGE_BYTES 84
@@ -123,8 +125,8 @@ SPRONDILU_ASSERT(sizeof(size_t) == 8, "libsprondilu.a takes lengths of 64 bits")
 /* The length of a reply, in bytes, and the least length of a reply buffer. */
 #define SPRONDILU_REPLY_BYTES 24
 
-/* Where its parts stand in a reply: number, kind, box and state byte in 1 byte each; the box's view in 4; a stamp and a
- * value in 8 each. */
+/* The places of the parts of a reply. Number, kind, box and state byte have 1 byte each, the box's view has 4, and a stamp
+ * and a value have 8 each. */
 #define SPRONDILU_REPLY_NUMBER 0
 #define SPRONDILU_REPLY_KIND 1
 #define SPRONDILU_REPLY_BOX 2
@@ -160,18 +162,18 @@ SPRONDILU_ASSERT(sizeof(size_t) == 8, "libsprondilu.a takes lengths of 64 bits")
  *
  * Returns SPRONDILU_SMALL_BUFFER if table_len is below SPRONDILU_TABLE_BYTES; else SPRONDILU_BAD_MESSAGE if n is not 3, 5
  * or 7, or box not below n; else SPRONDILU_DONE.
- * Done, the first 24 bytes are the fresh image, and no other byte has changed: what the buffer held is neither looked at
- * nor cleared. Refused, no byte has changed.
+ * If done, the first 24 bytes are the fresh image, and no other byte has changed: what the buffer held is neither looked
+ * at nor cleared. If refused, no byte has changed.
  */
 SPRONDILU_MUST_USE
 uint8_t sprondilu_fresh(uint8_t *table, size_t table_len, uint8_t n, uint8_t box);
 
 /*
- * Whether lent bytes begin with an image by 01's rules, and how long it is. What follows the image is not looked at.
+ * Says whether lent bytes begin with an image by 01's rules, and how long it is. What follows the image is not looked at.
  *
- * The answer has the number in bits 0 to 7, SPRONDILU_DONE or SPRONDILU_BAD_TABLE; for SPRONDILU_DONE the image's length
- * in bytes in bits 16 to 63; and 0 in all other bits. The two macros below take it apart.
- * Any length will do: as in a merge's run, SPRONDILU_SMALL_BUFFER does not apply. No byte changes.
+ * The answer has the number in bits 0 to 7, SPRONDILU_DONE or SPRONDILU_BAD_TABLE. For SPRONDILU_DONE it has the image's
+ * length in bytes in bits 16 to 63. All other bits are 0. The two macros below take it apart.
+ * The bytes may have any length: SPRONDILU_SMALL_BUFFER does not apply, as it does not to a merge's run. No byte changes.
  */
 SPRONDILU_MUST_USE
 uint64_t sprondilu_valid(const uint8_t *bytes, size_t bytes_len);
@@ -183,13 +185,13 @@ uint64_t sprondilu_valid(const uint8_t *bytes, size_t bytes_len);
 #define SPRONDILU_LENGTH_OF(answer) ((answer) >> 16)
 
 /*
- * A box's answer to one message: the table in its buffer becomes what 01 makes of it, and the reply is written at the
+ * Answers one message for a box: the table in its buffer becomes what 01 makes of it, and the reply is written at the
  * start of the reply buffer. A message may be any bytes that arrived, of any length, also none.
  *
  * Returns the first of these that applies, and SPRONDILU_DONE if none does:
  *   SPRONDILU_SMALL_BUFFER   table_len is below SPRONDILU_TABLE_BYTES, or reply_len below SPRONDILU_REPLY_BYTES
  *   SPRONDILU_BAD_TABLE      the table buffer does not begin with an image by 01's rules
- *   SPRONDILU_BAD_MESSAGE    the message is none of 01's seven, of its exact length and by every rule
+ *   SPRONDILU_BAD_MESSAGE    the bytes are not one of 01's seven messages, of exactly its length and by all its rules
  *   SPRONDILU_CHANGING       messages 1 to 4 and 7, while the box is between two views
  *   SPRONDILU_OTHER_VIEW     messages 2 and 4, for a view that is not the box's
  *   SPRONDILU_OLD_VIEW       message 5, for a view at or below the promised one; message 6, for one below the promised one,
@@ -199,22 +201,22 @@ uint64_t sprondilu_valid(const uint8_t *bytes, size_t bytes_len);
  *   SPRONDILU_CONTRADICTION  message 2: another final result is held; messages 3 and 4: the opposite outcome is held
  *   SPRONDILU_FULL           messages 1 and 3: the stamp is new and 512 rows are held
  *
- * SPRONDILU_SMALL_BUFFER: no byte of either buffer has changed, so there is no reply to send.
+ * If it returns SPRONDILU_SMALL_BUFFER, no byte of either buffer has changed, so there is no reply to send.
  * Otherwise the first 24 bytes of the reply buffer are the reply, to be sent back as they are, and no other byte of that
- * buffer has changed. Refused, the reply is the number and 23 zero bytes, and no byte of the table buffer has changed.
- * Done, the reply is 0, the message's kind, the box, its state byte, then the view in 4 bytes, a stamp in 8 and a value in
- * 8, each where SPRONDILU_REPLY_NUMBER to SPRONDILU_REPLY_VALUE say; and the table buffer begins with the image of the
- * changed table. If that is shorter than the image before, the bytes given up are zero; bytes past the longer of the two
- * have not changed. The message never changes.
+ * buffer has changed. If refused, the reply is the number and 23 zero bytes, and no byte of the table buffer has changed.
+ * If done, the reply is 0, the message's kind, the box, the state byte, then the view in 4 bytes, a stamp in 8 and a value
+ * in 8, each where SPRONDILU_REPLY_NUMBER to SPRONDILU_REPLY_VALUE say. The table buffer then begins with the image of the
+ * changed table, which is to be stored before the reply is sent. If it is shorter than the image before, the bytes given up
+ * are zero. Bytes past the longer of the two have not changed. The message never changes.
  */
 SPRONDILU_MUST_USE
 uint8_t sprondilu_answer(uint8_t *table, size_t table_len, const uint8_t *message, size_t message_len, uint8_t *reply,
                          size_t reply_len);
 
 /*
- * The merge for view `view`: of the tables of f+1 boxes that promised it, laid end to end in one run, it makes the table
- * with which that view begins, and writes its image at the start of an output buffer. A run may be any bytes that arrived,
- * of any length, also none; no alignment is asked of the images in it.
+ * Makes the merge for view `view`. From the tables of f+1 boxes that promised it, laid end to end in one run, it makes the
+ * table with which that view begins, and writes its image at the start of an output buffer. Here f+1 is 2 of 3 boxes, 3 of
+ * 5 or 4 of 7. A run may be any bytes that arrived, of any length, also none. Its images need not be aligned.
  *
  * Returns the first of these that applies, and SPRONDILU_DONE if none does:
  *   SPRONDILU_SMALL_BUFFER   out_len is below SPRONDILU_TABLE_BYTES, whatever the run is
@@ -224,13 +226,14 @@ uint8_t sprondilu_answer(uint8_t *table, size_t table_len, const uint8_t *messag
  *   SPRONDILU_OTHER_BODY     a stamp is held with two bodies
  *   SPRONDILU_CONTRADICTION  of a stamp two unequal final results are held, or opposite outcomes
  *   SPRONDILU_FULL           there are more than 512 stamps
- * The last three look at the tables of the greatest last normal view only, as the merge itself does, and each at all
- * stamps of them: the order holds over all stamps, not at each.
+ * The last three look only at the tables of the greatest last normal view, as the merge itself does. Each looks at all
+ * stamps of them before the next one is asked: SPRONDILU_OTHER_BODY at any stamp wins over SPRONDILU_CONTRADICTION at any
+ * other.
  *
- * Done, the output buffer begins with the merged image, which does not depend on the order of the tables, and no other
- * byte has changed: what the buffer held is neither looked at nor cleared. Sent in message 6 for that view, the image is
- * taken by every box of the group that is in an earlier view and has promised no later one.
- * Refused, no byte has changed. The run never changes.
+ * If done, the output buffer begins with the merged image, which does not depend on the order of the tables, and no other
+ * byte has changed: what the buffer held is neither looked at nor cleared. The image is to be sent in message 6 for that
+ * view. Every box of the group takes it that is in an earlier view and has promised no later one.
+ * If refused, no byte has changed. The run never changes.
  */
 SPRONDILU_MUST_USE
 uint8_t sprondilu_merge(const uint8_t *run, size_t run_len, uint32_t view, uint8_t *out, size_t out_len);
@@ -239,16 +242,16 @@ uint8_t sprondilu_merge(const uint8_t *run, size_t run_len, uint32_t view, uint8
 #define SPRONDILU_COUNTED_BYTES 15
 
 /*
- * The coordinator's count of the replies heard for one stamp, in a group of `n` boxes: whether they agree fast, what they
- * come to slowly, or that more of them have to be waited for. The replies are laid end to end, SPRONDILU_COUNTED_BYTES
- * each: the box in 1 byte, its view in 4, the result in 1, its retry stamp in 8, then 1 if the result is final and 0 if it
- * is tentative; the first byte of each number counts most. The list may be any bytes that arrived, of any length, also
- * none; the order of the replies does not matter.
+ * Counts for a coordinator the replies that it heard for one stamp, in a group of `n` boxes. The answer says that they
+ * agree fast, or what they come to slowly, or that more of them have to be waited for. The replies are laid end to end,
+ * SPRONDILU_COUNTED_BYTES each: the box in 1 byte, its view in 4, the result in 1, its retry stamp in 8, then 1 if the
+ * result is final and 0 if it is tentative. The first byte of each number counts most. replies_len is how many bytes there
+ * are in all. The list may be any bytes that arrived, of any length, also none. The order of the replies does not matter.
  *
- * A reply of sprondilu_answer to message 1 or 2 whose number is SPRONDILU_DONE has them in these of its 24 bytes: the box at
- * SPRONDILU_REPLY_BOX; the view from SPRONDILU_REPLY_VIEW on; the retry stamp from SPRONDILU_REPLY_VALUE on; and the result
- * in the state byte at SPRONDILU_REPLY_STATE: 1 to 4 are SPRONDILU_OK to SPRONDILU_RETRY, tentative; 5 to 8, from
- * SPRONDILU_FINAL_OK on, are the result plus 4, final.
+ * Each is made of a reply of sprondilu_answer to message 1 or 2 whose number is SPRONDILU_DONE. Of its 24 bytes, the box
+ * is at SPRONDILU_REPLY_BOX, the view from SPRONDILU_REPLY_VIEW on, and the retry stamp from SPRONDILU_REPLY_VALUE on. The
+ * result is in the state byte at SPRONDILU_REPLY_STATE. If that is 1 to 4, it is the result, which is tentative. If it is 5
+ * to 8, so from SPRONDILU_FINAL_OK on, the result is 4 less, and is final.
  *
  * The answer has the number in bits 0 to 7, the first of these that applies, and SPRONDILU_DONE if none does:
  *   SPRONDILU_BAD_MESSAGE    n is not 3, 5 or 7; or replies_len is no multiple of SPRONDILU_COUNTED_BYTES; or in a reply
@@ -260,15 +263,16 @@ uint8_t sprondilu_merge(const uint8_t *run, size_t run_len, uint32_t view, uint8
  * Results are equal if their retry stamps are too, and boxes agree on one whether it is final or tentative. Of 3, 5 and 7
  * boxes the fast count is 3, 4 and 6, and f+1 is 2, 3 and 4.
  *
- * Done, the answer has the kind in bits 8 to 9, the first of these that applies:
+ * If done, the answer has the kind in bits 8 to 9, the first of these that applies:
  *   SPRONDILU_FAST           the fast count of boxes agree on a result
  *   SPRONDILU_WAIT           there are fewer than f+1 replies
  *   SPRONDILU_SLOW           otherwise
- * and, but for SPRONDILU_WAIT, the result in bits 10 to 12 and its retry stamp in bits 16 to 63, which is 0 but for
- * SPRONDILU_RETRY. Fast, it is the result agreed on. Slow, it is the final result if there is one; else SPRONDILU_ABORT if
- * any is that; else SPRONDILU_OK if f+1 are that; else SPRONDILU_RETRY with the greatest stamp if any is that; else
- * SPRONDILU_ABSTAIN. All other bits are 0. The macros below take an answer apart: its number is to be looked at first, then
- * its kind, and only then its result. No byte changes.
+ * Unless the kind is SPRONDILU_WAIT, the answer also has the result in bits 10 to 12 and its retry stamp in bits 16 to 63.
+ * The retry stamp is 0 unless the result is SPRONDILU_RETRY. If fast, the result is the one agreed on. If slow, it is the
+ * first of these: the final result, if there is one; SPRONDILU_ABORT, if any is that; SPRONDILU_OK, if f+1 are that;
+ * SPRONDILU_RETRY with the greatest stamp, if any is that; SPRONDILU_ABSTAIN. All other bits are 0.
+ * The macros below take an answer apart. Its number is to be looked at first, then its kind, and only then its result. No
+ * byte changes.
  *
  * What may be done with an answer, by rules 2, 3, 4 and 7 of 01:
  *   SPRONDILU_FAST           the result may be declared final at once; it may also be sent in message 2, for the view of
@@ -276,8 +280,8 @@ uint8_t sprondilu_merge(const uint8_t *run, size_t run_len, uint32_t view, uint8
  *   SPRONDILU_SLOW           the result may be sent in message 2, for the view of the replies; it may be declared final
  *                            once f+1 different boxes have confirmed it in that view, with SPRONDILU_DONE
  *   SPRONDILU_WAIT           nothing yet: there are fewer than f+1 replies, and nothing is decided
- * A result that was sent or declared stays the only one for its stamp in that view, whatever more replies would come to;
- * and once an outcome was proposed for the stamp, nothing more is sent in message 2 or declared.
+ * A result that was sent or declared stays the only one for its stamp in that view, whatever more replies would come to.
+ * Once an outcome was proposed for the stamp, nothing more is sent in message 2 or declared.
  * An OK that was declared is not recorded yet: it will be, if the coordinator lives. An entry is recorded when f+1 different
  * boxes have accepted its commit in one view, each by a reply to message 3 with SPRONDILU_DONE, and not before.
  */
@@ -285,11 +289,11 @@ SPRONDILU_MUST_USE
 uint64_t sprondilu_count(uint8_t n, const uint8_t *replies, size_t replies_len);
 
 /*
- * One reply as sprondilu_count_records takes it. From the 24 bytes of a reply of sprondilu_answer to message 1 or 2 whose
- * number is SPRONDILU_DONE: `box` is the byte at SPRONDILU_REPLY_BOX; `view` is the 4 bytes from SPRONDILU_REPLY_VIEW on and
- * `retry` the 8 from SPRONDILU_REPLY_VALUE on, as numbers whose first byte counts most; the byte at SPRONDILU_REPLY_STATE is
- * the state byte: if it is 1 to 4 it is `result`, and `is_final` is 0; if it is 5 to 8 `result` is 4 less, and `is_final`
- * is 1.
+ * One reply as sprondilu_count_records takes it. It is made of the 24 bytes of a reply of sprondilu_answer to message 1 or 2
+ * whose number is SPRONDILU_DONE. `box` is the byte at SPRONDILU_REPLY_BOX. `view` is the 4 bytes from SPRONDILU_REPLY_VIEW
+ * on, and `retry` the 8 from SPRONDILU_REPLY_VALUE on, as numbers whose first byte counts most. The byte at
+ * SPRONDILU_REPLY_STATE is the state byte. If it is 1 to 4, it is `result`, and `is_final` is 0. If it is 5 to 8, `result`
+ * is 4 less, and `is_final` is 1.
  */
 typedef struct sprondilu_record {
     uint8_t box;
@@ -309,13 +313,13 @@ SPRONDILU_ASSERT(sizeof(sprondilu_record) == 16, "a record has 16 bytes");
 SPRONDILU_ASSERT(SPRONDILU_ALIGN_OF(sprondilu_record) == 8, "a record is aligned to 8 bytes");
 
 /*
- * The count of sprondilu_count, of replies that are lent as an array of records instead of bytes. records_len is how many
- * there are, not how many bytes: any number, also none.
+ * Counts as sprondilu_count does, but takes the replies as an array of records instead of bytes. records_len is how many
+ * records there are, not how many bytes. It may be any number, also 0.
  *
- * The answer is the one that sprondilu_count gives for the same replies in the same order, SPRONDILU_COUNTED_BYTES each
- * with the numbers of these fields: every bit of it, refusals too, and the same may be done with it. A number that fits
- * its field may stand there, also one that breaks a rule. There are no replies cut short here, so no length is refused for
- * that; more than seven records are SPRONDILU_BAD_MESSAGE, whatever they are, since no group has so many boxes.
+ * Every bit of the answer, refusals too, is as sprondilu_count gives it for the same replies in the same order, laid out as
+ * bytes with the numbers of these fields. The same may be done with it. A field may have any number that fits it: one that
+ * breaks a rule is refused. No reply can be cut short here, so no length is refused for that. More than seven records are
+ * SPRONDILU_BAD_MESSAGE, whatever they are, since no group has so many boxes.
  * The padding of a record, its byte that is part of no field, is not looked at. No byte changes.
  */
 SPRONDILU_MUST_USE
