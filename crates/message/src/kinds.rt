@@ -10,7 +10,7 @@ ghost use Rattle.table.specs.Inner.Models.{modelOf};
 ghost use Rattle.message.specs.Messages.{prepareProposal, prepareFinal, outcomeProposal, outcomeFinal, viewChange, viewStart, registerRead, keepingRules, messageTo};
 ghost use Rattle.message.specs.Inner.MeantMessages.{meant, Coded};
 
-// A message that keeps every rule, by its fields. A body lies behind the counts, at 11 or 12; an image at 5.
+// A message that keeps every rule, by its fields. A body lies behind the counts, at `PREPARE_BODY` or `OUTCOME_BODY`; an image at 5.
 pub enum Message {
     ProposePrepare {
         stamp: u64,

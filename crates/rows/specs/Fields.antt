@@ -10,7 +10,7 @@ use Rattle.rules.specs.Stamps.{isStamp}
 use Rattle.rules.specs.Tables.{Result, Result.OK, Result.ABORT, Result.ABSTAIN, Result.RETRY, Prepare, Prepare.noPrepare, Prepare.tentative, Prepare.final, Verdict, Verdict.commit, Verdict.abort, Outcome, Outcome.noOutcome, Outcome.noted, Outcome.done, prepareCode, prepareRetry, outcomeCode, Row}
 use Rattle.rows.specs.declared.row.RowFields.{RowFields}
 
--- the bytes of a row's fields: what the widths below come to
+-- "Rows, 24 bytes each": what the widths below come to
 abbrev pub rowLength : ℕ
 rowLength = 24
 

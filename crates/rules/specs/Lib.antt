@@ -19,4 +19,5 @@ pub mod Check
 pub mod Merge
 -- 'The coordinator's count'
 pub mod Count
+-- words of laws alone
 pub mod Inner
