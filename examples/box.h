@@ -69,7 +69,7 @@ enum told {
     IN_DOUBT              /* a rule was broken, and it was not recorded by then: somebody has to see to it */
 };
 
-/* All that is known of one stamp. A coordinator that has lost a part of it leaves the stamp alone for good. */
+/* All that is known of one stamp. docs/FIRMWARE.md says what a coordinator may still do that has lost a part of it. */
 struct transaction {
     uint64_t stamp;
     struct body body;                /* rule 1: the only one that ever goes out under this stamp */
