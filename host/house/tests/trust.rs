@@ -48,6 +48,28 @@ fn every_file_of_specs_is_read() {
     }
 }
 
+/// The files of `rules` are in the order of document 01, which speaks of some things before it says what they are.
+#[test]
+fn a_file_uses_only_what_stands_above_it() {
+    let order = files();
+    let place = |file: &str| order.iter().position(|other| other == file);
+    let others = definitions()
+        .into_iter()
+        .filter(|d| !d.file.starts_with("rules/"));
+    for definition in others {
+        let here = place(&definition.file);
+        for (home, word) in &definition.names {
+            assert!(
+                place(home) <= here,
+                "{} names {}.{}",
+                definition.file,
+                home,
+                word
+            );
+        }
+    }
+}
+
 /// Otherwise a definition could be left out because its name was not understood.
 #[test]
 fn whatever_is_named_is_there() {

@@ -46,9 +46,13 @@ const OPENING: [&str; 3] = [
     "`tools/trust` writes this page from the tree, and a host test holds it to the tree. Nothing on it is written by hand.",
     "A proof is checked by a program, so nobody has to believe it. A definition is checked by its reader alone. Whoever relies on \
      the three promises has to believe that the definitions on this page say what document 01 says. Where one renders a sentence of \
-     document 01, the sentence is quoted beside it. No other definition has to be believed for the promises.",
-    "The list begins with what is promised, and goes on with every definition that is named there, and named in turn:",
+     document 01, the sentence is quoted above it in its file. No other definition has to be believed for the promises.",
+    "A definition is on this page if what is promised names it, or if a definition on this page does. This is promised:",
 ];
+
+/// How to go about it.
+const READING: &str = "Read the contracts first, and then the files of the list from the top. Those of `rules` are in the order of \
+    document 01. Of the others each uses only what stands above it.";
 
 /// An item of a list, its further lines under its first word.
 fn item(text: &str) -> String {
@@ -82,9 +86,10 @@ fn promised() -> Vec<String> {
 fn opening() -> String {
     let paragraphs = OPENING.map(wrapped);
     format!(
-        "# What a reader must believe\n\n{}\n\n{}\n",
+        "# What a reader must believe\n\n{}\n\n{}\n\n{}\n",
         paragraphs.join("\n\n"),
-        promised().join("\n")
+        promised().join("\n"),
+        wrapped(READING)
     )
 }
 
@@ -98,11 +103,13 @@ fn in_the_tree(all: &[Definition]) -> String {
         );
         format!("| {} | {} | {} |\n", what, count, lines)
     };
-    let words = "The tree shows the same. A file that stands in `specs/` of a crate itself has to be believed. A file in its folder \
-        `specs/Inner` has not: functions below a call speak of it, and laws about them. Three more places belong to statements beside \
-        the promises: the marked cases of document 01 (`cases`), the histories that are computed (`history_cases`), and what is proved \
-        beyond demand 3 (`crates/history/specs/Beyond.antt`). Only who wants those statements has to believe them. Lines are counted \
-        without comments.";
+    let words = "The tree shows the same. A file that stands in `specs/` of a crate itself has to be believed; `Lib.antt` and \
+        `Inner.antt` there only list files. No promise names a definition of the folder `specs/Inner`, directly or through another \
+        one, and a host test fails if one does. Functions below a call speak of these, and laws about them. If one of them were \
+        wrong, no promise would say anything else. Three more places belong to statements beside the promises: the marked cases of \
+        document 01 (`cases`), the histories that are computed (`history_cases`), and what is proved beyond demand 3 \
+        (`crates/history/specs/Beyond.antt`). Only who wants those statements has to believe them. Lines are counted without \
+        comments.";
     format!(
         "\n{}\n\n| where | definitions | lines |\n|---|---|---|\n{}{}{}",
         wrapped(words),
