@@ -7,5 +7,7 @@ pub mod Walks
 pub mod RowsRead
 pub mod Turns
 pub mod Sought
+pub mod HalvingSteps
+pub mod Halving
 pub mod Readers
 pub mod ReaderCalls

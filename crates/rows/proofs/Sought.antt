@@ -1,10 +1,10 @@
--- A stamp sought among rows from the first on, as the code does it, and that this finds its place.
+-- A stamp sought among rows from the first on, and that this finds its place. The code finds it by halving (Halving).
 use mathlib.Core.Path.{_≡_, refl, sym, ap, _∙_}
 use mathlib.Core.Bool.{Bool, true, false, cond}
 use mathlib.Core.List.{List, [], _∷_}
 use mathlib.Core.Logic.{_⊎_, inl, inr}
 use mathlib.Core.Option.{Option, none, some}
-use Prim.Native.Nat.{ℕ, zero, suc, _+_, _-_, _*_, _≤_, _<_}
+use Prim.Native.Nat.{ℕ, zero, suc, _+_, _*_, _≤_, _<_}
 use native.Mathlib.Nat.{add-zero, zero-add}
 use native.Mathlib.Omega.{arith}
 use lib.Dec.{eqb, ltb}
@@ -111,18 +111,7 @@ pub place-sought : (rows : List Row) (s : ℕ) → rising 0 rows ≡ true → pl
 unfolding placeOf found-at
 place-sought rows s rise = sym (sought-is 0 0 s rows rise ∙ rw zero-add)
 
--- ---- a turn of the loop, i rows passed
-
-pub sought-turn : (s : List ℕ) (begin n i stamp : ℕ) → i < n →
-    let here = fieldsAt s (begin + 24 * i) .stamp in
-    sought i (rowsAt s (begin + 24 * i) (n - i)) stamp
-    ≡ cond (eqb here stamp) (Held i) (cond (ltb stamp here) (Absent i) (sought (i + 1) (rowsAt s (begin + 24 * (i + 1)) (n - (i + 1))) stamp))
-unfolding sought rowsAt rowOf
-sought-turn s begin n i stamp h =
-    let e : n - i ≡ suc (n - (i + 1)) = omega arith in
-    let p : begin + 24 * (i + 1) ≡ begin + 24 * i + 24 = omega arith in
-    rw (e, p)
-
+-- no rows are left
 pub sought-end : (s : List ℕ) (at n i stamp : ℕ) → n ≡ 0 → sought i (rowsAt s at n) stamp ≡ Absent i
 unfolding sought rowsAt
 sought-end s at n i stamp e = rw e

@@ -17,23 +17,26 @@ pub enum Place {
     Absent { row: usize },
 }
 
-// Rows stand in the order of their stamps, so the first that is not lower settles it.
+// Rows stand in the order of their stamps, so of those that are left the one in the middle has the stamp, or tells on which side of it the search goes on.
 pub fn find(image: &[u8], begin: usize, rows: usize, stamp: u64) -> Place
     requires { ⌜ (begin + rowLength * rows ≤ length (now image)) × (rising 0 (rowsAt (now image) begin rows) ≡ true) ⌝ }
     ensures { λ r. ⌜ r ≡ placeOf (rowsAt (now (image .entry)) begin rows) stamp ⌝ }
 {
-    let mut i: usize = 0;
-    while i < rows {
-        let here = row::row_at(image, begin, i).stamp;
+    let mut low: usize = 0;
+    let mut high = rows;
+    while low < high {
+        let middle = low + (high - low) / 2;
+        let here = row::row_at(image, begin, middle).stamp;
         if here == stamp {
-            return Place::Held { row: i };
+            return Place::Held { row: middle };
         }
-        if stamp < here {
-            return Place::Absent { row: i };
+        if here < stamp {
+            low = middle + 1;
+        } else {
+            high = middle;
         }
-        i += 1;
     }
-    Place::Absent { row: rows }
+    Place::Absent { row: low }
 }
 
 // The body of the stamp's row, as the part of the lent image where it lies; an empty part if no row has the stamp.

@@ -1,68 +1,94 @@
--- The rows passed are lower: the search among the rest gives the whole answer, and for rising rows that is the place of the stamp (Sought).
-use mathlib.Core.Bool.{cond}
-use mathlib.Core.Path.{_≡_, sym, ap, _∙_}
-use Prim.Native.Nat.{_+_, _-_, _*_, _≤_}
-use native.Mathlib.Nat.{add-zero, sub-zero}
+-- What is sought between the two ends is what is sought among all rows, the row in the middle tells which of its sides is left, and each turn is one step of halving (Halving).
+use mathlib.Core.Path.{_≡_, sym, _∙_}
+use mathlib.Core.Bool.{true}
+use mathlib.Core.Logic.{⊎-elim}
+use Prim.Native.Nat.{_+_, _-_, _*_, _/_, _≤_, _<_}
+use native.Mathlib.Nat.{add-zero, sub-zero, eq-or-lt-of-le}
 use native.Mathlib.Omega.{arith}
-use lib.Dec.{eqb, ltb}
 use denote.Ref.{now}
-use Rattle.rules.proofs.Chains.{tests}
+use Rattle.rules.specs.Tables.{rising}
 use Rattle.rows.specs.Fields.{fieldsAt}
-use Rattle.rows.specs.declared.lookup.Place.the-variants.{Held, Absent}
 use Rattle.rows.specs.Inner.Places.{placeOf}
 use Rattle.rows.specs.Read.{rowsAt}
-use Rattle.rows.proofs.Sought.{sought, place-sought, sought-turn, sought-end}
+use Rattle.rows.proofs.Sought.{sought, place-sought, sought-end}
+use Rattle.rows.proofs.HalvingSteps.{steps}
+use Rattle.rows.proofs.Halving.{between, Turned, turn-here, turn-before, turn-behind}
 use Rattle.rows.proofs.lookup.find.Statement.{statement}
 use Rattle.rows.proofs.lookup.find.Tie as tie
 
 abbrev Inv-loop : tie.InvT-loop
-Inv-loop image begin rows stamp i₀ i = (i ≤ rows) × (placeOf (rowsAt image begin rows) stamp ≡ sought i (rowsAt image (begin + 24 * i) (rows - i)) stamp)
+Inv-loop image begin rows stamp low₀ high₀ low high =
+    (low ≤ high) × (high ≤ rows) × (rising 0 (between image begin low high) ≡ true) × (placeOf (rowsAt image begin rows) stamp ≡ sought low (between image begin low high) stamp)
 
+-- the steps that are left
 abbrev μ-loop : tie.MeasureT-loop
-μ-loop image begin rows stamp i₀ i = rows - i
-
--- what is left of the search, by the row at hand
-turn : (c : tie.In-loop Inv-loop μ-loop) →
-    let l = c .before in
-    let a = l .before .before .args in
-    let here = fieldsAt (now (a .image)) (a .begin + 24 * l .loop .i) .stamp in
-    let later = sought (l .loop .i + 1) (rowsAt (now (a .image)) (a .begin + 24 * (l .loop .i + 1)) (a .rows - (l .loop .i + 1))) (a .stamp) in
-    placeOf (rowsAt (now (a .image)) (a .begin) (a .rows)) (a .stamp)
-    ≡ cond (eqb here (a .stamp)) (Held (l .loop .i)) (cond (ltb (a .stamp) here) (Absent (l .loop .i)) later)
-turn c =
-    let l = c .before in
-    let a = l .before .before .args in
-    l .loop .inv .1 ∙ sought-turn (now (a .image)) (a .begin) (a .rows) (l .loop .i) (a .stamp) (c .loop-test .taken)
+μ-loop image begin rows stamp low₀ high₀ low high = steps (between image begin low high) stamp
 
 loop-holds : tie.Need-loop-holds Inv-loop μ-loop
 loop-holds c =
     let a = c .before .args in
-    (omega arith, rw (add-zero, sub-zero) (place-sought (rowsAt (now (a .image)) (a .begin) (a .rows)) (a .stamp) (c .before .pre .1)))
+    let rise = c .before .pre .1 in
+    (omega arith, omega arith, rw (add-zero, sub-zero) rise, rw (add-zero, sub-zero) (place-sought (rowsAt (now (a .image)) (a .begin) (a .rows)) (a .stamp) rise))
+
+sub-middle : tie.Need-sub-middle Inv-loop μ-loop
+sub-middle c = omega arith
+
+add-middle : tie.Need-add-middle Inv-loop μ-loop
+add-middle c = omega arith
 
 row-at-requires : tie.Need-row-at-requires Inv-loop μ-loop
 row-at-requires c κs = omega arith
 
 returns : tie.Need-returns Inv-loop μ-loop
-returns c = rw (turn (c .before .before)) (search (tests, ← c .before .row-at .ensures))
+returns c =
+    let l = c .before .before .before in
+    let a = l .before .before .args in
+    sym (l .loop .inv .3 ∙ turn-here (now (a .image)) (a .begin) (l .loop .low) (l .loop .high) _ (a .stamp) (omega arith) (omega arith) (l .loop .inv .2) (rw (c .before .row-at .ensures) at (c .if1 .taken)))
 
-returns-2 : tie.Need-returns-2 Inv-loop μ-loop
-returns-2 c = rw (turn (c .before .before .before)) (search (tests, ← c .before .before .row-at .ensures))
+add-low : tie.Need-add-low Inv-loop μ-loop
+add-low c = omega arith
 
-add-i : tie.Need-add-i Inv-loop μ-loop
-add-i c = omega arith
+-- the row in the middle is lower
+behind : (c : tie.Then2 Inv-loop μ-loop) →
+    let l = c .before .before .before .before in
+    let a = l .before .before .args in
+    Turned (now (a .image)) (a .begin) (a .stamp) (l .loop .low) (l .loop .high) (l .loop .low + (l .loop .high - l .loop .low) / 2 + 1) (l .loop .high)
+behind c =
+    let l = c .before .before .before .before in
+    let a = l .before .before .args in
+    turn-behind (now (a .image)) (a .begin) (l .loop .low) (l .loop .high) _ (a .stamp) (omega arith) (omega arith) (l .loop .inv .2) (omega arith) (rw (c .before .before .row-at .ensures) at (c .if2 .taken))
 
 loop-less : tie.Need-loop-less Inv-loop μ-loop
-loop-less c = omega arith
+loop-less c = let t = behind c .2 in omega arith
 
 loop-again : tie.Need-loop-again Inv-loop μ-loop
-loop-again c = (omega arith, turn (c .before .before .before) ∙ search (tests, ← c .before .before .row-at .ensures))
+loop-again c = let t = behind c in (omega arith, omega arith, t .0, c .before .before .before .before .loop .inv .3 ∙ t .1)
 
-returns-3 : tie.Need-returns-3 Inv-loop μ-loop
-returns-3 c =
+-- the row in the middle is greater, since it is neither equal nor lower
+before : (c : tie.Else2 Inv-loop μ-loop) →
+    let l = c .before .before .before .before in
+    let a = l .before .before .args in
+    Turned (now (a .image)) (a .begin) (a .stamp) (l .loop .low) (l .loop .high) (l .loop .low) (l .loop .low + (l .loop .high - l .loop .low) / 2)
+before c =
+    let l = c .before .before .before .before in
+    let a = l .before .before .args in
+    let here = fieldsAt (now (a .image)) (a .begin + 24 * (l .loop .low + (l .loop .high - l .loop .low) / 2)) .stamp in
+    let unlike : (here ≡ a .stamp) → ⊥ = rw (c .before .before .row-at .ensures) at (c .before .if1 .left) in
+    let least : a .stamp ≤ here = rw (c .before .before .row-at .ensures) at (c .if2 .left) in
+    let higher : a .stamp < here = ⊎-elim (λ e. absurd (unlike (sym e))) (λ l. l) (eq-or-lt-of-le least) in
+    turn-before (now (a .image)) (a .begin) (l .loop .low) (l .loop .high) _ (a .stamp) (omega arith) (omega arith) (l .loop .inv .2) (omega arith) higher
+
+loop-less-2 : tie.Need-loop-less-2 Inv-loop μ-loop
+loop-less-2 c = let t = before c .2 in omega arith
+
+loop-again-2 : tie.Need-loop-again-2 Inv-loop μ-loop
+loop-again-2 c = let t = before c in (omega arith, omega arith, t .0, c .before .before .before .before .loop .inv .3 ∙ t .1)
+
+returns-2 : tie.Need-returns-2 Inv-loop μ-loop
+returns-2 c =
     let l = c .before in
     let a = l .before .before .args in
-    let e : l .loop .i ≡ a .rows = omega arith in
-    sym (l .loop .inv .1 ∙ sought-end (now (a .image)) (a .begin + 24 * l .loop .i) (a .rows - l .loop .i) (l .loop .i) (a .stamp) (omega arith) ∙ ap Absent e)
+    sym (l .loop .inv .3 ∙ sought-end (now (a .image)) (a .begin + 24 * l .loop .low) (l .loop .high - l .loop .low) (l .loop .low) (a .stamp) (omega arith))
 
 pub find-spec : {M : Type 1} → statement M
 find-spec =
@@ -71,10 +97,13 @@ find-spec =
     Inv-loop
     μ-loop
     loop-holds
+    sub-middle
+    add-middle
     row-at-requires
     returns
-    returns-2
-    add-i
+    add-low
     loop-less
     loop-again
-    returns-3)
+    loop-less-2
+    loop-again-2
+    returns-2)
