@@ -1,10 +1,10 @@
-//! The body that a lookup hands out for a stamp, by the library as by the second program.
+//! The body that a lookup hands out for a stamp, by the library as by the second program, which finds it in a map.
 
 mod common;
 
 use common::{read, tables, SIZES};
 use samples::table::HEADER_LENGTH;
-use samples::{Dice, Row, Table, Tally};
+use samples::{random, Dice, Row, Table, Tally, GREATEST_STAMP, MOST_ROWS};
 use std::collections::BTreeSet;
 
 /// The longest body.
@@ -26,19 +26,23 @@ fn handed_out(dice: &mut Dice, lent: &[u8], rows: usize, stamp: u64) -> Vec<u8> 
     out[..length].to_vec()
 }
 
-/// Every lookup in one table, whose image has other bytes behind it.
-fn looked_up(dice: &mut Dice, table: &Table, met: &mut Tally) {
+/// The lengths of the bodies that are handed out for these stamps of one table, whose image has other bytes behind it.
+fn looked_up(dice: &mut Dice, table: &Table, stamps: &BTreeSet<u64>) -> Vec<usize> {
     let behind = dice.index(100);
     let lent = [table.image(), dice.bytes(behind)].concat();
     let before = lent.clone();
     let second = read(table);
-    for stamp in stamps_around(table) {
-        let held = second.rows.get(&stamp);
+    let mut lengths = Vec::new();
+    for stamp in stamps {
+        let held = second.rows.get(stamp);
         let body = held.map_or_else(Vec::new, |row| row.body.bytes());
-        assert_eq!(handed_out(dice, &lent, table.rows.len(), stamp), body);
-        met.count(&format!("{} bytes", body.len()), held.is_some());
+        let rows = table.rows.len();
+        let found = handed_out(dice, &lent, rows, *stamp);
+        assert_eq!(found, body, "stamp {} of {} rows", stamp, rows);
+        lengths.push(body.len());
     }
     assert_eq!(lent, before);
+    lengths
 }
 
 #[test]
@@ -47,9 +51,55 @@ fn a_lookup_hands_out_the_body_of_the_row_with_the_stamp() {
     let mut met = Tally::default();
     for rows in SIZES {
         for table in tables(&mut dice, rows) {
-            looked_up(&mut dice, &table, &mut met);
+            for length in looked_up(&mut dice, &table, &stamps_around(&table)) {
+                met.count(&format!("{} bytes", length), length > 0);
+            }
         }
     }
     // None, and the lengths of 1 to 8 accesses.
     met.assert_met(9, 100);
+}
+
+/// A table of so many rows whose stamps are so far apart, beginning with this one. Each row writes its own stamp, so that no
+/// two have the same body.
+fn spaced(dice: &mut Dice, rows: usize, first: u64, apart: u64) -> Table {
+    let row = |place: usize| {
+        let stamp = first + apart * place as u64;
+        let mut row = random::row(dice, stamp, (place % 4, 1 + place % 4));
+        row.writes[0].number = stamp;
+        row
+    };
+    Table::in_view_0((0..rows).map(row).collect())
+}
+
+/// Every stamp of the table, one before the first and one behind the last, and one in each gap between two of them.
+fn rows_and_gaps(table: &Table) -> BTreeSet<u64> {
+    let behind = |row: &Row| [row.stamp, row.stamp + 1];
+    let before = table.rows.first().map_or(1, |row| row.stamp - 1);
+    let rows = table.rows.iter().flat_map(behind);
+    rows.chain([before]).collect()
+}
+
+/// Each of these is looked up, in a table of so many rows with stamps so far apart.
+fn rows_and_gaps_looked_up(dice: &mut Dice, rows: usize, first: u64, apart: u64) {
+    let table = spaced(dice, rows, first, apart);
+    let lengths = looked_up(dice, &table, &rows_and_gaps(&table));
+    // Stamps side by side leave none but the two at the ends.
+    let gaps = if apart > 1 { rows + 1 } else { 2.min(rows + 1) };
+    let missing = lengths.iter().filter(|length| **length == 0);
+    assert_eq!(missing.count(), gaps);
+    assert_eq!(lengths.len(), rows + gaps);
+}
+
+#[test]
+fn every_row_and_every_gap_is_found() {
+    let mut dice = Dice::seeded(2);
+    for rows in [0, 1, 2, 3, MOST_ROWS - 1, MOST_ROWS] {
+        for apart in [1, 2, 3, GREATEST_STAMP / 1_000] {
+            let highest = GREATEST_STAMP - apart * rows.saturating_sub(1) as u64;
+            for first in [1, 1 + dice.below(highest), highest] {
+                rows_and_gaps_looked_up(&mut dice, rows, first, apart);
+            }
+        }
+    }
 }
