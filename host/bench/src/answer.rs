@@ -1,6 +1,6 @@
 //! A box's answer to a message of each kind: what all sides do to a full table.
 
-use crate::{Side, Work};
+use crate::{Side, Work, LIBRARY, SECOND, TWIN, WALK};
 use samples::{random, Dice, Table, GREATEST_STAMP, TABLE_BYTES};
 
 const REPLY_LENGTH: usize = 24;
@@ -23,6 +23,7 @@ pub struct Answering<const KIND: u8> {
 impl<const KIND: u8> Work for Answering<KIND> {
     const NAME: &'static str = name(KIND);
     const CALL: Option<&'static str> = Some("sprondilu_answer");
+    const SIDES: &'static [Side] = &[LIBRARY, TWIN, SECOND, WALK];
     const ABOUT: &'static str = about(KIND);
 
     fn of(rows: usize) -> Answering<KIND> {
@@ -90,9 +91,10 @@ const fn about(kind: u8) -> &'static str {
             "\
 `sprondilu_answer` of the library answers message 1 with a new stamp, against the same walks and moves in safe Rust.
 The input is a table by the rules whose rows are all committed and have 4 reads and 4 writes each, but for one row in
-the middle, which the message proposes. Half of the rows are passed by the search, half of them move, and the check
-looks at all. The rows are counted with the new one. Each side answers in its own copies of the table, which are made
-before the clock runs. The second program parses the table into one of its own, and writes the image out anew."
+the middle, which the message proposes. Half of the rows move, and the check looks at all. The rows are counted with
+the new one. Each side answers in its own copies of the table, which are made before the clock runs. The second
+program parses the table into one of its own, and writes the image out anew. Beside it stands, as walk, the twin with
+a search that walks the rows from the top."
         }
         2 => "Message 2 makes the prepare of the last row of such a table final.",
         3 => "Message 3 notes an outcome in the last row of such a table.",

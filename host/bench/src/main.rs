@@ -1,12 +1,12 @@
 //! The proved library beside its twin in plain safe Rust and beside the second program, in one run: validity of an image, a
-//! box's answer to a message of each kind, the merge, the coordinator's count, and a row added to a table. What matters are
-//! ratios: all sides are built for release and work on the same bytes on the same machine, in turns.
+//! box's answer to a message of each kind, the merge, the coordinator's count, a row added to a table, and a stamp searched in
+//! one. What matters are ratios: all sides are built for release and work on the same bytes on the same machine, in turns.
 //!
 //! `bench` measures times, has valgrind count instructions, looks how deep the library's calls go on the stack, and prints
 //! tables in Markdown. `bench WORK SIDE SIZE TIMES`, as `bench insert library 511 50`, only does that work so many times, on
-//! one side, for whoever counts its instructions. `bench stack` looks at the stack alone, and `bench gate LOG` prints the
-//! times that a log of the gate has. `tools/bench`
-//! does all of it.
+//! one side, for whoever counts its instructions. `bench stack` looks at the stack alone. `bench before PROGRAM` has the
+//! instructions of the library counted beside those of an earlier commit, whose `bench` is that program. `bench gate LOG`
+//! prints the times that a log of the gate has. `tools/bench` does all of it.
 
 mod answer;
 mod count;
@@ -14,6 +14,7 @@ mod gate;
 mod insert;
 mod instructions;
 mod merge;
+mod search;
 mod second;
 mod stack;
 mod tables;
@@ -25,8 +26,11 @@ use answer::Answering;
 use count::Counting;
 use insert::Inserting;
 use merge::Merging;
+use search::Searching;
+use std::path::Path;
 use std::{env, process};
 use times::Medians;
+use twin::search::{Halving, Walk};
 use valid::Judging;
 
 /// Work that all sides do on the same bytes.
@@ -62,8 +66,11 @@ pub trait Work {
 /// Adds a row to a table in its buffer, at an index.
 type AddRow = unsafe fn(&mut [u8], usize, &[u8]);
 
+/// Copies the body of a stamp's row out of an image of so many rows, and returns its length, 0 if there is no such row.
+type HeldBody = unsafe fn(&[u8], usize, u64, &mut [u8]) -> usize;
+
 /// A side of the comparison: its name, and its ways to judge lent bytes, to answer a message, to merge tables, to count
-/// replies in bytes, and, if it has them, to count replies as records and to add a row to a table.
+/// replies in bytes, and, if it has them, to count replies as records, to add a row to a table and to look a stamp up.
 #[derive(Clone, Copy)]
 pub struct Side {
     name: &'static str,
@@ -73,6 +80,7 @@ pub struct Side {
     count: fn(u8, &[u8]) -> u64,
     count_records: Option<fn(u8, &[boundary::Record]) -> u64>,
     add_row: Option<AddRow>,
+    held_body: Option<HeldBody>,
 }
 
 pub const LIBRARY: Side = Side {
@@ -83,16 +91,27 @@ pub const LIBRARY: Side = Side {
     count: boundary::count,
     count_records: Some(boundary::count_records),
     add_row: Some(trial::add_row),
+    held_body: Some(search::held_body),
 };
 
 pub const TWIN: Side = Side {
     name: "twin",
     valid_answer: twin::valid::valid_answer,
-    answer: twin::answer::answer,
-    merge: twin::merge::merge,
+    answer: twin::answer::answer::<Halving>,
+    merge: twin::merge::merge::<Halving>,
     count: twin::count::count,
     count_records: None,
     add_row: Some(twin::insert::add_row),
+    held_body: Some(twin::search::held_body::<Halving>),
+};
+
+/// The twin, but for its search for a stamp, which walks all rows from the top. So the library did before request P3.
+pub const WALK: Side = Side {
+    name: "walk",
+    answer: twin::answer::answer::<Walk>,
+    merge: twin::merge::merge::<Walk>,
+    held_body: Some(twin::search::held_body::<Walk>),
+    ..TWIN
 };
 
 pub const SECOND: Side = Side {
@@ -103,6 +122,7 @@ pub const SECOND: Side = Side {
     count: reference::count,
     count_records: Some(second::count_records),
     add_row: None,
+    held_body: None,
 };
 
 /// The twin, but for a merge by another algorithm.
@@ -154,7 +174,7 @@ pub struct Section {
     works: &'static [Named],
 }
 
-const SECTIONS: [Section; 7] = [
+const SECTIONS: [Section; 8] = [
     Section {
         heading: "Validity",
         works: &[named::<Judging>()],
@@ -205,6 +225,10 @@ const SECTIONS: [Section; 7] = [
         heading: "A row added at the front",
         works: &[named::<Inserting>()],
     },
+    Section {
+        heading: "A stamp searched",
+        works: &[named::<Searching<true>>(), named::<Searching<false>>()],
+    },
 ];
 
 fn works() -> impl Iterator<Item = &'static Named> {
@@ -220,11 +244,13 @@ fn main() {
         ([], _) => tables::print_all(&SECTIONS),
         (["gate", log], _) => gate::print(log),
         (["stack"], _) => tables::print_stack(),
+        (["before", program], _) => tables::print_before(Path::new(program)),
         ([_, side, size, times], Some(work)) => (work.one_side)(side, size, times),
         _ => {
             let names: Vec<&str> = works().map(|work| work.name).collect();
             refuse(&format!(
-                "give no word; or 'stack'; or 'gate' and a file; or one of {}, a side, a size and how often",
+                "give no word; or 'stack'; or 'before' and another bench; or 'gate' and a file; or one of {}, a side, a size \
+                 and how often",
                 names.join(", ")
             ))
         }

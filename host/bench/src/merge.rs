@@ -1,6 +1,6 @@
 //! The merge: what all sides make of the tables of f+1 boxes.
 
-use crate::{Side, Work, CURSORS, LIBRARY, SECOND, TWIN};
+use crate::{Side, Work, CURSORS, LIBRARY, SECOND, TWIN, WALK};
 use samples::{Access, Dice, Row, Table, TABLE_BYTES};
 
 const OK: u8 = 1;
@@ -18,7 +18,7 @@ pub struct Merging<const SAME: bool, const BOXES: u8> {
 impl<const SAME: bool, const BOXES: u8> Work for Merging<SAME, BOXES> {
     const NAME: &'static str = name(SAME, BOXES);
     const CALL: Option<&'static str> = Some("sprondilu_merge");
-    const SIDES: &'static [Side] = &[LIBRARY, TWIN, SECOND, CURSORS];
+    const SIDES: &'static [Side] = &[LIBRARY, TWIN, SECOND, CURSORS, WALK];
     const ABOUT: &'static str = about(SAME, BOXES);
 
     fn of(rows: usize) -> Merging<SAME, BOXES> {
@@ -89,8 +89,8 @@ in safe Rust. The input is one table by the rules, which f+1 boxes of the group 
 without an outcome, so that it is agreed and checked. Half of the rows have 4 reads and 4 writes, half one of each.
 Nearly all read what was written last, so that nearly all checks find OK. The rows are those of one table, the bytes
 those of all. Each side writes its own outputs. The second program parses the tables into some of its own. Beside it
-stands, as cursors, a merge in safe Rust that goes up all tables with a cursor in each, once to decide and once to
-write."
+stand, as cursors, a merge in safe Rust that goes up all tables with a cursor in each, once to decide and once to
+write, and, as walk, the twin with a search that walks the rows from the top."
         }
         (false, 3) => {
             "\

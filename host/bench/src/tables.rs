@@ -1,6 +1,7 @@
 //! All that is measured, printed as tables in Markdown.
 
-use crate::{instructions, stack, works, Named, Section, Side};
+use crate::{instructions, stack, works, Named, Section, Side, LIBRARY};
+use std::path::Path;
 
 const ROUNDS: usize = 101;
 
@@ -91,6 +92,44 @@ fn name_with_spread(name: &str, spread: f64) -> String {
     format!("{}, unsteady", name)
 }
 
+/// Instructions of the library beside those that it took in an earlier commit, by the benchmark of that commit. What that
+/// one cannot do has no line.
+pub fn print_before(program: &Path) {
+    let headings = [
+        "work",
+        "size",
+        "library instructions before",
+        "library instructions",
+        "instructions: library / before",
+    ];
+    let headings = headings.map(String::from);
+    print_row(&headings);
+    print_rule(&headings);
+    for work in works() {
+        for size in work.sizes {
+            eprintln!("bench: {} of {} {}, before", work.name, size, work.unit);
+            match instructions::by_program(program, work, &LIBRARY, size) {
+                Ok(before) => {
+                    let after = instructions::for_one(work, &LIBRARY, size);
+                    print_row(&before_and_after(work, size, before, after));
+                }
+                Err(why) => eprintln!("bench: no figure from before: {}", why),
+            }
+        }
+    }
+    println!();
+}
+
+fn before_and_after(work: &Named, size: usize, before: u64, after: u64) -> Vec<String> {
+    vec![
+        work.name.into(),
+        format!("{} {}", size, work.unit),
+        grouped(before as usize),
+        grouped(after as usize),
+        format!("{:.3}", after as f64 / before as f64),
+    ]
+}
+
 pub fn print_stack() {
     eprintln!("bench: the stack");
     println!("### Stack\n");
@@ -144,7 +183,7 @@ pub fn grouped(number: usize) -> String {
 
 #[cfg(test)]
 mod tests {
-    use super::{described, grouped, headings, name_with_spread, LINE};
+    use super::{before_and_after, described, grouped, headings, name_with_spread, LINE};
     use crate::works;
 
     const PAGE: &str = include_str!("../../../docs/BENCHMARKS.md");
@@ -189,6 +228,13 @@ mod tests {
     fn times_that_are_not_to_be_trusted_are_marked() {
         assert_eq!(name_with_spread("valid", 1.1), "valid");
         assert_eq!(name_with_spread("valid", 1.6), "valid, unsteady");
+    }
+
+    #[test]
+    fn the_ratio_is_what_is_taken_of_what_was_taken() {
+        let valid = works().next().expect("a work");
+        let line = before_and_after(valid, 512, 37_339_474, 11_933_392).join(" | ");
+        assert_eq!(line, "valid | 512 rows | 37,339,474 | 11,933,392 | 0.320");
     }
 
     #[test]

@@ -10,6 +10,7 @@ pub mod insert;
 pub mod merge;
 mod message;
 mod run;
+pub mod search;
 pub mod valid;
 
 const HEADER_LENGTH: usize = 24;

@@ -3,8 +3,9 @@
 use super::check::{check, newest, Transaction};
 use super::insert::add;
 use super::message::{self, Message};
+use super::search::Search;
 use super::valid::{image_length, Header, Row, MOST_ROWS};
-use super::{put_u32, put_u64, u64_at, HEADER_LENGTH, ROW_LENGTH};
+use super::{put_u32, put_u64, HEADER_LENGTH, ROW_LENGTH};
 
 pub(super) const TABLE_BYTES: usize = 49_176;
 const REPLY_LENGTH: usize = 24;
@@ -20,11 +21,11 @@ struct Done {
 type Answered = Result<Done, u8>;
 
 /// The table changed, the reply written; returns the number.
-pub fn answer(table: &mut [u8], message: &[u8], reply: &mut [u8]) -> u8 {
+pub fn answer<S: Search>(table: &mut [u8], message: &[u8], reply: &mut [u8]) -> u8 {
     if table.len() < TABLE_BYTES || reply.len() < REPLY_LENGTH {
         return 1;
     }
-    let answered = judged(table, message);
+    let answered = judged::<S>(table, message);
     let reply = &mut reply[..REPLY_LENGTH];
     reply.fill(0);
     match answered {
@@ -48,26 +49,28 @@ fn write(reply: &mut [u8], kind: u8, header: &Header, done: &Done) {
     put_u64(reply, 16, done.value);
 }
 
-fn judged(table: &mut [u8], message: &[u8]) -> Answered {
+fn judged<S: Search>(table: &mut [u8], message: &[u8]) -> Answered {
     image_length(table).ok_or(2)?;
     let header = Header::read(table);
     match message::read(message, header.n).ok_or(3)? {
         Message::ChangeView { view } => change_view(table, &header, view),
         Message::StartView { view, image } => start_view(table, &header, view, image),
         _ if header.mode == 1 => Err(4),
-        Message::ProposePrepare { new } => propose_prepare(table, &header, &new),
+        Message::ProposePrepare { new } => propose_prepare::<S>(table, &header, &new),
         Message::FinalisePrepare {
             stamp,
             view,
             result,
             retry,
-        } => finalise_prepare(table, &header, (stamp, view), (result, retry)),
-        Message::ProposeOutcome { verdict, new } => propose_outcome(table, &header, verdict, &new),
+        } => finalise_prepare::<S>(table, &header, (stamp, view), (result, retry)),
+        Message::ProposeOutcome { verdict, new } => {
+            propose_outcome::<S>(table, &header, verdict, &new)
+        }
         Message::FinaliseOutcome {
             stamp,
             view,
             verdict,
-        } => finalise_outcome(table, &header, (stamp, view), verdict),
+        } => finalise_outcome::<S>(table, &header, (stamp, view), verdict),
         Message::ReadRegister { stamp, register } => {
             let (stamp, value) = newest(table, header.rows as usize, stamp, register);
             let state = 0;
@@ -80,26 +83,12 @@ fn judged(table: &mut [u8], message: &[u8]) -> Answered {
     }
 }
 
-/// The index of the stamp's row, or else the one that its row would have.
-pub(super) fn find(table: &[u8], rows: u32, stamp: u64) -> Result<usize, usize> {
-    for index in 0..rows as usize {
-        let held = u64_at(table, HEADER_LENGTH + ROW_LENGTH * index);
-        if held == stamp {
-            return Ok(index);
-        }
-        if stamp < held {
-            return Err(index);
-        }
-    }
-    Err(rows as usize)
-}
-
 /// What messages 1 and 3 find: the row that holds the transaction, or else the index for a new row.
 type Found = Result<(usize, Row), usize>;
 
 /// Messages 1 and 3: the row of the stamp, if it is held with this body, or the place of a new one, if there is room.
-fn to_propose(table: &[u8], header: &Header, new: &Transaction) -> Result<Found, u8> {
-    match find(table, header.rows, new.stamp) {
+fn to_propose<S: Search>(table: &[u8], header: &Header, new: &Transaction) -> Result<Found, u8> {
+    match S::find(table, header.rows, new.stamp) {
         Ok(index) => {
             let row = Row::read(table, index);
             let same = (row.reads, row.writes) == (new.reads, new.writes);
@@ -114,7 +103,7 @@ fn to_propose(table: &[u8], header: &Header, new: &Transaction) -> Result<Found,
 }
 
 /// Messages 2 and 4: the row of the stamp, in a box that is in that view.
-fn to_finalise(
+fn to_finalise<S: Search>(
     table: &[u8],
     header: &Header,
     (stamp, view): (u64, u32),
@@ -122,12 +111,12 @@ fn to_finalise(
     if view != header.view {
         return Err(9);
     }
-    let index = find(table, header.rows, stamp).map_err(|_| 8)?;
+    let index = S::find(table, header.rows, stamp).map_err(|_| 8)?;
     Ok((index, Row::read(table, index)))
 }
 
-fn propose_prepare(table: &mut [u8], header: &Header, new: &Transaction) -> Answered {
-    let (prepare, retry) = match to_propose(table, header, new)? {
+fn propose_prepare<S: Search>(table: &mut [u8], header: &Header, new: &Transaction) -> Answered {
+    let (prepare, retry) = match to_propose::<S>(table, header, new)? {
         Ok((_, row)) if row.prepare != 0 => (row.prepare, row.retry),
         Ok((index, row)) => {
             let prepare = if matches!(row.outcome, 1 | 3) { 1 } else { 2 };
@@ -147,13 +136,13 @@ fn propose_prepare(table: &mut [u8], header: &Header, new: &Transaction) -> Answ
     })
 }
 
-fn finalise_prepare(
+fn finalise_prepare<S: Search>(
     table: &mut [u8],
     header: &Header,
     which: (u64, u32),
     (result, retry): (u8, u64),
 ) -> Answered {
-    let (index, row) = to_finalise(table, header, which)?;
+    let (index, row) = to_finalise::<S>(table, header, which)?;
     if row.prepare == 0 {
         return Err(8);
     }
@@ -168,8 +157,13 @@ fn finalise_prepare(
     })
 }
 
-fn propose_outcome(table: &mut [u8], header: &Header, verdict: u8, new: &Transaction) -> Answered {
-    let outcome = match to_propose(table, header, new)? {
+fn propose_outcome<S: Search>(
+    table: &mut [u8],
+    header: &Header,
+    verdict: u8,
+    new: &Transaction,
+) -> Answered {
+    let outcome = match to_propose::<S>(table, header, new)? {
         Ok((_, row)) if is_opposite(row.outcome, verdict) => return Err(6),
         Ok((_, row)) if row.outcome != 0 => row.outcome,
         Ok((index, _)) => {
@@ -188,8 +182,13 @@ fn propose_outcome(table: &mut [u8], header: &Header, verdict: u8, new: &Transac
     })
 }
 
-fn finalise_outcome(table: &mut [u8], header: &Header, which: (u64, u32), verdict: u8) -> Answered {
-    let (index, row) = to_finalise(table, header, which)?;
+fn finalise_outcome<S: Search>(
+    table: &mut [u8],
+    header: &Header,
+    which: (u64, u32),
+    verdict: u8,
+) -> Answered {
+    let (index, row) = to_finalise::<S>(table, header, which)?;
     if row.outcome == 0 {
         return Err(8);
     }
@@ -263,18 +262,25 @@ fn add_row(
 
 #[cfg(test)]
 mod tests {
+    use super::super::search::{Halving, Walk};
     use super::{answer, TABLE_BYTES};
     use samples::{random, Dice, Row, Table, GREATEST_STAMP, MOST_ROWS};
 
-    /// The number for a message to a table in a buffer, on which the twin and the second program have to agree, as on every
-    /// byte.
+    type Answer = fn(&mut [u8], &[u8], &mut [u8]) -> u8;
+
+    /// The number for a message to a table in a buffer, on which both twins and the second program have to agree, as on
+    /// every byte.
     fn answered(table: &[u8], message: &[u8], reply_length: usize) -> u8 {
-        let mut by_twin = (table.to_vec(), vec![0xee; reply_length]);
-        let mut by_second = by_twin.clone();
+        let lent = (table.to_vec(), vec![0xee; reply_length]);
+        let mut by_second = lent.clone();
         let number = reference::answer(&mut by_second.0, message, &mut by_second.1);
-        let found = answer(&mut by_twin.0, message, &mut by_twin.1);
-        assert_eq!(found, number, "message {:02x?}", message);
-        assert!(by_twin == by_second, "number {}: {:02x?}", number, message);
+        let twins: [Answer; 2] = [answer::<Halving>, answer::<Walk>];
+        for (twin, answer) in twins.iter().enumerate() {
+            let mut by_twin = lent.clone();
+            let found = answer(&mut by_twin.0, message, &mut by_twin.1);
+            assert_eq!(found, number, "twin {}: {:02x?}", twin, message);
+            assert!(by_twin == by_second, "twin {}: {:02x?}", twin, message);
+        }
         number
     }
 
@@ -332,7 +338,7 @@ mod tests {
     }
 
     #[test]
-    fn the_twin_answers_as_the_second_program() {
+    fn both_twins_answer_as_the_second_program() {
         let mut dice = Dice::seeded(1);
         let mut met = [0; 11];
         for turn in 0..30_000 {

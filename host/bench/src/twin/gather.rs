@@ -1,29 +1,31 @@
 //! What the used tables of a run hold of one stamp, as the proved library gathers it: each question walks the run again and
 //! looks the stamp up in every table of the newest view.
 
-use super::answer::find;
 use super::run::Images;
+use super::search::Search;
 use super::valid::{Header, Row};
 use super::{u64_at, HEADER_LENGTH, ROW_LENGTH};
+use std::marker::PhantomData;
 
 /// A final prepare byte is above it, a tentative one is not.
 pub(super) const GREATEST_TENTATIVE: u8 = 4;
 
-/// The used tables of a run: those of the newest view.
+/// The used tables of a run, those of the newest view, in which stamps are found by this search.
 #[derive(Clone, Copy)]
-pub(super) struct Used<'a> {
+pub(super) struct Used<'a, S> {
     pub(super) run: &'a [u8],
     pub(super) newest: u32,
+    pub(super) search: PhantomData<S>,
 }
 
-impl<'a> Used<'a> {
+impl<'a, S: Search> Used<'a, S> {
     /// The row of a stamp in an image, if the image is used and holds it.
     fn row_in(self, image: &[u8], stamp: u64) -> Option<Row> {
         let header = Header::read(image);
         if header.view != self.newest {
             return None;
         }
-        let index = find(image, header.rows, stamp).ok()?;
+        let index = S::find(image, header.rows, stamp).ok()?;
         Some(Row::read(image, index))
     }
 
@@ -49,7 +51,7 @@ impl<'a> Used<'a> {
         if header.view != self.newest {
             return None;
         }
-        let (Ok(index) | Err(index)) = find(image, header.rows, last + 1);
+        let (Ok(index) | Err(index)) = S::find(image, header.rows, last + 1);
         let at = HEADER_LENGTH + ROW_LENGTH * index;
         (index < header.rows as usize).then(|| u64_at(image, at))
     }

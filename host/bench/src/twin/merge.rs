@@ -5,8 +5,10 @@ use super::answer::{put_prepare, TABLE_BYTES};
 use super::check::{check, Transaction};
 use super::gather::{State, Used};
 use super::run::{agreement, are_wrong, is_whole, newest_view};
+use super::search::Search;
 use super::valid::{Row, MOST_ROWS};
 use super::{put_u32, put_u64, u32_at, HEADER_LENGTH, ROW_LENGTH};
+use std::marker::PhantomData;
 
 const OK: u8 = 1;
 const FINAL_OK: u8 = 5;
@@ -15,7 +17,7 @@ const FINAL_ABORT: u8 = 6;
 const FINAL: u8 = 4;
 
 /// The output written, if nothing refuses it; returns the number.
-pub fn merge(run: &[u8], view: u32, out: &mut [u8]) -> u8 {
+pub fn merge<S: Search>(run: &[u8], view: u32, out: &mut [u8]) -> u8 {
     if out.len() < TABLE_BYTES {
         return 1;
     }
@@ -25,8 +27,11 @@ pub fn merge(run: &[u8], view: u32, out: &mut [u8]) -> u8 {
     if are_wrong(run, view) {
         return 11;
     }
-    let newest = newest_view(run);
-    let used = Used { run, newest };
+    let used = Used::<S> {
+        run,
+        newest: newest_view(run),
+        search: PhantomData,
+    };
     let seen = survey(used);
     let number = seen.number();
     if number == 0 {
@@ -58,7 +63,7 @@ impl Survey {
     }
 }
 
-fn survey(used: Used) -> Survey {
+fn survey<S: Search>(used: Used<S>) -> Survey {
     let mut seen = Survey::default();
     let mut next = used.next_stamp(0);
     while let Some(stamp) = next {
@@ -81,7 +86,7 @@ pub(super) fn put_header(out: &mut [u8], n: u8, view: u32, rows: u32, end: usize
 }
 
 /// The rows of all stamps, as many as `rows`, with their bodies behind; returns where the last body ends.
-fn write_rows(out: &mut [u8], used: Used, agreement: usize, rows: usize) -> usize {
+fn write_rows<S: Search>(out: &mut [u8], used: Used<S>, agreement: usize, rows: usize) -> usize {
     let mut due = HEADER_LENGTH + ROW_LENGTH * rows;
     let mut index = 0;
     let mut next = used.next_stamp(0);
@@ -93,11 +98,11 @@ fn write_rows(out: &mut [u8], used: Used, agreement: usize, rows: usize) -> usiz
     due
 }
 
-fn write_stamp(
+fn write_stamp<S: Search>(
     out: &mut [u8],
     index: usize,
     due: usize,
-    used: Used,
+    used: Used<S>,
     stamp: u64,
     agreement: usize,
 ) -> usize {
@@ -146,7 +151,7 @@ pub(super) fn unchecked(state: &State, agreed: impl FnOnce() -> Option<(u8, u64)
 }
 
 /// One turn of the checks, in rising order: the agreed rows, or the open ones.
-fn check_rows(out: &mut [u8], used: Used, agreement: usize, open: bool) {
+fn check_rows<S: Search>(out: &mut [u8], used: Used<S>, agreement: usize, open: bool) {
     let rows = u32_at(out, 4) as usize;
     for index in 0..rows {
         let row = Row::read(out, index);
@@ -169,6 +174,7 @@ pub(super) fn check_row(out: &mut [u8], rows: usize, index: usize) {
 #[cfg(test)]
 mod tests {
     use super::super::cursors;
+    use super::super::search::{Halving, Walk};
     use super::{merge, TABLE_BYTES};
     use samples::{message, random, transactions, Dice, Row, Table, MOST_ROWS};
 
@@ -176,11 +182,11 @@ mod tests {
 
     type Merge = fn(&[u8], u32, &mut [u8]) -> u8;
 
-    /// The number for a run, on which both twins and the second program have to agree, as on every byte of the output.
+    /// The number for a run, on which all twins and the second program have to agree, as on every byte of the output.
     fn merged(run: &[u8], length: usize) -> u8 {
         let mut by_second = vec![0xee; length];
         let number = reference::merge(run, VIEW, &mut by_second);
-        let twins: [Merge; 2] = [merge, cursors::merge];
+        let twins: [Merge; 3] = [merge::<Halving>, merge::<Walk>, cursors::merge];
         for (twin, merge) in twins.iter().enumerate() {
             let mut out = vec![0xee; length];
             assert_eq!(merge(run, VIEW, &mut out), number, "twin {}", twin);
@@ -232,7 +238,7 @@ mod tests {
     }
 
     #[test]
-    fn both_twins_merge_as_the_second_program() {
+    fn all_twins_merge_as_the_second_program() {
         let mut dice = Dice::seeded(1);
         let mut met = [0; 12];
         for turn in 0..30_000 {
