@@ -81,6 +81,9 @@ Turned s begin stamp low high low′ high′ =
 
 -- a row between the two ends, among rows that rise
 module _ (s : List ℕ) (begin low high middle stamp : ℕ) (after : low ≤ middle) (below : middle < high) (rise : rising 0 (between s begin low high) ≡ true) where
+  abbrev row : Row
+  row = rowOf s (fieldsAt s (begin + 24 * middle))
+
   abbrev here : ℕ
   here = fieldsAt s (begin + 24 * middle) .stamp
 
@@ -90,42 +93,40 @@ module _ (s : List ℕ) (begin low high middle stamp : ℕ) (after : low ≤ mid
   abbrev behind : List Row
   behind = between s begin (middle + 1) high
 
-  split : between s begin low high ≡ before ++ (rowOf s (fieldsAt s (begin + 24 * middle)) ∷ behind)
+  split : between s begin low high ≡ before ++ (row ∷ behind)
   split =
       let e : high - low ≡ middle - low + suc (high - (middle + 1)) = omega arith in
       let p : begin + 24 * low + 24 * (middle - low) ≡ begin + 24 * middle = omega arith in
       let q : begin + 24 * middle + 24 ≡ begin + 24 * (middle + 1) = omega arith in
       rw e (rw (p, q) at (rows-split s (begin + 24 * low) (middle - low) (high - (middle + 1))))
 
+  length-before : length before ≡ middle - low
+  length-before = length-rowsAt s (begin + 24 * low) (middle - low)
+
   pub turn-here : here ≡ stamp → sought low (between s begin low high) stamp ≡ Held middle
   unfolding rowOf
   turn-here e =
-      let n = length-rowsAt s (begin + 24 * low) (middle - low) in
       let z : low + (middle - low) ≡ middle = omega arith in
-      rw split (rw (n, z) at (sought-here low 0 stamp before _ behind (rw split at rise) e))
+      rw split (rw (length-before, z) at (sought-here low 0 stamp before row behind (rw split at rise) e))
 
-  -- it has half of them before it
+  -- the row has half of them before it, rounded down
   module _ (half : middle - low ≡ (high - low) / 2) where
     parts : (0 < here) × (rising 0 before ≡ true) × (rising 0 behind ≡ true)
     unfolding rowOf
-    parts = rising-midst 0 before _ behind (rw split at rise)
+    parts = rising-midst 0 before row behind (rw split at rise)
 
-    in-the-middle : length (before ++ (rowOf s (fieldsAt s (begin + 24 * middle)) ∷ behind)) / 2 ≡ length before
-    in-the-middle =
-        let n = length-rowsAt s (begin + 24 * low) (high - low) in
-        let m = length-rowsAt s (begin + 24 * low) (middle - low) in
-        rw (← split, n, m) (omega arith)
+    halved : length (before ++ (row ∷ behind)) / 2 ≡ length before
+    halved = let n = length-rowsAt s (begin + 24 * low) (high - low) in rw (← split, n, length-before) (omega arith)
 
     pub turn-before : stamp < here → Turned s begin stamp low high low middle
     unfolding rowOf
-    turn-before h = (parts .1, rw split (sought-before low stamp before _ behind h), rw split (steps-before stamp before _ behind in-the-middle h))
+    turn-before h = (parts .1, rw split (sought-before low stamp before row behind h), rw split (steps-before stamp before row behind halved h))
 
     pub turn-behind : here < stamp → Turned s begin stamp low high (middle + 1) high
     unfolding rowOf
     turn-behind h =
-        let n = length-rowsAt s (begin + 24 * low) (middle - low) in
         let z : low + (middle - low) + 1 ≡ middle + 1 = omega arith in (
           parts .2,
-          rw split (rw (n, z) at (sought-behind low 0 stamp before _ behind (rw split at rise) h)),
-          rw split (steps-behind stamp before _ behind in-the-middle h),
+          rw split (rw (length-before, z) at (sought-behind low 0 stamp before row behind (rw split at rise) h)),
+          rw split (steps-behind stamp before row behind halved h),
         )

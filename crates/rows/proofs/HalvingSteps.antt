@@ -10,17 +10,17 @@ use lib.ListN.{length, length-append, take, drop, length-take, length-drop}
 use borrow.Author.Tests.{lt-ltb, le-ltb, ne-eqb}
 use Rattle.rules.specs.Tables.{Row}
 
--- the row in the middle is compared: it has the stamp, or the search goes on behind it, or before it. Of no rows none is compared
+-- how many rows are compared: of no rows none, else the one in the middle, and, if it has not the stamp, those behind it or those before it
 abbrev pub compared : ℕ → (List Row → ℕ) → List Row → List Row → ℕ
 compared s goOn before [] = 0
 compared s goOn before (r ∷ behind) = 1 + cond (eqb (r .stamp) s) 0 (cond (ltb (r .stamp) s) (goOn behind) (goOn before))
 
--- so many turns at most
+-- how many are compared in so many turns at most; the one in the middle has half as many before it, rounded down
 unfoldable pub halving : ℕ → List Row → ℕ → ℕ
 halving zero rows s = 0
 halving (suc turns) rows s = compared s (λ part. halving turns part s) (take (length rows / 2) rows) (drop (length rows / 2) rows)
 
--- as many turns as there are rows are always enough
+-- how many rows halving compares; as many turns as there are rows are always enough
 unfoldable pub steps : List Row → ℕ → ℕ
 steps rows s = halving (length rows) rows s
 
@@ -52,7 +52,7 @@ turns-enough (suc a) (suc b) s rows l m = go (drop half rows) refl (λ part p q.
 
 -- ---- a turn: the row in the middle is lower, or greater
 
-module _ (s : ℕ) (before : List Row) (r : Row) (behind : List Row) (middle : length (before ++ (r ∷ behind)) / 2 ≡ length before) where
+module _ (s : ℕ) (before : List Row) (r : Row) (behind : List Row) (halved : length (before ++ (r ∷ behind)) / 2 ≡ length before) where
   abbrev rows : List Row
   rows = before ++ (r ∷ behind)
 
@@ -60,8 +60,8 @@ module _ (s : ℕ) (before : List Row) (r : Row) (behind : List Row) (middle : l
   unfolding steps halving
   parted =
       let n : length rows ≡ suc (length before + length behind) = length-append before (r ∷ behind) ∙ omega arith in
-      let t : take (length rows / 2) rows ≡ before = take-at before (r ∷ behind) _ (sym middle) in
-      let d : drop (length rows / 2) rows ≡ r ∷ behind = drop-at before (r ∷ behind) _ (sym middle) in
+      let t : take (length rows / 2) rows ≡ before = take-at before (r ∷ behind) _ (sym halved) in
+      let d : drop (length rows / 2) rows ≡ r ∷ behind = drop-at before (r ∷ behind) _ (sym halved) in
       rw (t, d) at (ap (λ turns. halving turns rows s) n)
 
   pub steps-behind : r .stamp < s → steps rows s ≡ 1 + steps behind s

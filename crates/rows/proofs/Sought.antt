@@ -47,8 +47,8 @@ none-lower low s (r ∷ rs) h rise =
     let i = none-lower (r .stamp) s rs (omega arith) (both-right _ _ rise) in
     (rw (held-cons r rs s, ne-eqb (r .stamp) s (λ e. absurd (omega arith))) (i .0), rw (lower-cons r rs s, le-ltb (r .stamp) s (omega arith)) (i .1))
 
-compared : (a b : ℕ) → (a < b) ⊎ ((a ≡ b) ⊎ (b < a))
-compared a b = go (cases (ltb a b)) (cases (ltb b a))
+ordered : (a b : ℕ) → (a < b) ⊎ ((a ≡ b) ⊎ (b < a))
+ordered a b = go (cases (ltb a b)) (cases (ltb b a))
   where
     go : (ltb a b ≡ true) ⊎ (ltb a b ≡ false) → (ltb b a ≡ true) ⊎ (ltb b a ≡ false) → (a < b) ⊎ ((a ≡ b) ⊎ (b < a))
     go (inl p) q = inl (ltb-true a b p)
@@ -100,7 +100,7 @@ module _ (i s : ℕ) (r : Row) (rs : List Row) (rise : rising (r .stamp) rs ≡ 
 sought-is : (i low s : ℕ) (rows : List Row) → rising low rows ≡ true → found-at i s rows
 unfolding found-at sought rising held firstOf lower count
 sought-is i low s [] rise = ap Absent (sym (add-zero i))
-sought-is i low s (r ∷ rs) rise = go (compared (r .stamp) s) (both-right _ _ rise) (λ above. sought-is (i + 1) (r .stamp) s rs above)
+sought-is i low s (r ∷ rs) rise = go (ordered (r .stamp) s) (both-right _ _ rise) (λ above. sought-is (i + 1) (r .stamp) s rs above)
   where
     go : (r .stamp < s) ⊎ ((r .stamp ≡ s) ⊎ (s < r .stamp)) → rising (r .stamp) rs ≡ true → (rising (r .stamp) rs ≡ true → found-at (i + 1) s rs) → found-at i s (r ∷ rs)
     go (inl h) above later = found-below i s r rs above h (later above)
@@ -111,7 +111,8 @@ pub place-sought : (rows : List Row) (s : ℕ) → rising 0 rows ≡ true → pl
 unfolding placeOf found-at
 place-sought rows s rise = sym (sought-is 0 0 s rows rise ∙ rw zero-add)
 
--- no rows are left
+-- ---- no rows are left
+
 pub sought-end : (s : List ℕ) (at n i stamp : ℕ) → n ≡ 0 → sought i (rowsAt s at n) stamp ≡ Absent i
 unfolding sought rowsAt
 sought-end s at n i stamp e = rw e

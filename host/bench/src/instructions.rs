@@ -1,40 +1,45 @@
-//! Instructions of each side for a work, as valgrind's callgrind counts them in runs of this very program.
+//! Instructions of each side for a work, as valgrind's callgrind counts them in runs of this program, or of that of another
+//! commit.
 
 use crate::{refuse, Named, Side};
 use std::env;
 use std::path::Path;
 use std::process::Command;
 
+/// The status with which a benchmark ends that does not know its words.
+const REFUSED: i32 = 2;
+
 /// Those of a side for doing a work of this size once: what the program does besides is taken off, as a run that does it
 /// not at all has it.
 pub fn for_one(work: &Named, side: &Side, size: usize) -> u64 {
     let program = env::current_exe().expect("the path of this program");
-    match by_program(&program, work, side, size) {
-        Ok(instructions) => instructions,
-        Err(why) => refuse(&why),
-    }
+    let counted = by_program(&program, work, side, size);
+    counted.unwrap_or_else(|| refuse("this program does not know its own works"))
 }
 
-/// The same by another program, which may be one of another commit and may not know the work.
-pub fn by_program(program: &Path, work: &Named, side: &Side, size: usize) -> Result<u64, String> {
+/// The same by a given program, which may be of another commit. None if that one does not know the work.
+pub fn by_program(program: &Path, work: &Named, side: &Side, size: usize) -> Option<u64> {
     let times = (work.times_counted)(size);
     let of_run = |times: usize| {
         let (size, times) = (size.to_string(), times.to_string());
         of_run(program, &[work.name, side.name, &size, &times])
     };
-    Ok((of_run(times)? - of_run(0)?) / times as u64)
+    Some((of_run(times)? - of_run(0)?) / times as u64)
 }
 
-/// All instructions of a run with these words.
-fn of_run(program: &Path, words: &[&str]) -> Result<u64, String> {
+/// All instructions of a run with these words, or none if the program refuses them.
+fn of_run(program: &Path, words: &[&str]) -> Option<u64> {
     let mut valgrind = Command::new("valgrind");
     valgrind.args(["--tool=callgrind", "--callgrind-out-file=/dev/null"]);
-    let ran = valgrind.arg(program).args(words).output();
-    let ran = ran.map_err(|error| format!("valgrind, of the package of that name: {}", error))?;
+    let ran = match valgrind.arg(program).args(words).output() {
+        Ok(ran) => ran,
+        Err(error) => refuse(&format!("valgrind, of the package of that name: {}", error)),
+    };
     let said = String::from_utf8_lossy(&ran.stderr);
-    match collected(&said) {
-        Some(instructions) if ran.status.success() => Ok(instructions),
-        _ => Err(format!("valgrind did not count {:?}: {}", words, said)),
+    match (ran.status.code(), collected(&said)) {
+        (Some(0), Some(instructions)) => Some(instructions),
+        (Some(REFUSED), Some(_)) => None,
+        _ => refuse(&format!("valgrind did not count {:?}: {}", words, said)),
     }
 }
 

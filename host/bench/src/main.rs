@@ -105,7 +105,7 @@ pub const TWIN: Side = Side {
     held_body: Some(twin::search::held_body::<Halving>),
 };
 
-/// The twin, but for its search for a stamp, which walks all rows from the top. So the library did before request P3.
+/// The twin, but for its search for a stamp, which walks the rows from the top, as the library did before request P3.
 pub const WALK: Side = Side {
     name: "walk",
     answer: twin::answer::answer::<Walk>,

@@ -32,7 +32,8 @@ impl<const LAST: bool> Work for Searching<LAST> {
 `trial_held_body`, which is no public call, looks the stamp of the last row up in a table and copies its body out,
 against the same in safe Rust. The input is a table by the rules whose rows have 4 reads and 4 writes each. Beside it
 stands, as walk, the twin with a search that walks the rows from the top. The second program has no search, since it
-keeps rows in a map of the language. The bytes are those of all rows, without their bodies."
+keeps rows in a map of Rust's library. The bytes are those of all rows without their bodies, of which halving reads
+few."
     } else {
         "\
 The same sides look a stamp up that the table does not hold, between the two rows in its middle. The walk passes half
@@ -58,7 +59,7 @@ of the rows."
         }
     }
 
-    /// A search is over in less than a microsecond, and what it is done on is the same each time.
+    /// A search is over in less than a microsecond, and its table is the same each time.
     fn times_a_round(_: usize) -> usize {
         1_000
     }
@@ -86,6 +87,7 @@ of the rows."
 
     fn assert_done(&self, side: Side) {
         for (out, length) in &self.found {
+            // No body has one byte, so a length that does not fit the buffer is another row.
             let body = out.get(..*length).unwrap_or(&[0]);
             assert!(body == self.body, "{} found another row", side.name);
         }

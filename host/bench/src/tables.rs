@@ -92,8 +92,8 @@ fn name_with_spread(name: &str, spread: f64) -> String {
     format!("{}, unsteady", name)
 }
 
-/// Instructions of the library beside those that it took in an earlier commit, by the benchmark of that commit. What that
-/// one cannot do has no line.
+/// Instructions of the library beside those that it took in an earlier commit, by the benchmark of that commit. A work that
+/// it does not know has no line.
 pub fn print_before(program: &Path) {
     let headings = [
         "work",
@@ -109,11 +109,11 @@ pub fn print_before(program: &Path) {
         for size in work.sizes {
             eprintln!("bench: {} of {} {}, before", work.name, size, work.unit);
             match instructions::by_program(program, work, &LIBRARY, size) {
-                Ok(before) => {
+                Some(before) => {
                     let after = instructions::for_one(work, &LIBRARY, size);
                     print_row(&before_and_after(work, size, before, after));
                 }
-                Err(why) => eprintln!("bench: no figure from before: {}", why),
+                None => eprintln!("bench: that commit did not have this work"),
             }
         }
     }

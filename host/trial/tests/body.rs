@@ -80,7 +80,7 @@ fn rows_and_gaps(table: &Table) -> BTreeSet<u64> {
     rows.chain([before]).collect()
 }
 
-/// Each of these is looked up, in a table of so many rows with stamps so far apart.
+/// Every row and every gap is looked up, of a table of so many rows with stamps so far apart.
 fn rows_and_gaps_looked_up(dice: &mut Dice, rows: usize, first: u64, apart: u64) {
     let table = spaced(dice, rows, first, apart);
     let lengths = looked_up(dice, &table, &rows_and_gaps(&table));

@@ -1,4 +1,4 @@
--- What is sought between the two ends is what is sought among all rows, the row in the middle tells which of its sides is left, and each turn is one step of halving (Halving).
+-- What is sought between the two ends is what is sought among all rows. The row in the middle tells which of its sides is left, and a turn that goes on is one step of halving (Halving).
 use mathlib.Core.Path.{_≡_, sym, _∙_}
 use mathlib.Core.Bool.{true}
 use mathlib.Core.Logic.{⊎-elim}
