@@ -4,4 +4,5 @@ pub mod Asked
 pub mod AnswerCall
 pub mod AnswerWays
 pub mod AnswerFull
+pub mod AnswerCompared
 pub mod Responding

@@ -33,9 +33,10 @@ use Rattle.seek.proofs.HeldRows.{image-holds, image-regular}
 use Rattle.transact.specs.declared.reply.Reply.{Reply}
 use Rattle.transact.specs.Replies.{replyAs, replyBytes}
 use Rattle.transact.specs.Inner.Served.{servedNumber, served}
-use Rattle.answer.specs.Inner.BoxAnswers.{answerTo, answerReply, answerBuffer, heard, heardReply, heardBuffer}
-use Rattle.answer.specs.Calls.{callNumber, callTable, callReply, changeBy}
+use Rattle.answer.specs.Inner.BoxAnswers.{answerTo, answerReply, answerBuffer, answerCompared, heard, heardReply, heardBuffer, heardCompared}
+use Rattle.answer.specs.Calls.{callNumber, callTable, callReply, changeBy, searchSteps, stepsOf, comparesNone, callCompared}
 use Rattle.answer.proofs.AnswerCall.{numberFor, call-number, to-refusal}
+use Rattle.answer.proofs.AnswerCompared.{served-compared}
 use Rattle.answer.proofs.AnswerWays.{own-rule, served-other, AnswerWay.small, way-exactly}
 
 -- ---- the table that was looked for
@@ -82,6 +83,10 @@ module _ (M : Model) (s message : List ℕ) (asked : Option Message) (keepingRul
         ap (λ (a : Answer). replyAs (a .reply)) same-heard,
         edited-as formatOne (λ U. answerTo M asked U .table) (λ U. heard M message U .table) s (ap (λ (a : Answer). a .table) same-heard),
       )
+
+  pub heard-compared : answerCompared asked (tableAt formatOne s) ≡ heardCompared M message (parse formatOne M s)
+  unfolding tableAt
+  heard-compared = rw keepingRules (ap (λ o. answerCompared o (tableAt formatOne s)) told)
 
 -- ---- the call's three promises, of a call with buffers that are large enough
 
@@ -170,8 +175,27 @@ module _ (M : Model) (table message reply : List ℕ) where
         go (some T) e none f = rw e (bad T e (number-is ∙ rw (e, f)) (no-message T e f))
         go (some T) e (some m) f = rw e (by-test T e m f (cases (messageByRule M (T .n) m)))
 
+    -- how many rows were compared for it
+    pub compared-so : heardCompared M message (parse formatOne M table) ≡ callCompared M table message reply
+    unfolding callCompared messageTo both either
+    compared-so = go (parse formatOne M table) refl (messageAt formatOne message) refl
+      where
+        by-rule : (T : Table) (m : Message) → (messageByRule M (T .n) m ≡ true) ⊎ (messageByRule M (T .n) m ≡ false) → answerCompared (keepingRules M (T .n) (some m)) T ≡ cond (comparesNone (cond (messageByRule M (T .n) m) (servedNumber M T m) 3)) 0 (searchSteps T m)
+        by-rule T m (inl e) = rw e (served-compared M T m)
+        by-rule T m (inr e) = rw e
+
+        go : (o : Option Table) → parse formatOne M table ≡ o → (p : Option Message) → messageAt formatOne message ≡ p → heardCompared M message (parse formatOne M table) ≡ cond (comparesNone (callNumber M table message reply)) 0 (stepsOf (parse formatOne M table) (messageAt formatOne message))
+        go none e p f = rw (number-is, e)
+        go (some T) e none f = rw (number-is, e, f)
+        go (some T) e (some m) f = rw (by-own-rule T e m f, e, f) (by-rule T m (cases (messageByRule M (T .n) m)))
+
 -- ---- buffers too small
 
-pub left-small : (M : Model) (table message reply : List ℕ) → (length table < M .leastBuffer) ⊎ (length reply < 24) → (1 ≡ callNumber M table message reply) × (table ≡ callTable M table message reply) × (reply ≡ callReply M table message reply)
-unfolding callTable callReply
-left-small M table message reply short = rw (way-exactly M table message reply (small short)) (refl, refl, refl)
+module _ (M : Model) (table message reply : List ℕ) (short : (length table < M .leastBuffer) ⊎ (length reply < 24)) where
+  pub left-small : (1 ≡ callNumber M table message reply) × (table ≡ callTable M table message reply) × (reply ≡ callReply M table message reply)
+  unfolding callTable callReply
+  left-small = rw (way-exactly M table message reply (small short)) (refl, refl, refl)
+
+  pub compared-small : 0 ≡ callCompared M table message reply
+  unfolding callCompared both either
+  compared-small = rw (way-exactly M table message reply (small short))

@@ -6,6 +6,7 @@ use table::image::Found;
 use table::model::Model;
 use transact::reply;
 use transact::reply::Reply;
+use transact::reply::Response;
 ghost use mathlib.Core.Path.{_≡_};
 ghost use Prim.Native.Nat.{_+_, _*_, _≤_};
 ghost use lib.ListN.{length};
@@ -13,13 +14,19 @@ ghost use Rattle.rules.specs.Tables.{valley};
 ghost use Rattle.table.specs.Images.{formatOne};
 ghost use Rattle.table.specs.Parse.{parse};
 ghost use Rattle.seek.specs.Inner.Limits.{limited};
-ghost use Rattle.answer.specs.Inner.BoxAnswers.{heardReply, heardBuffer};
-ghost use Rattle.answer.specs.Calls.{callNumber, callTable, callReply};
+ghost use Rattle.answer.specs.Inner.BoxAnswers.{heardReply, heardBuffer, heardCompared};
+ghost use Rattle.answer.specs.Calls.{callNumber, callTable, callReply, callCompared};
+
+// The number of an answer, and how many rows were compared to find the row of the message's stamp.
+pub struct Answered {
+    pub number: u8,
+    pub compared: usize,
+}
 
 // The reply to any bytes of a message, by the table of at most `limit` rows that a buffer begins with, or by none.
-fn respond(table: &mut [u8], message: &[u8], limit: u16) -> Reply
+fn respond(table: &mut [u8], message: &[u8], limit: u16) -> Response
     requires { ⌜ (limit ≤ 512) × (limited limit .leastBuffer ≤ length (now table)) ⌝ }
-    ensures { λ r. ⌜ r ≡ heardReply (limited limit) (now (message .entry)) (parse formatOne (limited limit) (now (table .entry))) ⌝ }
+    ensures { λ r. ⌜ (r .reply ≡ heardReply (limited limit) (now (message .entry)) (parse formatOne (limited limit) (now (table .entry)))) × (r .compared ≡ heardCompared (limited limit) (now (message .entry)) (parse formatOne (limited limit) (now (table .entry)))) ⌝ }
     ensures { λ _. ⌜ now (table .exit) ≡ heardBuffer (limited limit) (now (message .entry)) (now (table .entry)) (parse formatOne (limited limit) (now (table .entry))) ⌝ }
 {
     let model = Model {
@@ -27,27 +34,36 @@ fn respond(table: &mut [u8], message: &[u8], limit: u16) -> Reply
         least: header::LENGTH + seek::GREATEST_ROW * limit as usize,
     };
     let Found::Image { length: _ } = image::find(table, model) else {
-        return Reply::refusal(2);
+        return Response::unsearched(Reply::refusal(2));
     };
     let n = header::read(table).n;
     let asked = message::kinds::read(message, n, model);
     serve::serve(table, message, asked, limit)
 }
 
-// A box's answer: the number; the table and the reply are left in their buffers.
-pub fn answer(table: &mut [u8], message: &[u8], reply: &mut [u8]) -> u8
-    ensures { λ r. ⌜ r ≡ callNumber valley (now (table .entry)) (now (message .entry)) (now (reply .entry)) ⌝ }
+// A box's answer: the number, and the rows compared beside it; the table and the reply are left in their buffers.
+pub fn answer(table: &mut [u8], message: &[u8], reply: &mut [u8]) -> Answered
+    ensures { λ r. ⌜ (r .number ≡ callNumber valley (now (table .entry)) (now (message .entry)) (now (reply .entry))) × (r .compared ≡ callCompared valley (now (table .entry)) (now (message .entry)) (now (reply .entry))) ⌝ }
     ensures { λ _. ⌜ now (table .exit) ≡ callTable valley (now (table .entry)) (now (message .entry)) (now (reply .entry)) ⌝ }
     ensures { λ _. ⌜ now (reply .exit) ≡ callReply valley (now (table .entry)) (now (message .entry)) (now (reply .entry)) ⌝ }
 {
     let model = Model::valley();
     if table.len() < model.least {
-        return 1;
+        return Answered {
+            number: 1,
+            compared: 0,
+        };
     }
     if reply.len() < reply::LENGTH {
-        return 1;
+        return Answered {
+            number: 1,
+            compared: 0,
+        };
     }
     let said = respond(table, message, model.limit);
-    reply::write(reply, said);
-    said.number
+    reply::write(reply, said.reply);
+    Answered {
+        number: said.reply.number,
+        compared: said.compared,
+    }
 }

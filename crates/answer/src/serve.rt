@@ -5,6 +5,7 @@ use message::kinds::Message;
 use transact::outcome;
 use transact::prepare;
 use transact::reply::Reply;
+use transact::reply::Response;
 ghost use mathlib.Core.Path.{_≡_};
 ghost use Prim.Native.Nat.{_+_, _*_, _≤_};
 ghost use lib.ListN.{length};
@@ -14,14 +15,14 @@ ghost use Rattle.table.specs.Images.{formatOne};
 ghost use Rattle.message.specs.Inner.MeantMessages.{meant, Coded};
 ghost use Rattle.message.specs.Messages.{messageTo};
 ghost use Rattle.seek.specs.Inner.Limits.{limited};
-ghost use Rattle.table.specs.Parse.{BeginsWithImage};
-ghost use Rattle.answer.specs.Inner.BoxAnswers.{answerReply, answerBuffer};
+ghost use Rattle.table.specs.Parse.{tableAt, BeginsWithImage};
+ghost use Rattle.answer.specs.Inner.BoxAnswers.{answerReply, answerBuffer, answerCompared};
 
 // The answer to one of the seven messages, or to none.
-pub fn serve(table: &mut [u8], message: &[u8], asked: Message, limit: u16) -> Reply
+pub fn serve(table: &mut [u8], message: &[u8], asked: Message, limit: u16) -> Response
     requires { ⌜ BeginsWithImage valley (now table) × (limit ≤ 512) × (limited limit .leastBuffer ≤ length (now table)) ⌝ }
     requires { ⌜ (meant formatOne (now message) asked ≡ messageTo formatOne (limited limit) (headerAt (now table) .n) (now message)) × Coded asked ⌝ }
-    ensures { λ r. ⌜ r ≡ answerReply (limited limit) (meant formatOne (now (message .entry)) asked) (now (table .entry)) ⌝ }
+    ensures { λ r. ⌜ (r .reply ≡ answerReply (limited limit) (meant formatOne (now (message .entry)) asked) (now (table .entry))) × (r .compared ≡ answerCompared (meant formatOne (now (message .entry)) asked) (tableAt formatOne (now (table .entry)))) ⌝ }
     ensures { λ _. ⌜ now (table .exit) ≡ answerBuffer (limited limit) (meant formatOne (now (message .entry)) asked) (now (table .entry)) ⌝ }
 {
     match asked {
@@ -47,9 +48,13 @@ pub fn serve(table: &mut [u8], message: &[u8], asked: Message, limit: u16) -> Re
             view,
             verdict,
         } => outcome::finalise_outcome(table, stamp, view, verdict),
-        Message::ChangeView { view } => views::change_view(table, view),
-        Message::StartView { view } => views::start_view(table, &message[5..], view),
-        Message::ReadRegister { stamp, register } => read::read_register(table, stamp, register),
-        Message::Bad => Reply::refusal(3),
+        Message::ChangeView { view } => Response::unsearched(views::change_view(table, view)),
+        Message::StartView { view } => {
+            Response::unsearched(views::start_view(table, &message[5..], view))
+        }
+        Message::ReadRegister { stamp, register } => {
+            Response::unsearched(read::read_register(table, stamp, register))
+        }
+        Message::Bad => Response::unsearched(Reply::refusal(3)),
     }
 }

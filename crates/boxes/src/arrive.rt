@@ -17,5 +17,5 @@ pub fn arrive(tables: &mut [u8], boxnumber: u8, message: &[u8], reply: &mut [u8]
     if tables.len() < to {
         return 1;
     }
-    answer::call::answer(&mut tables[from..to], message, reply)
+    answer::call::answer(&mut tables[from..to], message, reply).number
 }

@@ -24,7 +24,7 @@ use Rattle.rows.specs.Inner.Places.{placeOf}
 use Rattle.rows.specs.Read.{rowOf, rowsAt}
 use Rattle.rows.proofs.Sought.{sought, place-sought}
 use Rattle.gather.specs.Inner.UsedTables.{usedOf}
-use Rattle.gather.specs.Inner.Stamps.{nextAfter, stampAbove, indexOf}
+use Rattle.gather.specs.Inner.Stamps.{nextAfter, stampAbove}
 
 abbrev pub AllRegular : List Table → Type 0
 AllRegular Ts = (T : Table) → T ∈ Ts → Regular T
@@ -146,6 +146,11 @@ next-turn newest last T Ts k all = go (cases (eqb (T .view) newest)) (next-most 
     go (inr e) most = rw e (omega arith)
 
 -- ---- by the look-up: the row at or above last + 1
+
+-- the index of a row that is there, or of one that would be
+abbrev pub indexOf : Place → ℕ
+indexOf (Held i) = i
+indexOf (Absent i) = i
 
 pub record Above (s : List ℕ) (at n last j : ℕ) : Type 0 where
   pub there : j < n → fieldsAt s (at + 24 * j) .stamp ≡ nextAfter last (stampsOf (rowsAt s at n))

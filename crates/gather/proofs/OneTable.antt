@@ -11,13 +11,15 @@ use Rattle.rules.specs.Tests.{both}
 use Rattle.rules.specs.Stamps.{Body}
 use Rattle.rules.specs.Tables.{valley, rising}
 use Rattle.rules.specs.Circumstances.{heldWithOtherBody}
+use Rattle.rules.proofs.Merge.{stampsOf}
+use Rattle.rules.proofs.Rows.{held-from}
 use Rattle.rows.specs.declared.lookup.Place.{Place}
 use Rattle.rows.specs.declared.lookup.Place.the-variants.{Held, Absent}
 use Rattle.rows.specs.Fields.{fieldsAt}
 use Rattle.rows.specs.Inner.Places.{placeOf}
-use Rattle.rows.specs.Read.{rowsAt}
+use Rattle.rows.specs.Read.{rowOf, rowsAt}
 use Rattle.rows.specs.Inner.Rows.{BodyInside}
-use Rattle.rows.proofs.Sought.{not-absent}
+use Rattle.rows.proofs.Sought.{not-absent, held-row}
 use Rattle.table.specs.declared.header.Header.{Header}
 use Rattle.table.specs.Headers.{headerAt}
 use Rattle.table.specs.Images.{formatOne}
@@ -27,9 +29,9 @@ use Rattle.edit.proofs.Holding.{one-starts, holds-least, holds-rows-at, holds-r
 use Rattle.seek.proofs.HeldRows.{image-holds, index-here}
 use Rattle.seek.proofs.SoughtRows.{can-be-sought, rows-inside}
 use Rattle.gather.specs.Inner.UsedTables.{placeIn, otherIn}
-use Rattle.gather.specs.Inner.Stamps.{stampAbove, indexOf}
+use Rattle.gather.specs.Inner.Stamps.{nextAfter, stampAbove}
 use Rattle.gather.proofs.UsedRows.{place-not, place-too}
-use Rattle.gather.proofs.NextStamps.{index-above}
+use Rattle.gather.proofs.NextStamps.{Above, indexOf, index-above}
 
 pub header-inside : (s : List ℕ) → BeginsWithImage valley s → 24 ≤ length s
 header-inside s has-image = holds-least formatOne s one-starts (image-holds valley s has-image)
@@ -53,25 +55,36 @@ module _ (s : List ℕ) (h : Header) (told : h ≡ headerAt s) (newest : ℕ) wh
   pub place-elsewhere : (stamp : ℕ) → (h .view ≡ newest → ⊥) → Absent 0 ≡ placeIn newest (tableAt formatOne s) stamp
   place-elsewhere stamp d = sym (place-not newest stamp (tableAt formatOne s) (other-view d))
 
-  pub place-found : (stamp : ℕ) (p : Place) → h .view ≡ newest → p ≡ placeOf (rowsAt s 24 (h .rows)) stamp → p ≡ placeIn newest (tableAt formatOne s) stamp
-  place-found stamp p e f = f ∙ ap (λ rows. placeOf rows stamp) rows-told ∙ sym (place-too newest stamp (tableAt formatOne s) (this-view e))
+  pub place-found : (stamp : ℕ) (p : Place) → h .view ≡ newest → p ≡ placeOf (tableAt formatOne s .rows) stamp → p ≡ placeIn newest (tableAt formatOne s) stamp
+  place-found stamp p e f = f ∙ sym (place-too newest stamp (tableAt formatOne s) (this-view e))
 
   pub above-elsewhere : (last : ℕ) → (h .view ≡ newest → ⊥) → 2 ^ 48 ≡ stampAbove newest (tableAt formatOne s) last
   above-elsewhere last d = rw (other-view d) refl
 
   -- the row that the look-up for last + 1 points at, or none
-  module _ (last : ℕ) (has-image : BeginsWithImage valley s) (e : h .view ≡ newest) (p : Place) (found : p ≡ placeOf (rowsAt s 24 (h .rows)) (last + 1)) (i : ℕ) (index : i ≡ indexOf p) where
-    pub above-there : i < h .rows → fieldsAt s (24 + 24 * i) .stamp ≡ stampAbove newest (tableAt formatOne s) last
-    above-there l =
-        let a = index-above s 24 (h .rows) last (sought-in has-image .1) in
-        let f : i ≡ indexOf (placeOf (rowsAt s 24 (h .rows)) (last + 1)) = index ∙ ap indexOf found in
-        rw (this-view e, ← rows-told) (rw (← f) at (a .there) l)
+  module _ (last : ℕ) (has-image : BeginsWithImage valley s) (e : h .view ≡ newest) (p : Place) (found : p ≡ placeOf (tableAt formatOne s .rows) (last + 1)) where
+    place-here : placeOf (rowsAt s 24 (h .rows)) (last + 1) ≡ p
+    place-here = rw rows-told (sym found)
 
-    pub above-none : h .rows ≤ i → 2 ^ 48 ≡ stampAbove newest (tableAt formatOne s) last
-    above-none l =
-        let a = index-above s 24 (h .rows) last (sought-in has-image .1) in
-        let f : i ≡ indexOf (placeOf (rowsAt s 24 (h .rows)) (last + 1)) = index ∙ ap indexOf found in
-        rw (this-view e, ← rows-told) (sym (rw (← f) at (a .none-there) l))
+    above : Above s 24 (h .rows) last (indexOf p)
+    above = rw place-here at (index-above s 24 (h .rows) last (sought-in has-image .1))
+
+    next-is : nextAfter last (stampsOf (rowsAt s 24 (h .rows))) ≡ stampAbove newest (tableAt formatOne s) last
+    next-is = rw (this-view e, rows-told)
+
+    pub above-there : (i : ℕ) → p ≡ Absent i → i < h .rows → fieldsAt s (24 + 24 * i) .stamp ≡ stampAbove newest (tableAt formatOne s) last
+    above-there i absent l = rw absent at (above .there) l ∙ next-is
+
+    pub above-none : (i : ℕ) → p ≡ Absent i → h .rows ≤ i → 2 ^ 48 ≡ stampAbove newest (tableAt formatOne s) last
+    above-none i absent l = sym (rw absent at (above .none-there) l) ∙ next-is
+
+    -- last + 1 is held, so it is the next
+    pub above-held : (i : ℕ) → p ≡ Held i → last + 1 ≡ stampAbove newest (tableAt formatOne s) last
+    unfolding rowOf
+    above-held i there =
+        let (l, row) = held-row s 24 (h .rows) (last + 1) i (sought-in has-image .1) (place-here ∙ there) in
+        let stamp = held-from (rowsAt s 24 (h .rows)) (last + 1) _ row .1 in
+        sym stamp ∙ rw there at (above .there) l ∙ next-is
 
   pub other-elsewhere : (stamp : ℕ) (x : Body) → (h .view ≡ newest → ⊥) → false ≡ otherIn newest stamp x (tableAt formatOne s)
   unfolding both

@@ -1,6 +1,5 @@
 // Whether one stamp is held with two bodies.
 use crate::held;
-use rows::lookup;
 use rows::row::RowFields;
 use table::header;
 ghost use mathlib.Core.Path.{_≡_};
@@ -25,7 +24,7 @@ fn other_in<'a>(image: &'a [u8], newest: u32, first: &'a [u8], given: RowFields)
     if h.view != newest {
         return false;
     }
-    let place = lookup::find(image, header::LENGTH, h.rows as usize, given.stamp);
+    let place = seek::find(image, h, given.stamp).place;
     seek::other_body(image, first, place, given)
 }
 

@@ -1,5 +1,4 @@
 // Where the used tables of a run hold a stamp.
-use rows::lookup;
 use rows::lookup::Place;
 use rows::row;
 use rows::row::RowFields;
@@ -20,7 +19,7 @@ fn place_in(image: &[u8], newest: u32, stamp: u64) -> Place
     if h.view != newest {
         return Place::Absent { row: 0 };
     }
-    lookup::find(image, header::LENGTH, h.rows as usize, stamp)
+    seek::find(image, h, stamp).place
 }
 
 // The fields of a stamp's row in a used table; zeros if there is none, which say nothing.
@@ -47,10 +46,10 @@ fn is_held(image: &[u8], newest: u32, stamp: u64) -> bool
     requires { ⌜ BeginsWithImage valley (now image) ⌝ }
     ensures { λ r. ⌜ r ≡ isHeld (placeIn newest (tableAt formatOne (now (image .entry))) stamp) ⌝ }
 {
-    match place_in(image, newest, stamp) {
-        Place::Held { row: _ } => true,
-        Place::Absent { row: _ } => false,
-    }
+    let Place::Held { row: _ } = place_in(image, newest, stamp) else {
+        return false;
+    };
+    true
 }
 
 // The part of a run that begins with the first used image that holds a stamp; an empty part if none does.

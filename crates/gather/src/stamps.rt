@@ -1,5 +1,4 @@
 // The stamps of the used tables, one after the other: the least above the last one.
-use rows::lookup;
 use rows::lookup::Place;
 use rows::row;
 use table::header;
@@ -11,20 +10,10 @@ ghost use Rattle.table.specs.Images.{formatOne};
 ghost use Rattle.table.specs.Parse.{tableAt, BeginsWithImage};
 ghost use Rattle.image_run.specs.Inner.WholeRuns.{tablesOf, Images};
 ghost use Rattle.gather.specs.Inner.UsedTables.{usedOf};
-ghost use Rattle.gather.specs.Inner.Stamps.{nextAfter, stampAbove, indexOf};
+ghost use Rattle.gather.specs.Inner.Stamps.{nextAfter, stampAbove};
 
 // No stamp: above all of them.
 pub const NO_STAMP: u64 = 0x1_0000_0000_0000;
-
-// The index of a row that is there, or of one that would be.
-fn index_of(place: Place) -> usize
-    ensures { λ r. ⌜ r ≡ indexOf place ⌝ }
-{
-    match place {
-        Place::Held { row } => row,
-        Place::Absent { row } => row,
-    }
-}
 
 // The least stamp of a table above the last one, if it is used.
 fn stamp_above(image: &[u8], newest: u32, last: u64) -> u64
@@ -35,9 +24,11 @@ fn stamp_above(image: &[u8], newest: u32, last: u64) -> u64
     if h.view != newest {
         return NO_STAMP;
     }
-    let rows = h.rows as usize;
-    let index = index_of(lookup::find(image, header::LENGTH, rows, last + 1));
-    if index < rows {
+    let place = seek::find(image, h, last + 1).place;
+    let Place::Absent { row: index } = place else {
+        return last + 1;
+    };
+    if index < h.rows as usize {
         return row::row_at(image, header::LENGTH, index).stamp;
     }
     NO_STAMP

@@ -2,18 +2,19 @@
 use mathlib.Core.Path.{_≡_, refl, ap}
 use mathlib.Core.Bool.{true}
 use mathlib.Core.List.{List, [], _∷_, _++_}
-use Prim.Native.Nat.{ℕ, zero, suc, _+_, _-_, _*_, _/_, _≤_, _<_}
+use Prim.Native.Nat.{ℕ, zero, suc, _+_, _-_, _*_, _/_, _^_, _≤_, _<_}
 use native.Mathlib.Omega.{arith}
 use lib.ListN.{length}
 use borrow.Author.Tests.{ltb-true, lt-ltb, le-ltb, eq-eqb, ne-eqb}
 use Rattle.rules.specs.Tables.{Row, rising}
 use Rattle.rules.proofs.Logic.{both-left, both-right, both-true}
-use Rattle.rows.specs.declared.lookup.Place.the-variants.{Held}
+use Rattle.rows.specs.declared.lookup.Place.the-variants.{Held, Absent}
 use Rattle.rows.specs.Fields.{fieldsAt}
 use Rattle.rows.specs.Read.{rowOf, rowsAt}
+use Rattle.rows.specs.Halving.{steps}
 use Rattle.rows.proofs.RowsRead.{length-rowsAt}
-use Rattle.rows.proofs.Sought.{sought}
-use Rattle.rows.proofs.HalvingSteps.{steps, steps-behind, steps-before}
+use Rattle.rows.proofs.Sought.{sought, sought-end}
+use Rattle.rows.proofs.HalvingSteps.{steps-here, steps-behind, steps-before, steps-bounded, none-of-none}
 
 -- ---- rows with one in their midst
 
@@ -24,7 +25,7 @@ rising-lower low high (r ∷ rows) l h =
     let m : high < r .stamp = ltb-true high (r .stamp) (both-left _ _ h) in
     both-true (lt-ltb low (r .stamp) (omega arith)) (both-right _ _ h)
 
-rising-midst : (low : ℕ) (xs : List Row) (r : Row) (ys : List Row) → rising low (xs ++ (r ∷ ys)) ≡ true → (low < r .stamp) × (rising low xs ≡ true) × (rising low ys ≡ true)
+pub rising-midst : (low : ℕ) (xs : List Row) (r : Row) (ys : List Row) → rising low (xs ++ (r ∷ ys)) ≡ true → (low < r .stamp) × (rising low xs ≡ true) × (rising low ys ≡ true)
 unfolding rising
 rising-midst low [] r ys h =
     let l : low < r .stamp = ltb-true low (r .stamp) (both-left _ _ h) in
@@ -103,12 +104,6 @@ module _ (s : List ℕ) (begin low high middle stamp : ℕ) (after : low ≤ mid
   length-before : length before ≡ middle - low
   length-before = length-rowsAt s (begin + 24 * low) (middle - low)
 
-  pub turn-here : here ≡ stamp → sought low (between s begin low high) stamp ≡ Held middle
-  unfolding rowOf
-  turn-here e =
-      let z : low + (middle - low) ≡ middle = omega arith in
-      rw split (rw (length-before, z) at (sought-here low 0 stamp before row behind (rw split at rise) e))
-
   -- the row has half of them before it, rounded down
   module _ (half : middle - low ≡ (high - low) / 2) where
     parts : (0 < here) × (rising 0 before ≡ true) × (rising 0 behind ≡ true)
@@ -117,6 +112,15 @@ module _ (s : List ℕ) (begin low high middle stamp : ℕ) (after : low ≤ mid
 
     halved : length (before ++ (row ∷ behind)) / 2 ≡ length before
     halved = let n = length-rowsAt s (begin + 24 * low) (high - low) in rw (← split, n, length-before) (omega arith)
+
+    -- it has the stamp: this is the last step
+    pub turn-here : here ≡ stamp → (sought low (between s begin low high) stamp ≡ Held middle) × (steps (between s begin low high) stamp ≡ 1)
+    unfolding rowOf
+    turn-here e =
+        let z : low + (middle - low) ≡ middle = omega arith in (
+          rw split (rw (length-before, z) at (sought-here low 0 stamp before row behind (rw split at rise) e)),
+          rw split (steps-here stamp before row behind halved e),
+        )
 
     pub turn-before : stamp < here → Turned s begin stamp low high low middle
     unfolding rowOf
@@ -130,3 +134,12 @@ module _ (s : List ℕ) (begin low high middle stamp : ℕ) (after : low ≤ mid
           rw split (rw (length-before, z) at (sought-behind low 0 stamp before row behind (rw split at rise) h)),
           rw split (steps-behind stamp before row behind halved h),
         )
+
+-- no rows are left
+pub turn-none : (s : List ℕ) (begin low high stamp : ℕ) → high - low ≡ 0 → (sought low (between s begin low high) stamp ≡ Absent low) × (steps (between s begin low high) stamp ≡ 0)
+unfolding rowsAt
+turn-none s begin low high stamp e = (sought-end s (begin + 24 * low) (high - low) low stamp e, rw e (none-of-none stamp))
+
+-- so few that a machine word counts them, as it counts the rows
+pub few-steps : (s : List ℕ) (at n stamp : ℕ) → n < 2 ^ 64 → steps (rowsAt s at n) stamp ≤ 64
+few-steps s at n stamp l = let e = length-rowsAt s at n in steps-bounded 64 stamp (rowsAt s at n) (omega arith)

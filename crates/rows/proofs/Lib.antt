@@ -9,5 +9,6 @@ pub mod Turns
 pub mod Sought
 pub mod HalvingSteps
 pub mod Halving
+pub mod HalvingMost
 pub mod Readers
 pub mod ReaderCalls

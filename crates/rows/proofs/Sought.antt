@@ -10,6 +10,7 @@ use native.Mathlib.Omega.{arith}
 use lib.Dec.{eqb, ltb}
 use lib.ListN.{length}
 use borrow.Author.Tests.{ltb-true, ltb-false, lt-ltb, le-ltb, eq-eqb, ne-eqb}
+use Rattle.wire.specs.Inner.ByteLists.{AllBytes}
 use Rattle.rules.specs.Tests.{bit, isSome, every, count, firstOf}
 use Rattle.rules.specs.Tables.{Row, rising, rowByRule}
 use Rattle.rules.specs.Messages.{held}
@@ -21,8 +22,9 @@ use Rattle.rows.specs.declared.lookup.Place.{Place}
 use Rattle.rows.specs.declared.lookup.Place.the-variants.{Held, Absent}
 use Rattle.rows.specs.Fields.{fieldsAt}
 use Rattle.rows.specs.Read.{rowOf, rowsAt}
-use Rattle.rows.specs.Inner.Places.{lower, heldOrNot, placeOf, heldBody}
-use Rattle.rows.proofs.Bodies.{body-size}
+use Rattle.rows.specs.Inner.Places.{lower, heldOrNot, placeOf, heldBody, FoundInside, bodyFound}
+use Rattle.rows.specs.Inner.Rows.{RowsInside}
+use Rattle.rows.proofs.Bodies.{body-size, body-part}
 
 unfoldable pub sought : ℕ → List Row → ℕ → Place
 sought i [] stamp = Absent i
@@ -178,3 +180,15 @@ pub held-body-size : (rows : List Row) (s : ℕ) (r : Row) → every rowByRule r
 held-body-size rows s r byRule h =
     let m = held-from rows s r h in
     rw h (body-size (r .body) (row-facts r (every-one rowByRule rows byRule r (m .0)) .counts))
+
+-- the row that was found lies inside, and the body that is handed out for it is the one that `rules` holds for the stamp
+module _ (s : List ℕ) (begin n stamp : ℕ) (bytes : AllBytes s) (inside : RowsInside s begin n) (rise : rising 0 (rowsAt s begin n) ≡ true) where
+  pub found-inside : (place : Place) → place ≡ placeOf (rowsAt s begin n) stamp → FoundInside s begin place
+  found-inside (Absent i) e = tt
+  found-inside (Held i) e = let l = held-row s begin n stamp i rise (sym e) .0 in (omega (arith, inside .0), inside .1 i l)
+
+  pub found-body : (place : Place) → place ≡ placeOf (rowsAt s begin n) stamp → bodyFound s begin place ≡ heldBody (held (rowsAt s begin n) stamp)
+  found-body (Absent i) e = rw (absent-none (rowsAt s begin n) stamp i (sym e))
+  found-body (Held i) e =
+      let (l, h) = held-row s begin n stamp i rise (sym e) in
+      rw h (body-part s (fieldsAt s (begin + 24 * i)) bytes (inside .1 i l))

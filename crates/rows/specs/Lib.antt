@@ -1,4 +1,5 @@
 pub mod Fields
 pub mod Bytes
 pub mod Read
+pub mod Halving
 pub mod Inner

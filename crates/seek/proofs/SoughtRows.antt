@@ -24,6 +24,7 @@ use Rattle.rows.specs.Fields.{fieldsAt}
 use Rattle.rows.proofs.Sought.{absent-none}
 use Rattle.rows.proofs.Bodies.{length-accessesAt}
 use Rattle.rows.proofs.Turns.{length-body-part}
+use Rattle.rows.specs.Halving.{steps}
 use Rattle.rows.specs.Inner.Places.{placeOf}
 use Rattle.rows.specs.Read.{rowsAt, begins, bodyAt, rowOf}
 use Rattle.rows.specs.Inner.Rows.{RowsInside, BodyInside, bodyPart}
@@ -34,9 +35,12 @@ use Rattle.table.specs.Parse.{tableAt, BeginsWithImage}
 use Rattle.table.proofs.Images.{Sound, Parsed, parsed, valley-sound}
 use Rattle.edit.proofs.Holding.{one-starts, holds-rows, holds-rows-at, holds-row-inside}
 use Rattle.seek.specs.Inner.Limits.{limited}
+use Rattle.seek.specs.declared.Proposal.{Proposal}
 use Rattle.seek.specs.declared.Proposal.the-variants as propose
+use Rattle.seek.specs.declared.Finding.{Finding}
 use Rattle.seek.specs.declared.Finding.the-variants.{Refused}
-use Rattle.seek.specs.Inner.Findings.{rowOrUnknown, toFinalise, toPropose, RowInside, neededBody, NeededInside, otherCounts}
+use Rattle.seek.specs.Inner.Compared.{comparedToFinalise, comparedToPropose}
+use Rattle.seek.specs.Inner.Findings.{rowOrUnknown, newOrFull, toFinalise, toPropose, RowInside, neededBody, NeededInside, otherCounts}
 use Rattle.seek.proofs.HeldRows.{held-here, index-here, image-holds}
 use Rattle.seek.proofs.BodiesAlike.{bodies-alike, same-begins}
 
@@ -82,20 +86,28 @@ module _ (M : Model) (s : List ℕ) (sound : Sound formatOne M) (has-image : Beg
   pub can-be-sought : (24 + 24 * headerAt s .rows ≤ length s) × (rising 0 (rowsAt s 24 (headerAt s .rows)) ≡ true)
   can-be-sought = (rows-inside .0, rows-rise)
 
+-- where a search has found a stamp, and how many rows it has compared
+abbrev pub Sought : List ℕ → ℕ → Place → ℕ → Type 0
+Sought s stamp place n = (place ≡ placeOf (tableAt formatOne s .rows) stamp) × (n ≡ steps (tableAt formatOne s .rows) stamp)
+
 -- ---- messages 2 and 4
 
+-- what is found, and how many rows are compared for it
+abbrev pub Finalises : List ℕ → ℕ → ℕ → Finding → ℕ → Type 0
+Finalises s stamp v finding n = (finding ≡ toFinalise (tableAt formatOne s) stamp v) × (n ≡ comparedToFinalise (tableAt formatOne s) stamp v)
+
 module _ (s : List ℕ) (stamp v : ℕ) where
-  pub finalise-changing : headerAt s .mode ≡ 1 → Refused 4 ≡ toFinalise (tableAt formatOne s) stamp v
-  unfolding toFinalise
-  finalise-changing e = rw (said-changing s e)
+  pub finalise-changing : headerAt s .mode ≡ 1 → Finalises s stamp v (Refused 4) 0
+  unfolding toFinalise comparedToFinalise
+  finalise-changing e = rw (said-changing s e) (refl, refl)
 
-  pub finalise-other-view : (headerAt s .mode ≡ 1 → ⊥) → (v ≡ headerAt s .view → ⊥) → Refused 9 ≡ toFinalise (tableAt formatOne s) stamp v
-  unfolding toFinalise
-  finalise-other-view normal other = rw (said-normal s normal, said-other-view s v other)
+  pub finalise-other-view : (headerAt s .mode ≡ 1 → ⊥) → (v ≡ headerAt s .view → ⊥) → Finalises s stamp v (Refused 9) 0
+  unfolding toFinalise comparedToFinalise
+  finalise-other-view normal other = rw (said-normal s normal, said-other-view s v other) (refl, refl)
 
-  pub finalise-place : (headerAt s .mode ≡ 1 → ⊥) → v ≡ headerAt s .view → (place : Place) → place ≡ placeOf (rowsAt s 24 (headerAt s .rows)) stamp → rowOrUnknown place ≡ toFinalise (tableAt formatOne s) stamp v
-  unfolding toFinalise
-  finalise-place normal same place e = rw (said-normal s normal, said-view s v same) (ap rowOrUnknown (rw (← holds-rows-at formatOne s) at e))
+  pub finalise-sought : (headerAt s .mode ≡ 1 → ⊥) → v ≡ headerAt s .view → (place : Place) (n : ℕ) → Sought s stamp place n → Finalises s stamp v (rowOrUnknown place) n
+  unfolding toFinalise comparedToFinalise
+  finalise-sought normal same place n (e, f) = rw (said-normal s normal, said-view s v same) (ap rowOrUnknown e, f)
 
 -- ---- messages 1 and 3
 
@@ -103,24 +115,30 @@ pub room-is : (limit : ℕ) (h : Header) → ltb (h .rows) limit ≡ belowLimit 
 unfolding belowLimit
 room-is limit h = refl
 
+abbrev pub Proposes : List ℕ → ℕ → ℕ → Body → Proposal → ℕ → Type 0
+Proposes s stamp limit x proposal n = (proposal ≡ toPropose (limited limit) (tableAt formatOne s) stamp x) × (n ≡ comparedToPropose (tableAt formatOne s) stamp)
+
 module _ (s : List ℕ) (stamp limit : ℕ) (x : Body) where
-  pub propose-changing : headerAt s .mode ≡ 1 → propose.Against 4 ≡ toPropose (limited limit) (tableAt formatOne s) stamp x
-  unfolding toPropose
-  propose-changing e = rw (said-changing s e)
+  pub propose-changing : headerAt s .mode ≡ 1 → Proposes s stamp limit x (propose.Against 4) 0
+  unfolding toPropose comparedToPropose
+  propose-changing e = rw (said-changing s e) (refl, refl)
 
-  module _ (normal : headerAt s .mode ≡ 1 → ⊥) where
-    pub propose-other : heldWithOtherBody (tableAt formatOne s) stamp x ≡ true → propose.Against 5 ≡ toPropose (limited limit) (tableAt formatOne s) stamp x
+  module _ (normal : headerAt s .mode ≡ 1 → ⊥) (place : Place) (n : ℕ) (found : Sought s stamp place n) where
+    compares : n ≡ comparedToPropose (tableAt formatOne s) stamp
+    unfolding comparedToPropose
+    compares = rw (said-normal s normal) (found .1)
+
+    pub propose-other : heldWithOtherBody (tableAt formatOne s) stamp x ≡ true → Proposes s stamp limit x (propose.Against 5) n
     unfolding toPropose
-    propose-other other = rw (said-normal s normal, other)
+    propose-other other = (rw (said-normal s normal, other), compares)
 
-    pub propose-held : (i : ℕ) (r : Row) → placeOf (tableAt formatOne s .rows) stamp ≡ Held i → held (tableAt formatOne s .rows) stamp ≡ some r → heldWithOtherBody (tableAt formatOne s) stamp x ≡ false →
-        propose.Held i ≡ toPropose (limited limit) (tableAt formatOne s) stamp x
+    pub propose-held : (i : ℕ) (r : Row) → place ≡ Held i → held (tableAt formatOne s .rows) stamp ≡ some r → heldWithOtherBody (tableAt formatOne s) stamp x ≡ false → Proposes s stamp limit x (propose.Held i) n
     unfolding toPropose newButFull both
-    propose-held i r place there same = rw (said-normal s normal, same, there, place)
+    propose-held i r here there same = (rw (said-normal s normal, same, there, sym (found .0) ∙ here), compares)
 
-    module _ (i : ℕ) (place : placeOf (tableAt formatOne s .rows) stamp ≡ Absent i) where
+    module _ (i : ℕ) (nowhere : place ≡ Absent i) where
       absent : held (tableAt formatOne s .rows) stamp ≡ none
-      absent = absent-none (tableAt formatOne s .rows) stamp i place
+      absent = absent-none (tableAt formatOne s .rows) stamp i (sym (found .0) ∙ nowhere)
 
       not-other : heldWithOtherBody (tableAt formatOne s) stamp x ≡ false
       unfolding heldWithOtherBody
@@ -130,13 +148,16 @@ module _ (s : List ℕ) (stamp limit : ℕ) (x : Body) where
       unfolding belowLimit
       room-told = rw (holds-rows formatOne s)
 
-      pub propose-new : belowLimit limit (fOf (headerAt s .n)) (headerAt s .start) (headerAt s .rows) ≡ true → propose.New i ≡ toPropose (limited limit) (tableAt formatOne s) stamp x
+      pub propose-new : Proposes s stamp limit x (newOrFull (belowLimit limit (fOf (headerAt s .n)) (headerAt s .start) (headerAt s .rows)) place) n
       unfolding toPropose newButFull both
-      propose-new room = let e = sym room-told ∙ room in rw (said-normal s normal, not-other, absent, e, place)
+      propose-new = (go (cases (belowLimit limit (fOf (headerAt s .n)) (headerAt s .start) (headerAt s .rows))), compares)
+        where
+          room : Bool
+          room = belowLimit limit (fOf (headerAt s .n)) (headerAt s .start) (headerAt s .rows)
 
-      pub propose-full : belowLimit limit (fOf (headerAt s .n)) (headerAt s .start) (headerAt s .rows) ≡ false → propose.Against 7 ≡ toPropose (limited limit) (tableAt formatOne s) stamp x
-      unfolding toPropose newButFull both
-      propose-full room = let e = sym room-told ∙ room in rw (said-normal s normal, not-other, absent, e)
+          go : (room ≡ true) ⊎ (room ≡ false) → newOrFull room place ≡ toPropose (limited limit) (tableAt formatOne s) stamp x
+          go (inl h) = let e = sym room-told ∙ h in rw (said-normal s normal, not-other, absent, e, sym (found .0) ∙ nowhere, h, nowhere)
+          go (inr h) = let e = sym room-told ∙ h in rw (said-normal s normal, not-other, absent, e, h, nowhere)
 
 -- the row that is held has another body, or not
 module _ (s m : List ℕ) (i : ℕ) (g : RowFields) (bytes : AllBytes s) (given : AllBytes m) (has-image : BeginsWithImage valley s) (place : placeOf (tableAt formatOne s .rows) (g .stamp) ≡ Held i) (inside : BodyInside m g) where

@@ -1,6 +1,7 @@
 // The row that a message is about, or the number for which it is refused before a row's state is looked at.
 use rows::lookup;
 use rows::lookup::Place;
+use rows::lookup::Sought;
 use rows::row;
 use rows::row::RowFields;
 use table::header;
@@ -10,13 +11,18 @@ ghost use lib.ListN.{length};
 ghost use Rattle.rules.specs.Groups.{fOf};
 ghost use Rattle.rules.specs.Tables.{valley};
 ghost use Rattle.rules.specs.Circumstances.{belowLimit, heldWithOtherBody};
+ghost use Rattle.rows.specs.Halving.{steps};
 ghost use Rattle.rows.specs.Inner.Places.{placeOf};
 ghost use Rattle.rows.specs.Read.{begins, bodyAt};
 ghost use Rattle.rows.specs.Inner.Rows.{BodyInside};
+ghost use Rattle.table.specs.Headers.{headerAt};
 ghost use Rattle.table.specs.Images.{formatOne};
 ghost use Rattle.table.specs.Parse.{tableAt, BeginsWithImage};
 ghost use Rattle.seek.specs.Inner.Limits.{limited};
-ghost use Rattle.seek.specs.Inner.Findings.{RowInside, neededBody, NeededInside, otherCounts, toFinalise, toPropose};
+ghost use Rattle.seek.specs.Inner.Findings.{RowInside, neededBody, NeededInside, otherCounts, newOrFull, toFinalise, toPropose};
+ghost use Rattle.seek.specs.declared.Finding.the-variants.{Refused};
+ghost use Rattle.seek.specs.declared.Proposal.the-variants.{Against};
+ghost use Rattle.seek.specs.Inner.Compared.{comparedToFinalise, comparedToPropose};
 
 // A row with the greatest body: its fields, and eight accesses of 9 bytes.
 pub const GREATEST_ROW: usize = 96;
@@ -34,23 +40,68 @@ pub enum Proposal {
     Against { number: u8 },
 }
 
-// Messages 2 and 4: the row of the stamp, in a box that is in that view.
-pub fn row_to_finalise(table: &[u8], stamp: u64, view: u32) -> Finding
+// Either of them, with the rows that were compared to find it.
+pub struct ToFinalise {
+    pub finding: Finding,
+    pub compared: usize,
+}
+
+pub struct ToPropose {
+    pub proposal: Proposal,
+    pub compared: usize,
+}
+
+impl ToFinalise {
+    fn refused(number: u8, compared: usize) -> ToFinalise
+        ensures { λ r. ⌜ (r .finding ≡ Refused number) × (r .compared ≡ compared) ⌝ }
+    {
+        ToFinalise {
+            finding: Finding::Refused { number },
+            compared,
+        }
+    }
+}
+
+impl ToPropose {
+    fn refused(number: u8, compared: usize) -> ToPropose
+        ensures { λ r. ⌜ (r .proposal ≡ Against number) × (r .compared ≡ compared) ⌝ }
+    {
+        ToPropose {
+            proposal: Proposal::Against { number },
+            compared,
+        }
+    }
+}
+
+// Where the table that an image holds has a stamp. Whoever seeks one does so here.
+pub fn find(image: &[u8], h: Header, stamp: u64) -> Sought
+    requires { ⌜ BeginsWithImage valley (now image) × (h ≡ headerAt (now image)) ⌝ }
+    ensures { λ r. ⌜ (r .place ≡ placeOf (tableAt formatOne (now (image .entry)) .rows) stamp) × (r .compared ≡ steps (tableAt formatOne (now (image .entry)) .rows) stamp) ⌝ }
+{
+    lookup::find(image, header::LENGTH, h.rows as usize, stamp)
+}
+
+// Messages 2 and 4: the row of the stamp, in a box that is in that view. A refusal that comes before the search has compared nothing.
+pub fn row_to_finalise(table: &[u8], stamp: u64, view: u32) -> ToFinalise
     requires { ⌜ BeginsWithImage valley (now table) ⌝ }
-    ensures { λ r. ⌜ r ≡ toFinalise (tableAt formatOne (now (table .entry))) stamp view ⌝ }
+    ensures { λ r. ⌜ (r .finding ≡ toFinalise (tableAt formatOne (now (table .entry))) stamp view) × (r .compared ≡ comparedToFinalise (tableAt formatOne (now (table .entry))) stamp view) ⌝ }
 {
     let h = header::read(table);
     if h.mode == 1 {
-        return Finding::Refused { number: 4 };
+        return ToFinalise::refused(4, 0);
     }
     if view != h.view {
-        return Finding::Refused { number: 9 };
+        return ToFinalise::refused(9, 0);
     }
-    let Place::Held { row: index } = lookup::find(table, header::LENGTH, h.rows as usize, stamp)
-    else {
-        return Finding::Refused { number: 8 };
+    let sought = find(table, h, stamp);
+    let place = sought.place;
+    let Place::Held { row: index } = place else {
+        return ToFinalise::refused(8, sought.compared);
     };
-    Finding::Known { index }
+    ToFinalise {
+        finding: Finding::Known { index },
+        compared: sought.compared,
+    }
 }
 
 // A body that is needed for an answer: the table's if the stamp is known, else the message's.
@@ -63,10 +114,10 @@ pub fn needed_body<'a>(
     requires { ⌜ NeededInside (now table) (now message) given place ⌝ }
     ensures { λ r. ⌜ now r ≡ neededBody (now (table .entry)) (now (message .entry)) given place ⌝ }
 {
-    let Place::Held { row: index } = place else {
+    let Place::Held { row: _ } = place else {
         return row::body_of(message, given);
     };
-    row::body_at(table, header::LENGTH, index)
+    lookup::held_body(table, header::LENGTH, place)
 }
 
 // Whether two parts of the same length hold the same bytes.
@@ -121,31 +172,46 @@ fn has_room(h: Header, limit: u16) -> bool
     h.rows < limit as u32
 }
 
-// Messages 1 and 3: the row of the stamp, if it is held with this body, or the place of a new one, if there is room.
+// A stamp that is not held: the place of its row, if there is room. No row is new where one is held.
+fn new_row(place: Place, h: Header, limit: u16) -> Proposal
+    ensures { λ r. ⌜ r ≡ newOrFull (belowLimit limit (fOf (h .n)) (h .start) (h .rows)) place ⌝ }
+{
+    let Place::Absent { row: index } = place else {
+        return Proposal::Against { number: 7 };
+    };
+    if has_room(h, limit) {
+        return Proposal::New { index };
+    }
+    Proposal::Against { number: 7 }
+}
+
+// Messages 1 and 3: the row of the stamp, if it is held with this body, or the place of a new one, if there is room. A refusal that comes before the search has compared nothing.
 pub fn row_to_propose<'a>(
     table: &'a [u8],
     message: &'a [u8],
     given: RowFields,
     limit: u16,
-) -> Proposal
+) -> ToPropose
     requires { ⌜ BeginsWithImage valley (now table) × BodyInside (now message) given ⌝ }
-    ensures { λ r. ⌜ r ≡ toPropose (limited limit) (tableAt formatOne (now (table .entry))) (given .stamp) (bodyAt (now (message .entry)) (given .offset) (given .reads) (given .writes)) ⌝ }
+    ensures { λ r. ⌜ (r .proposal ≡ toPropose (limited limit) (tableAt formatOne (now (table .entry))) (given .stamp) (bodyAt (now (message .entry)) (given .offset) (given .reads) (given .writes))) × (r .compared ≡ comparedToPropose (tableAt formatOne (now (table .entry))) (given .stamp)) ⌝ }
 {
     let h = header::read(table);
     if h.mode == 1 {
-        return Proposal::Against { number: 4 };
+        return ToPropose::refused(4, 0);
     }
-    let place = lookup::find(table, header::LENGTH, h.rows as usize, given.stamp);
+    let sought = find(table, h, given.stamp);
+    let place = sought.place;
+    let Place::Held { row: index } = place else {
+        return ToPropose {
+            proposal: new_row(place, h, limit),
+            compared: sought.compared,
+        };
+    };
     if other_body(table, message, place, given) {
-        return Proposal::Against { number: 5 };
+        return ToPropose::refused(5, sought.compared);
     }
-    match place {
-        Place::Held { row: index } => Proposal::Held { index },
-        Place::Absent { row: index } => {
-            if has_room(h, limit) {
-                return Proposal::New { index };
-            }
-            Proposal::Against { number: 7 }
-        }
+    ToPropose {
+        proposal: Proposal::Held { index },
+        compared: sought.compared,
     }
 }

@@ -1,3 +1,4 @@
 pub mod Answers
 pub mod Started
 pub mod CountWords
+pub mod ComparedWords

@@ -12,6 +12,10 @@ abbrev pub validAnswer : Found → ℕ
 validAnswer (Image length) = 65536 * length
 validAnswer Nothing = numberCode badTable
 
+-- 02, P7, "beside the reply": the number in bits 0 to 7, the rows that were compared in bits 16 to 63; all other bits 0
+abbrev pub comparedAnswer : ℕ → ℕ → ℕ
+comparedAnswer number compared = number + 65536 * compared
+
 -- for number 0: the kind in bits 8 to 9, the result in bits 10 to 12, and the retry stamp in bits 16 to 63
 abbrev pub resultWord : ℕ → ℕ → ℕ → ℕ
 resultWord kind result retry = 256 * kind + 1024 * result + 65536 * retry

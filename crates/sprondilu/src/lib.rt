@@ -11,11 +11,11 @@ ghost use Rattle.rules.specs.Tables.{valley};
 ghost use Rattle.table.specs.Images.{formatOne};
 ghost use Rattle.table.specs.Parse.{parse, imageFound};
 ghost use Rattle.table.specs.Fresh.{freshNumber, freshBuffer};
-ghost use Rattle.answer.specs.Calls.{callNumber, callTable, callReply};
+ghost use Rattle.answer.specs.Calls.{callNumber, callTable, callReply, callCompared};
 ghost use Rattle.merge.specs.Calls as merging;
 ghost use Rattle.count.specs.Answers.{answerAs, answerNumber};
 ghost use Rattle.count.specs.Calls.{countOf, countBytes};
-ghost use Rattle.sprondilu.specs.Calls.{validAnswer, resultWord, countAnswer};
+ghost use Rattle.sprondilu.specs.Calls.{validAnswer, comparedAnswer, resultWord, countAnswer};
 ghost use Rattle.sprondilu.specs.Inner.Words.{ResultFits};
 
 // The fresh table of a box, at the start of a table buffer; the answer is the number.
@@ -34,7 +34,22 @@ pub extern "C" fn sprondilu_answer(table: &mut [u8], message: &[u8], reply: &mut
     ensures { λ _. ⌜ now (table .exit) ≡ callTable valley (now (table .entry)) (now (message .entry)) (now (reply .entry)) ⌝ }
     ensures { λ _. ⌜ now (reply .exit) ≡ callReply valley (now (table .entry)) (now (message .entry)) (now (reply .entry)) ⌝ }
 {
-    answer::call::answer(table, message, reply)
+    answer::call::answer(table, message, reply).number
+}
+
+// The same answer, with the rows that were compared to find the row of the message's stamp: number and rows in one word.
+#[no_mangle]
+pub extern "C" fn sprondilu_answer_compared(
+    table: &mut [u8],
+    message: &[u8],
+    reply: &mut [u8],
+) -> u64
+    ensures { λ r. ⌜ r ≡ comparedAnswer (callNumber valley (now (table .entry)) (now (message .entry)) (now (reply .entry))) (callCompared valley (now (table .entry)) (now (message .entry)) (now (reply .entry))) ⌝ }
+    ensures { λ _. ⌜ now (table .exit) ≡ callTable valley (now (table .entry)) (now (message .entry)) (now (reply .entry)) ⌝ }
+    ensures { λ _. ⌜ now (reply .exit) ≡ callReply valley (now (table .entry)) (now (message .entry)) (now (reply .entry)) ⌝ }
+{
+    let answered = answer::call::answer(table, message, reply);
+    answered.number as u64 + 65536 * answered.compared as u64
 }
 
 // The merge for a view of the images laid end to end in a run: the number. The merged image is left at the start of the output buffer.

@@ -1,6 +1,7 @@
 // Messages 3 and 4: an outcome proposed and finalised.
 use crate::add;
 use crate::reply::Reply;
+use crate::reply::Response;
 use message::carried;
 use rows::row;
 use rows::row::RowFields;
@@ -25,7 +26,7 @@ ghost use Rattle.table.specs.Parse.{tableAt, BeginsWithImage};
 ghost use Rattle.message.specs.Messages.{verdictByCode};
 ghost use Rattle.message.specs.Inner.MeantMessages.{outcomeBody};
 ghost use Rattle.seek.specs.Inner.Limits.{limited};
-ghost use Rattle.transact.specs.Inner.Served.{servedReply, servedBuffer};
+ghost use Rattle.transact.specs.Inner.Served.{servedReply, servedBuffer, servedCompared};
 ghost use Rattle.seek.specs.Inner.Findings.{toFinalise, toPropose};
 ghost use Rattle.seek.specs.declared.Finding.the-variants.{Known};
 ghost use Rattle.seek.specs.declared.Proposal.the-variants.{Held};
@@ -88,10 +89,10 @@ pub fn propose_outcome(
     reads: u8,
     writes: u8,
     limit: u16,
-) -> Reply
+) -> Response
     requires { ⌜ BeginsWithImage valley (now table) × (limit ≤ 512) × (limited limit .leastBuffer ≤ length (now table)) ⌝ }
     requires { ⌜ (verdictByCode verdict ≡ true) × (isStamp stamp ≡ true) × (countsByRule reads writes ≡ true) × (outcomeBody + bodyLength reads writes ≤ length (now message)) ⌝ }
-    ensures { λ r. ⌜ r ≡ servedReply (limited limit) (proposeOutcome stamp (verdictNumbered verdict) (bodyAt (now (message .entry)) outcomeBody reads writes)) (now (table .entry)) ⌝ }
+    ensures { λ r. ⌜ (r .reply ≡ servedReply (limited limit) (proposeOutcome stamp (verdictNumbered verdict) (bodyAt (now (message .entry)) outcomeBody reads writes)) (now (table .entry))) × (r .compared ≡ servedCompared (tableAt formatOne (now (table .entry))) (proposeOutcome stamp (verdictNumbered verdict) (bodyAt (now (message .entry)) outcomeBody reads writes))) ⌝ }
     ensures { λ _. ⌜ now (table .exit) ≡ servedBuffer (limited limit) (proposeOutcome stamp (verdictNumbered verdict) (bodyAt (now (message .entry)) outcomeBody reads writes)) (now (table .entry)) ⌝ }
 {
     let row = RowFields {
@@ -103,11 +104,22 @@ pub fn propose_outcome(
         prepare: 0,
         outcome: verdict,
     };
-    let proposal = seek::row_to_propose(table, message, row, limit);
+    let found = seek::row_to_propose(table, message, row, limit);
+    let proposal = found.proposal;
+    let compared = found.compared;
     match proposal {
-        Proposal::Against { number } => Reply::refusal(number),
-        Proposal::Held { index } => note_held(table, index, stamp, verdict),
-        Proposal::New { index } => add::add_new(table, index, row, message, 3, verdict),
+        Proposal::Against { number } => Response {
+            reply: Reply::refusal(number),
+            compared,
+        },
+        Proposal::Held { index } => Response {
+            reply: note_held(table, index, stamp, verdict),
+            compared,
+        },
+        Proposal::New { index } => Response {
+            reply: add::add_new(table, index, row, message, 3, verdict),
+            compared,
+        },
     }
 }
 
@@ -138,14 +150,22 @@ fn finalise_held(table: &mut [u8], index: usize, stamp: u64, verdict: u8) -> Rep
 }
 
 // Message 4, finalise outcome: in this view, of an outcome that is held and not the opposite one.
-pub fn finalise_outcome(table: &mut [u8], stamp: u64, view: u32, verdict: u8) -> Reply
+pub fn finalise_outcome(table: &mut [u8], stamp: u64, view: u32, verdict: u8) -> Response
     requires { ⌜ BeginsWithImage valley (now table) × (verdictByCode verdict ≡ true) ⌝ }
-    ensures { λ r. ⌜ r ≡ servedReply valley (finaliseOutcome stamp view (verdictNumbered verdict)) (now (table .entry)) ⌝ }
+    ensures { λ r. ⌜ (r .reply ≡ servedReply valley (finaliseOutcome stamp view (verdictNumbered verdict)) (now (table .entry))) × (r .compared ≡ servedCompared (tableAt formatOne (now (table .entry))) (finaliseOutcome stamp view (verdictNumbered verdict))) ⌝ }
     ensures { λ _. ⌜ now (table .exit) ≡ servedBuffer valley (finaliseOutcome stamp view (verdictNumbered verdict)) (now (table .entry)) ⌝ }
 {
-    let finding = seek::row_to_finalise(table, stamp, view);
+    let found = seek::row_to_finalise(table, stamp, view);
+    let finding = found.finding;
+    let compared = found.compared;
     match finding {
-        Finding::Refused { number } => Reply::refusal(number),
-        Finding::Known { index } => finalise_held(table, index, stamp, verdict),
+        Finding::Refused { number } => Response {
+            reply: Reply::refusal(number),
+            compared,
+        },
+        Finding::Known { index } => Response {
+            reply: finalise_held(table, index, stamp, verdict),
+            compared,
+        },
     }
 }

@@ -1,9 +1,9 @@
 // Messages 1 and 2: a prepare proposed and finalised.
 use crate::add;
 use crate::reply::Reply;
+use crate::reply::Response;
 use checks::pass::Checked;
 use message::carried;
-use rows::lookup::Place;
 use rows::row;
 use rows::row::RowFields;
 use seek::Finding;
@@ -31,7 +31,7 @@ ghost use Rattle.checks.specs.Inner.Given.{checkedAs};
 ghost use Rattle.message.specs.Messages.{resultByCode};
 ghost use Rattle.message.specs.Inner.MeantMessages.{prepareBody};
 ghost use Rattle.seek.specs.Inner.Limits.{limited};
-ghost use Rattle.transact.specs.Inner.Served.{servedReply, servedBuffer, answeredByte};
+ghost use Rattle.transact.specs.Inner.Served.{servedReply, servedBuffer, servedCompared, answeredByte};
 ghost use Rattle.seek.specs.Inner.Findings.{toFinalise, toPropose};
 ghost use Rattle.seek.specs.declared.Finding.the-variants.{Known};
 ghost use Rattle.seek.specs.declared.Proposal.the-variants.{Held, New};
@@ -74,7 +74,7 @@ fn answer_held(table: &mut [u8], index: usize, stamp: u64) -> Reply
 }
 
 // The check's result for a stamp that the table does not hold: its body lies in the message.
-fn check_new<'a>(table: &'a [u8], message: &'a [u8], index: usize, row: RowFields) -> Checked
+fn check_new(table: &[u8], message: &[u8], row: RowFields) -> Checked
     requires { ⌜ BeginsWithImage valley (now table) × BodyInside (now message) row ⌝ }
     ensures { λ r. ⌜ r ≡ checkedAs (check (tableAt formatOne (now (table .entry)) .rows) (row .stamp) (bodyAt (now (message .entry)) (row .offset) (row .reads) (row .writes))) ⌝ }
 {
@@ -84,7 +84,7 @@ fn check_new<'a>(table: &'a [u8], message: &'a [u8], index: usize, row: RowField
         header::LENGTH,
         h.rows as usize,
         row.stamp,
-        seek::needed_body(table, message, Place::Absent { row: index }, row),
+        row::body_of(message, row),
         row.reads as usize,
         row.writes as usize,
     )
@@ -97,7 +97,7 @@ fn add_checked(table: &mut [u8], message: &[u8], index: usize, row: RowFields) -
     ensures { λ r. ⌜ ((M : Model) → toPropose M (tableAt formatOne (now (table .entry))) (row .stamp) (bodyAt (now (message .entry)) (row .offset) (row .reads) (row .writes)) ≡ New index →
         (r ≡ servedReply M (proposePrepare (row .stamp) (bodyAt (now (message .entry)) (row .offset) (row .reads) (row .writes))) (now (table .entry))) × (now (table .exit) ≡ servedBuffer M (proposePrepare (row .stamp) (bodyAt (now (message .entry)) (row .offset) (row .reads) (row .writes))) (now (table .entry)))) ⌝ }
 {
-    let checked = check_new(table, message, index, row);
+    let checked = check_new(table, message, row);
     add::add_new(
         table,
         index,
@@ -116,10 +116,10 @@ pub fn propose_prepare(
     reads: u8,
     writes: u8,
     limit: u16,
-) -> Reply
+) -> Response
     requires { ⌜ BeginsWithImage valley (now table) × (limit ≤ 512) × (limited limit .leastBuffer ≤ length (now table)) ⌝ }
     requires { ⌜ (isStamp stamp ≡ true) × (countsByRule reads writes ≡ true) × (prepareBody + bodyLength reads writes ≤ length (now message)) ⌝ }
-    ensures { λ r. ⌜ r ≡ servedReply (limited limit) (proposePrepare stamp (bodyAt (now (message .entry)) prepareBody reads writes)) (now (table .entry)) ⌝ }
+    ensures { λ r. ⌜ (r .reply ≡ servedReply (limited limit) (proposePrepare stamp (bodyAt (now (message .entry)) prepareBody reads writes)) (now (table .entry))) × (r .compared ≡ servedCompared (tableAt formatOne (now (table .entry))) (proposePrepare stamp (bodyAt (now (message .entry)) prepareBody reads writes))) ⌝ }
     ensures { λ _. ⌜ now (table .exit) ≡ servedBuffer (limited limit) (proposePrepare stamp (bodyAt (now (message .entry)) prepareBody reads writes)) (now (table .entry)) ⌝ }
 {
     let row = RowFields {
@@ -131,11 +131,22 @@ pub fn propose_prepare(
         prepare: 0,
         outcome: 0,
     };
-    let proposal = seek::row_to_propose(table, message, row, limit);
+    let found = seek::row_to_propose(table, message, row, limit);
+    let proposal = found.proposal;
+    let compared = found.compared;
     match proposal {
-        Proposal::Against { number } => Reply::refusal(number),
-        Proposal::Held { index } => answer_held(table, index, stamp),
-        Proposal::New { index } => add_checked(table, message, index, row),
+        Proposal::Against { number } => Response {
+            reply: Reply::refusal(number),
+            compared,
+        },
+        Proposal::Held { index } => Response {
+            reply: answer_held(table, index, stamp),
+            compared,
+        },
+        Proposal::New { index } => Response {
+            reply: add_checked(table, message, index, row),
+            compared,
+        },
     }
 }
 
@@ -180,14 +191,22 @@ fn finalise_held(table: &mut [u8], index: usize, stamp: u64, result: u8, retry: 
 }
 
 // Message 2, finalise prepare: in this view, of a prepare that is held, and not against another final result.
-pub fn finalise_prepare(table: &mut [u8], stamp: u64, view: u32, result: u8, retry: u64) -> Reply
+pub fn finalise_prepare(table: &mut [u8], stamp: u64, view: u32, result: u8, retry: u64) -> Response
     requires { ⌜ BeginsWithImage valley (now table) × (resultByCode result retry ≡ true) ⌝ }
-    ensures { λ r. ⌜ r ≡ servedReply valley (finalisePrepare stamp view (resultNumbered result retry)) (now (table .entry)) ⌝ }
+    ensures { λ r. ⌜ (r .reply ≡ servedReply valley (finalisePrepare stamp view (resultNumbered result retry)) (now (table .entry))) × (r .compared ≡ servedCompared (tableAt formatOne (now (table .entry))) (finalisePrepare stamp view (resultNumbered result retry))) ⌝ }
     ensures { λ _. ⌜ now (table .exit) ≡ servedBuffer valley (finalisePrepare stamp view (resultNumbered result retry)) (now (table .entry)) ⌝ }
 {
-    let finding = seek::row_to_finalise(table, stamp, view);
+    let found = seek::row_to_finalise(table, stamp, view);
+    let finding = found.finding;
+    let compared = found.compared;
     match finding {
-        Finding::Refused { number } => Reply::refusal(number),
-        Finding::Known { index } => finalise_held(table, index, stamp, result, retry),
+        Finding::Refused { number } => Response {
+            reply: Reply::refusal(number),
+            compared,
+        },
+        Finding::Known { index } => Response {
+            reply: finalise_held(table, index, stamp, result, retry),
+            compared,
+        },
     }
 }

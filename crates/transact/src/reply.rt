@@ -20,6 +20,12 @@ pub struct Reply {
     pub value: u64,
 }
 
+// A reply, and beside it how many rows were compared to find the row of its stamp: none of the 24 bytes.
+pub struct Response {
+    pub reply: Reply,
+    pub compared: usize,
+}
+
 impl Reply {
     // The reply of a refused call: its number and nothing else.
     pub fn refusal(number: u8) -> Reply
@@ -34,6 +40,15 @@ impl Reply {
             stamp: 0,
             value: 0,
         }
+    }
+}
+
+impl Response {
+    // A reply for which no stamp was sought.
+    pub fn unsearched(reply: Reply) -> Response
+        ensures { λ r. ⌜ (r .reply ≡ reply) × (r .compared ≡ 0) ⌝ }
+    {
+        Response { reply, compared: 0 }
     }
 }
 

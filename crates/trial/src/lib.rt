@@ -86,7 +86,8 @@ pub extern "C" fn trial_held_body(
     ensures { λ r. ⌜ r ≡ length (heldBody (held (rowsAt (now (image .entry)) begin rows) stamp)) ⌝ }
     ensures { λ _. ⌜ now (out .exit) ≡ replaced (now (out .entry)) 0 (heldBody (held (rowsAt (now (image .entry)) begin rows) stamp)) ⌝ }
 {
-    let body = rows::lookup::held_body(image, begin, rows, stamp);
+    let place = rows::lookup::find(image, begin, rows, stamp).place;
+    let body = rows::lookup::held_body(image, begin, place);
     wire::copy_part(body, out, 0);
     body.len()
 }

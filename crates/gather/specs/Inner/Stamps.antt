@@ -4,8 +4,6 @@ use mathlib.Core.List.{List, [], _∷_, map}
 use Prim.Native.Nat.{ℕ, _^_}
 use lib.Dec.{eqb, ltb}
 use Rattle.rules.specs.Tables.{Row, Table}
-use Rattle.rows.specs.declared.lookup.Place.{Place}
-use Rattle.rows.specs.declared.lookup.Place.the-variants.{Held, Absent}
 
 -- above all stamps
 abbrev pub noStamp : ℕ
@@ -19,7 +17,3 @@ nextAfter last (s ∷ ss) = cond (ltb last s) s (nextAfter last ss)
 -- the same of a table's stamps, if it is used
 abbrev pub stampAbove : ℕ → Table → ℕ → ℕ
 stampAbove newest T last = cond (eqb (T .view) newest) (nextAfter last (map (λ (r : Row). r .stamp) (T .rows))) noStamp
-
-abbrev pub indexOf : Place → ℕ
-indexOf (Held i) = i
-indexOf (Absent i) = i

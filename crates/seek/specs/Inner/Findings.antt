@@ -37,6 +37,11 @@ abbrev pub heldOrNew : Place → Proposal
 heldOrNew (Held i) = propose.Held i
 heldOrNew (Absent i) = propose.New i
 
+-- of a stamp that is not held: whether there is room for its row
+abbrev pub newOrFull : Bool → Place → Proposal
+newOrFull room (Held i) = propose.Against 7
+newOrFull room (Absent i) = cond room (propose.New i) (propose.Against 7)
+
 -- 4, "changing"; 5, "other body"; 7, "full"
 unfoldable pub toPropose : Model → Table → ℕ → Body → Proposal
 toPropose M T s x =

@@ -6,7 +6,7 @@ use borrow.Author.Needs.{needs}
 use Rattle.table.specs.Images.{formatOne}
 use Rattle.table.specs.Parse.{parse}
 use Rattle.seek.specs.Inner.Limits.{limited}
-use Rattle.answer.proofs.Responding.{found-nothing, found-begins, widened, some-boxes, heard-so}
+use Rattle.answer.proofs.Responding.{found-nothing, found-begins, widened, some-boxes, heard-so, heard-compared}
 use Rattle.answer.proofs.call.respond.Statement.{statement}
 use Rattle.answer.proofs.call.respond.Tie as tie
 
@@ -28,12 +28,16 @@ enum-told-2 c = search needs
 refusal-requires : tie.Need-refusal-requires
 refusal-requires c κs = search needs
 
+unsearched-requires : tie.Need-unsearched-requires
+unsearched-requires c κs = search needs
+
 same-length : tie.Need-same-length
 same-length c = search needs
 
 returns : tie.Need-returns
-returns c = let p = (c .before .before .before .before .before .before .before) in
-    rw (c .refusal .ensures, found-nothing (parse formatOne (limited (p .args .limit)) (now (p .args .table))) (sym ((c .before) .enum-told2 .given .1) ∙ (c .before .before .before) .find .ensures)) (refl, refl)
+returns c = let p = c .before .before .before .before .before .before .before .before in
+    let nothing = found-nothing (parse formatOne (limited (p .args .limit)) (now (p .args .table))) (sym (c .before .before .enum-told2 .given .1) ∙ c .before .before .before .before .find .ensures) in
+    rw nothing ((c .unsearched .ensures .0 ∙ c .before .refusal .ensures, c .unsearched .ensures .1), refl)
 
 read-requires : tie.Need-read-requires
 read-requires c κs = omega arith
@@ -50,9 +54,14 @@ same-length-2 : tie.Need-same-length-2
 same-length-2 c = search needs
 
 returns-2 : tie.Need-returns-2
-returns-2 c = let p = (c .before .before .before .before .before .before .before .before .before .before .before .before .before) in
-    let (reply, buffer) = heard-so (limited (p .args .limit)) (now (p .args .table)) (now (p .args .message)) _ (found-begins (limited (p .args .limit)) (now (p .args .table)) _ (sym ((c .before .before .before .before .before .before .before) .enum-told .given .1) ∙ (c .before .before .before .before .before .before .before .before .before) .find .ensures)) (rw ((c .before .before .before .before .before) .read .ensures) at ((c .before .before .before .before) .read2 .ensures .0)) in
-    ((c .before .before) .serve .ensures .0 ∙ reply, (c .before .before) .serve .ensures .1 ∙ buffer)
+returns-2 c = let p = c .before .before .before .before .before .before .before .before .before .before .before .before .before in
+    let s = now (p .args .table) in
+    let begins = found-begins (limited (p .args .limit)) s _ (sym (c .before .before .before .before .before .before .before .enum-told .given .1) ∙ c .before .before .before .before .before .before .before .before .before .find .ensures) in
+    let told = rw (c .before .before .before .before .before .read .ensures) at (c .before .before .before .before .read2 .ensures .0) in
+    let (reply, buffer) = heard-so (limited (p .args .limit)) s (now (p .args .message)) _ begins told in
+    let compared = heard-compared (limited (p .args .limit)) s (now (p .args .message)) _ begins told in
+    let n = c .before .before .serve .ensures in
+    ((n .0 .0 ∙ reply, n .0 .1 ∙ compared), n .1 ∙ buffer)
 
 pub respond-spec : {M : Type 1} → statement M
 respond-spec =
@@ -64,6 +73,7 @@ respond-spec =
     enum-told
     enum-told-2
     refusal-requires
+    unsearched-requires
     same-length
     returns
     read-requires

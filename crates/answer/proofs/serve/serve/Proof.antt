@@ -1,4 +1,5 @@
 -- Each kind has its function, and what the reader found is what that asks.
+use mathlib.Core.Path.{_∙_}
 use native.Mathlib.Nat.{le-trans}
 use native.Mathlib.Omega.{arith}
 use lib.ListN.{drop}
@@ -12,6 +13,7 @@ use Rattle.table.specs.Images.{formatOne}
 use Rattle.table.specs.Parse.{tableAt}
 use Rattle.seek.specs.Inner.Limits.{limited}
 use Rattle.seek.proofs.HeldRows.{image-holds}
+use Rattle.transact.specs.Inner.Served.{servedCompared}
 use Rattle.transact.proofs.Serving.{same-2, same-4, same-5, same-6, same-7, kept-any}
 use Rattle.answer.proofs.Asked.{prepare-given, outcome-given, start-given, up-to-end}
 use Rattle.answer.proofs.Responding.{none-answered}
@@ -52,6 +54,9 @@ enum-known-asked-5 c = search needs
 change-view-requires : tie.Need-change-view-requires
 change-view-requires c κs = search needs
 
+unsearched-requires : tie.Need-unsearched-requires
+unsearched-requires c κs = search needs
+
 enum-known-asked-6 : tie.Need-enum-known-asked-6
 enum-known-asked-6 c = search needs
 
@@ -69,17 +74,26 @@ start-view-requires c κs = let p = (c .before .before .before .before .before .
     let g = start-given (p .args .limit) (headerAt (now (p .args .table)) .n) (now (p .args .message)) (message-bytes (c .before .before .before .before .before)) _ (p .pre .0 .1) (rw ((c .before .before .before) .asked6 .given .1) at (p .pre .1 .0)) in
     rw (up-to-end (now (p .args .message)) 5) (p .pre .0 .0, g .1, g .2, le-trans (g .3) (p .pre .0 .2))
 
+unsearched-requires-2 : tie.Need-unsearched-requires-2
+unsearched-requires-2 c κs = search needs
+
 enum-known-asked-7 : tie.Need-enum-known-asked-7
 enum-known-asked-7 c = search needs
 
 read-register-requires : tie.Need-read-register-requires
 read-register-requires c κs = search needs
 
+unsearched-requires-3 : tie.Need-unsearched-requires-3
+unsearched-requires-3 c κs = search needs
+
 enum-told : tie.Need-enum-told
 enum-told c = search needs
 
 refusal-requires : tie.Need-refusal-requires
 refusal-requires c κs = search needs
+
+unsearched-requires-4 : tie.Need-unsearched-requires-4
+unsearched-requires-4 c κs = search needs
 
 same-length : tie.Need-same-length
 same-length c = search needs
@@ -91,7 +105,11 @@ same-length-2 : tie.Need-same-length-2
 same-length-2 c = search needs
 
 returns-2 : tie.Need-returns-2
-returns-2 c = let p = (c .before .before .before .before .before .before .before .before .before) in rw ((c .before .before .before .before .before) .asked2 .given .1) (kept-any valley (limited (p .args .limit)) _ (now (p .args .table)) (λ T. same-2 valley (limited (p .args .limit)) T _ _ _) ((c .before .before) .finalise-prepare .ensures))
+returns-2 c =
+    let p = c .before .before .before .before .before .before .before .before .before in
+    let n = c .before .before .finalise-prepare .ensures in
+    let (reply, after) = kept-any valley (limited (p .args .limit)) _ (now (p .args .table)) (λ T. same-2 valley (limited (p .args .limit)) T _ _ _) (n .0 .0, n .1) in
+    rw (c .before .before .before .before .before .asked2 .given .1) ((reply, n .0 .1), after)
 
 same-length-3 : tie.Need-same-length-3
 same-length-3 c = search needs
@@ -103,34 +121,50 @@ same-length-4 : tie.Need-same-length-4
 same-length-4 c = search needs
 
 returns-4 : tie.Need-returns-4
-returns-4 c = let p = (c .before .before .before .before .before .before .before .before .before) in rw ((c .before .before .before .before .before) .asked4 .given .1) (kept-any valley (limited (p .args .limit)) _ (now (p .args .table)) (λ T. same-4 valley (limited (p .args .limit)) T _ _ _) ((c .before .before) .finalise-outcome .ensures))
+returns-4 c =
+    let p = c .before .before .before .before .before .before .before .before .before in
+    let n = c .before .before .finalise-outcome .ensures in
+    let (reply, after) = kept-any valley (limited (p .args .limit)) _ (now (p .args .table)) (λ T. same-4 valley (limited (p .args .limit)) T _ _ _) (n .0 .0, n .1) in
+    rw (c .before .before .before .before .before .asked4 .given .1) ((reply, n .0 .1), after)
 
 same-length-5 : tie.Need-same-length-5
 same-length-5 c = search needs
 
 returns-5 : tie.Need-returns-5
-returns-5 c = let p = (c .before .before .before .before .before .before .before .before .before) in rw ((c .before .before .before .before .before) .asked5 .given .1) (kept-any valley (limited (p .args .limit)) _ (now (p .args .table)) (λ T. same-5 valley (limited (p .args .limit)) T _) ((c .before .before) .change-view .ensures))
+unfolding servedCompared
+returns-5 c =
+    let p = c .before .before .before .before .before .before .before .before .before .before in
+    let (reply, after) = kept-any valley (limited (p .args .limit)) _ (now (p .args .table)) (λ T. same-5 valley (limited (p .args .limit)) T _) (c .before .before .before .change-view .ensures) in
+    rw (c .before .before .before .before .before .before .asked5 .given .1) ((c .unsearched .ensures .0 ∙ reply, c .unsearched .ensures .1), after)
 
 same-length-6 : tie.Need-same-length-6
 same-length-6 c = search needs
 
 returns-6 : tie.Need-returns-6
-returns-6 c = let p = (c .before .before .before .before .before .before .before .before .before .before) in
+unfolding servedCompared
+returns-6 c =
+    let p = c .before .before .before .before .before .before .before .before .before .before .before in
     let I = tableAt formatOne (drop 5 (now (p .args .message))) in
-    rw ((c .before .before .before .before .before .before) .asked6 .given .1) (kept-any valley (limited (p .args .limit)) _ (now (p .args .table)) (λ T. same-6 valley (limited (p .args .limit)) T _ I) (rw (up-to-end (now (p .args .message)) 5) at ((c .before .before) .start-view .ensures)))
+    let (reply, after) = kept-any valley (limited (p .args .limit)) _ (now (p .args .table)) (λ T. same-6 valley (limited (p .args .limit)) T _ I) (rw (up-to-end (now (p .args .message)) 5) at (c .before .before .before .start-view .ensures)) in
+    rw (c .before .before .before .before .before .before .before .asked6 .given .1) ((c .unsearched2 .ensures .0 ∙ reply, c .unsearched2 .ensures .1), after)
 
 same-length-7 : tie.Need-same-length-7
 same-length-7 c = search needs
 
 returns-7 : tie.Need-returns-7
-returns-7 c = let p = (c .before .before .before .before .before .before .before) in
+unfolding servedCompared
+returns-7 c =
+    let p = c .before .before .before .before .before .before .before .before in
     let s = now (p .args .table) in
-    rw ((c .before .before .before) .asked7 .given .1) (kept-any valley (limited (p .args .limit)) _ s (λ T. same-7 valley (limited (p .args .limit)) T _ _) (c .read-register .ensures, read-keeps valley s _ _ (image-holds valley s (p .pre .0 .0))))
+    let (reply, after) = kept-any valley (limited (p .args .limit)) _ s (λ T. same-7 valley (limited (p .args .limit)) T _ _) (c .before .read-register .ensures, read-keeps valley s _ _ (image-holds valley s (p .pre .0 .0))) in
+    rw (c .before .before .before .before .asked7 .given .1) ((c .unsearched3 .ensures .0 ∙ reply, c .unsearched3 .ensures .1), after)
 
 returns-8 : tie.Need-returns-8
-returns-8 c = let p = (c .before .before .before .before .before) in
+returns-8 c =
+    let p = c .before .before .before .before .before .before in
     let s = now (p .args .table) in
-    rw ((c .before) .enum-told .given .1, c .refusal .ensures) (none-answered (limited (p .args .limit)) s (image-holds valley s (p .pre .0 .0)))
+    let (reply, after) = none-answered (limited (p .args .limit)) s (image-holds valley s (p .pre .0 .0)) in
+    rw (c .before .before .enum-told .given .1) ((c .unsearched4 .ensures .0 ∙ c .before .refusal .ensures ∙ reply, c .unsearched4 .ensures .1), after)
 
 pub serve-spec : {M : Type 1} → statement M
 serve-spec =
@@ -146,15 +180,19 @@ serve-spec =
     finalise-outcome-requires
     enum-known-asked-5
     change-view-requires
+    unsearched-requires
     enum-known-asked-6
     sub-start-view
     part-start-view-start
     part-start-view-end
     start-view-requires
+    unsearched-requires-2
     enum-known-asked-7
     read-register-requires
+    unsearched-requires-3
     enum-told
     refusal-requires
+    unsearched-requires-4
     same-length
     returns
     same-length-2

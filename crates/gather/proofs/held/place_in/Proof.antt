@@ -1,7 +1,7 @@
 -- The view first, then the look-up.
 use Prim.Native.Nat.{_-_}
 use borrow.Author.Needs.{needs}
-use Rattle.gather.proofs.OneTable.{header-inside, sought-in, place-elsewhere, place-found}
+use Rattle.gather.proofs.OneTable.{header-inside, place-elsewhere, place-found}
 use Rattle.gather.proofs.held.place_in.Statement.{statement}
 use Rattle.gather.proofs.held.place_in.Tie as tie
 
@@ -11,14 +11,11 @@ read-requires c κs = header-inside _ ((c .before) .pre)
 returns : tie.Need-returns
 returns c = place-elsewhere _ _ ((c .before .before) .read .ensures) _ _ (c .if1 .taken)
 
-cast-find : tie.Need-cast-find
-cast-find c = search needs
-
 find-requires : tie.Need-find-requires
-find-requires c κs = sought-in _ _ ((c .before .before .before) .read .ensures) ((c .before .before .before .before .before) .args .newest) ((c .before .before .before .before .before) .pre)
+find-requires c κs = search needs
 
 returns-2 : tie.Need-returns-2
-returns-2 c = place-found _ _ ((c .before .before .before .before) .read .ensures) _ _ _ ((c .before .before) .if1 .left) (c .find .ensures)
+returns-2 c = place-found _ _ ((c .before .before .before) .read .ensures) _ _ _ ((c .before) .if1 .left) (c .find .ensures .0)
 
 pub place-in-spec : {M : Type 1} → statement M
-place-in-spec = tie.close (tie.spec read-requires returns cast-find find-requires returns-2)
+place-in-spec = tie.close (tie.spec read-requires returns find-requires returns-2)

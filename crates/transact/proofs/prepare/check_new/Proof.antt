@@ -18,8 +18,8 @@ read-requires c κs = let p = (c .before .before) in holds-least formatOne (now 
 cast-check : tie.Need-cast-check
 cast-check c = search needs
 
-needed-body-requires : tie.Need-needed-body-requires
-needed-body-requires c κs = search needs
+body-of-requires : tie.Need-body-of-requires
+body-of-requires c κs = search needs
 
 cast-check-2 : tie.Need-cast-check-2
 cast-check-2 c = search needs
@@ -30,11 +30,11 @@ cast-check-3 c = search needs
 check-requires : tie.Need-check-requires
 check-requires c κs = let p = (c .before .before .before .before .before .before .before) in
     let l = length-body-part (now (p .args .message)) (p .args .row) (p .pre .1) in
-    rw ((c .before .before .before .before) .read .ensures, (c .before .before) .needed-body .ensures) (rows-inside valley (now (p .args .table)) valley-sound (p .pre .0), omega (arith, l))
+    rw ((c .before .before .before .before) .read .ensures, (c .before .before) .body-of .ensures) (rows-inside valley (now (p .args .table)) valley-sound (p .pre .0), omega (arith, l))
 
 returns : tie.Need-returns
 returns c = let p = (c .before .before .before .before .before .before .before .before) in
-    rw (c .check .ensures, (c .before .before .before .before .before) .read .ensures, (c .before .before .before) .needed-body .ensures, body-of-part (now (p .args .message)) (p .args .row) (p .pre .1), holds-rows-at formatOne (now (p .args .table)))
+    rw (c .check .ensures, (c .before .before .before .before .before) .read .ensures, (c .before .before .before) .body-of .ensures, body-of-part (now (p .args .message)) (p .args .row) (p .pre .1), holds-rows-at formatOne (now (p .args .table)))
 
 pub check-new-spec : {M : Type 1} → statement M
 check-new-spec =
@@ -42,7 +42,7 @@ check-new-spec =
     (tie.spec
     read-requires
     cast-check
-    needed-body-requires
+    body-of-requires
     cast-check-2
     cast-check-3
     check-requires
