@@ -20,22 +20,17 @@ ghost use Rattle.gather.specs.Inner.UsedTables.{usedOf};
 ghost use Rattle.merge.specs.Calls.{callNumber, callOutput};
 ghost use Rattle.merge.specs.Inner.Written.{startHeader};
 
-// The header of a table of so many rows that starts a view.
+// The header of a table of so many rows that starts a view: a fresh one of the box of that view, with view, promise and rows changed.
 fn start_header(n: u8, view: u32, rows: u32, length: u32) -> Header
     requires { ⌜ 0 < n ⌝ }
     ensures { λ r. ⌜ r ≡ startHeader n view rows length ⌝ }
 {
-    Header {
-        format: header::FORMAT_ONE,
-        boxnumber: (view % (n as u32)) as u8,
-        n,
-        mode: 0,
-        rows,
-        view,
-        promised: view,
-        start: rows,
-        length,
-    }
+    let mut h = Header::fresh(n, (view % (n as u32)) as u8)
+        .with_view(view)
+        .with_promised(view)
+        .with_rows(rows, length);
+    h.start = rows;
+    h
 }
 
 // Writes the merged table of a run that is not refused: rows as they are before any check, and the header; then the agreed ones that wait are checked, then the open ones.
