@@ -1,6 +1,7 @@
 /*
  * Sprondilu's calls, as C11 and C++11 link them from libsprondilu.a. "01" is the paper that fixes every number and
- * every byte: docs/CLAIMS has it sentence by sentence, and docs/FORMAT.md byte by byte.
+ * every byte: docs/CLAIMS has it sentence by sentence, and docs/FORMAT.md byte by byte. "02" is the paper of what was
+ * asked for later.
  *
  * A call works on buffers that its caller lends, keeps nothing between two calls, and ends with a number of 01's list.
  * What a call promises stands above it. It holds if all of the following does:
@@ -178,7 +179,8 @@ uint8_t sprondilu_fresh(uint8_t *table, size_t table_len, uint8_t n, uint8_t box
 SPRONDILU_MUST_USE
 uint64_t sprondilu_valid(const uint8_t *bytes, size_t bytes_len);
 
-/* The number in an answer of 64 bits, that of sprondilu_valid, sprondilu_count or sprondilu_count_records. */
+/* The number in an answer of 64 bits, that of sprondilu_valid, sprondilu_answer_compared, sprondilu_count or
+ * sprondilu_count_records. */
 #define SPRONDILU_NUMBER_OF(answer) ((answer) & 0xffu)
 
 /* The image's length in an answer of sprondilu_valid whose number is SPRONDILU_DONE. */
@@ -212,6 +214,38 @@ uint64_t sprondilu_valid(const uint8_t *bytes, size_t bytes_len);
 SPRONDILU_MUST_USE
 uint8_t sprondilu_answer(uint8_t *table, size_t table_len, const uint8_t *message, size_t message_len, uint8_t *reply,
                          size_t reply_len);
+
+/*
+ * Answers one message for a box exactly as sprondilu_answer does, and also says how many rows the search for the
+ * message's stamp compared. The number is the one that sprondilu_answer returns, and every byte of both buffers is as
+ * that call leaves it. Whoever wants the count calls this one in place of the other.
+ *
+ * The answer has the number in bits 0 to 7 and the rows compared in bits 16 to 63. All other bits are 0.
+ * SPRONDILU_NUMBER_OF and SPRONDILU_COMPARED_OF take it apart.
+ *
+ * The search goes by halving. Of the rows left, the one with half as many before it, rounded down, is compared. It has
+ * the stamp, or the search goes on behind it, or before it. Of no rows none is compared. The table that is searched is
+ * the one that the box held when the message came, also where a row is added then.
+ *
+ * "The answer to messages 1 to 4 passes this number on beside the reply, with 0 for refusals numbered 1 to 4 and 9"
+ * (02). So the rows compared are, by the number:
+ *   SPRONDILU_DONE for messages 1 to 4, SPRONDILU_OTHER_BODY, SPRONDILU_CONTRADICTION, SPRONDILU_FULL and
+ *   SPRONDILU_UNKNOWN
+ *       those that the search compared, "at most 10 for 512 rows; an empty table gives 0" (02)
+ *   SPRONDILU_DONE for messages 5 to 7, and every other number
+ *       0, since no stamp was searched
+ *
+ * Nothing but that search is counted, so the number is no measure of a call's fetches. Every answer goes over all rows
+ * once to judge whether the table keeps 01's rules, before it looks at the message. Message 1 that adds a row goes over
+ * all rows once more, for the check. Message 7 goes over them for its register. None of these rows is counted, nor is a
+ * body that is compared, nor are rows that move.
+ */
+SPRONDILU_MUST_USE
+uint64_t sprondilu_answer_compared(uint8_t *table, size_t table_len, const uint8_t *message, size_t message_len,
+                                   uint8_t *reply, size_t reply_len);
+
+/* The rows compared, in an answer of sprondilu_answer_compared whatever its number is. */
+#define SPRONDILU_COMPARED_OF(answer) ((answer) >> 16)
 
 /*
  * Makes the merge for view `view`. From the tables of f+1 boxes that promised it, laid end to end in one run, it makes the

@@ -17,6 +17,14 @@ pub mod library {
             reply: *mut u8,
             reply_len: usize,
         ) -> u8;
+        pub fn sprondilu_answer_compared(
+            table: *mut u8,
+            table_len: usize,
+            message: *const u8,
+            message_len: usize,
+            reply: *mut u8,
+            reply_len: usize,
+        ) -> u64;
         pub fn sprondilu_merge(
             run: *const u8,
             run_len: usize,
@@ -55,6 +63,21 @@ pub fn answer(table: &mut [u8], message: &[u8], reply: &mut [u8]) -> u8 {
     // Slices are valid for their lengths; nobody else has those that are written, so none overlap.
     unsafe {
         library::sprondilu_answer(
+            table.as_mut_ptr(),
+            table.len(),
+            message.as_ptr(),
+            message.len(),
+            reply.as_mut_ptr(),
+            reply.len(),
+        )
+    }
+}
+
+/// The same answer, with the rows that the search for the stamp compared: the word as the call codes it.
+pub fn answer_word(table: &mut [u8], message: &[u8], reply: &mut [u8]) -> u64 {
+    // Slices are valid for their lengths; nobody else has those that are written, so none overlap.
+    unsafe {
+        library::sprondilu_answer_compared(
             table.as_mut_ptr(),
             table.len(),
             message.as_ptr(),

@@ -1,7 +1,7 @@
 /*
  * The worked example of the C boundary: a fresh table in a lent buffer, the image in it, the paper's message answered by
- * that box, the merge of its table and another box's fresh one, the count of three boxes' replies as bytes and as records,
- * and refusals of each call.
+ * that box, stamps searched among several rows, the merge of its table and another box's fresh one, the count of three
+ * boxes' replies as bytes and as records, and refusals of each call.
  * It prints what the calls answered; whoever runs it compares that with the paper.
  */
 #include "sprondilu.h"
@@ -18,6 +18,9 @@ _Static_assert(_Generic(&sprondilu_valid, uint64_t (*)(const uint8_t *, size_t):
 _Static_assert(_Generic(&sprondilu_answer,
                         uint8_t (*)(uint8_t *, size_t, const uint8_t *, size_t, uint8_t *, size_t): 1, default: 0),
                "sprondilu_answer has another type");
+_Static_assert(_Generic(&sprondilu_answer_compared,
+                        uint64_t (*)(uint8_t *, size_t, const uint8_t *, size_t, uint8_t *, size_t): 1, default: 0),
+               "sprondilu_answer_compared has another type");
 _Static_assert(_Generic(&sprondilu_merge, uint8_t (*)(const uint8_t *, size_t, uint32_t, uint8_t *, size_t): 1,
                         default: 0),
                "sprondilu_merge has another type");
@@ -32,6 +35,9 @@ _Static_assert(_Generic(&sprondilu_count_records, uint64_t (*)(uint8_t, const sp
 
 static uint8_t table[SPRONDILU_TABLE_BYTES];
 static uint8_t reply[SPRONDILU_REPLY_BYTES + 1];
+/* The same once more, for the call that also says what was compared. */
+static uint8_t table_beside[SPRONDILU_TABLE_BYTES];
+static uint8_t reply_beside[SPRONDILU_REPLY_BYTES + 1];
 static uint8_t run[200];
 static size_t run_length = 0;
 static uint8_t replies[3 * SPRONDILU_COUNTED_BYTES];
@@ -39,7 +45,11 @@ static uint8_t replies[3 * SPRONDILU_COUNTED_BYTES];
 static sprondilu_record records[8];
 
 /* The paper's message 1: stamp 65,537 and one write, register 5, value 7. A byte follows it that is no part of it. */
-static const uint8_t message[21] = {1, 0, 0, 0, 0, 0, 1, 0, 1, 0, 1, 5, 0, 0, 0, 0, 0, 0, 0, 7, 0};
+static uint8_t message[21] = {1, 0, 0, 0, 0, 0, 1, 0, 1, 0, 1, 5, 0, 0, 0, 0, 0, 0, 0, 7, 0};
+
+/* The places in it of the last byte of the stamp's time, and of the last byte of the value. */
+#define TIME 6
+#define VALUE 19
 
 /* How many bytes of the buffer, from its start, a call may have changed: all behind them are as they were. */
 static size_t bytes_changed(void)
@@ -76,12 +86,28 @@ static void print_bytes(const uint8_t *bytes, size_t length)
     }
 }
 
+/* Both calls answer, each in buffers of its own: what they leave there has to be the same, and so has the number. */
+static uint64_t answer_both(size_t table_len, const uint8_t *asked, size_t asked_len, size_t reply_len)
+{
+    memcpy(table_beside, table, sizeof table);
+    memset(reply, DIRT, sizeof reply);
+    memset(reply_beside, DIRT, sizeof reply_beside);
+    uint8_t number = sprondilu_answer(table, table_len, asked, asked_len, reply, reply_len);
+    uint64_t answered =
+        sprondilu_answer_compared(table_beside, table_len, asked, asked_len, reply_beside, reply_len);
+    if (SPRONDILU_NUMBER_OF(answered) != number || memcmp(table_beside, table, sizeof table) != 0 ||
+        memcmp(reply_beside, reply, sizeof reply) != 0) {
+        printf("the two calls answer otherwise\n");
+    }
+    return answered;
+}
+
 /* The reply buffer is printed whole: a byte more than a reply has, so that it is seen to stay. */
 static void answer(const char *what, size_t table_len, size_t message_len, size_t reply_len)
 {
-    memset(reply, DIRT, sizeof reply);
-    unsigned int number = sprondilu_answer(table, table_len, message, message_len, reply, reply_len);
-    printf("answer, %s: number %u, reply\n", what, number);
+    uint64_t answered = answer_both(table_len, message, message_len, reply_len);
+    printf("answer, %s: number %" PRIu64 ", %" PRIu64 " compared, answer %" PRIx64 ", reply\n", what,
+           SPRONDILU_NUMBER_OF(answered), SPRONDILU_COMPARED_OF(answered), answered);
     print_bytes(reply, sizeof reply);
 }
 
@@ -101,15 +127,30 @@ static void answer_all(void)
     answer("with a retry stamp for OK", sizeof table, 20, SPRONDILU_REPLY_BYTES);
 }
 
-/* The box in the buffer promises view 7, and its image is laid behind the others of the run. */
+/* Five stamps, one after the other, and then the first of them again, with its own body and with another. */
+static void answer_searched(void)
+{
+    fresh("box 0 of 3", table, sizeof table, 3, 0);
+    for (uint8_t time = 1; time <= 5; time++) {
+        message[TIME] = time;
+        answer("one stamp more", sizeof table, 20, sizeof reply);
+    }
+    message[TIME] = 1;
+    answer("the first of five", sizeof table, 20, sizeof reply);
+    message[VALUE] = 8;
+    answer("the first of five with another body", sizeof table, 20, sizeof reply);
+    message[VALUE] = 7;
+}
+
+/* The box in the buffer promises view 7, and its image is laid behind the others of the run. No stamp is searched. */
 static void promise(void)
 {
     static const uint8_t change_view[5] = {5, 0, 0, 0, 7};
-    unsigned int number = sprondilu_answer(table, sizeof table, change_view, sizeof change_view, reply, sizeof reply);
+    uint64_t answered = answer_both(sizeof table, change_view, sizeof change_view, sizeof reply);
     size_t length = SPRONDILU_LENGTH_OF(sprondilu_valid(table, sizeof table));
     memcpy(run + run_length, table, length);
     run_length += length;
-    printf("answer, a view promised: number %u, a run of %zu bytes\n", number, run_length);
+    printf("answer, a view promised: answer %" PRIx64 ", a run of %zu bytes\n", answered, run_length);
 }
 
 /* The output is printed as far as it has changed. */
@@ -255,6 +296,7 @@ int main(void)
     valid("its image alone", table, 24);
     valid("a byte too short", table, 23);
     answer_all();
+    answer_searched();
     merge_all();
     count_all();
     count_most();

@@ -10,7 +10,12 @@ use std::path::PathBuf;
 use std::process::{Command, Output};
 
 /// What `fresh.c` has to print; the images are those of the paper, and so is the reply, but for the last image: the paper's
-/// row as a merge settles it. Of a count the answer stands behind its parts, whole, and then that of the records.
+/// row as a merge settles it. Of an answer to a message, and of a count, the whole stands behind its parts; behind that of a
+/// count also that of the records.
+///
+/// The rows compared were counted by hand. Each of the five stamps comes to a table of 0 to 4 rows, and lies behind all of
+/// them. So of none none is compared; of one the first; of two the second; of three the second and the third; of four the
+/// third and the fourth. The first of five is found by the third, by the second of the two before that, and by itself.
 const PRINTED: &str = "\
 fresh, a null pointer: number 1, 0 bytes changed
 fresh, a byte too short: number 1, 0 bytes changed
@@ -24,30 +29,45 @@ fresh, box 0 of 3: number 0, 24 bytes changed
 valid, the fresh table: an image of 24 bytes
 valid, its image alone: an image of 24 bytes
 valid, a byte too short: number 2, answer 2
-answer, a table buffer too short: number 1, reply
+answer, a table buffer too short: number 1, 0 compared, answer 1, reply
 ee ee ee ee ee ee ee ee ee ee ee ee ee ee ee ee ee ee ee ee ee ee ee ee ee
-answer, a reply buffer too short: number 1, reply
+answer, a reply buffer too short: number 1, 0 compared, answer 1, reply
 ee ee ee ee ee ee ee ee ee ee ee ee ee ee ee ee ee ee ee ee ee ee ee ee ee
-answer, no message: number 3, reply
+answer, no message: number 3, 0 compared, answer 3, reply
 03 00 00 00 00 00 00 00 00 00 00 00 00 00 00 00 00 00 00 00 00 00 00 00 ee
-answer, a byte too many: number 3, reply
+answer, a byte too many: number 3, 0 compared, answer 3, reply
 03 00 00 00 00 00 00 00 00 00 00 00 00 00 00 00 00 00 00 00 00 00 00 00 ee
 valid, after refusals: an image of 24 bytes
-answer, the message of the paper: number 0, reply
+answer, the message of the paper: number 0, 0 compared, answer 0, reply
 00 01 00 01 00 00 00 00 00 00 00 00 00 01 00 01 00 00 00 00 00 00 00 00 ee
 valid, with the row of the paper: an image of 57 bytes
 01 00 03 00 00 00 00 01 00 00 00 00 00 00 00 00 00 00 00 00 00 00 00 39 \
 00 00 00 00 00 01 00 01 00 00 00 00 00 00 00 00 00 00 00 30 00 01 01 00 \
 05 00 00 00 00 00 00 00 07
 valid, with a retry stamp for OK: number 2, answer 2
-answer, with a retry stamp for OK: number 2, reply
+answer, with a retry stamp for OK: number 2, 0 compared, answer 2, reply
 02 00 00 00 00 00 00 00 00 00 00 00 00 00 00 00 00 00 00 00 00 00 00 00 ee
 fresh, box 0 of 3: number 0, 24 bytes changed
-answer, the message of the paper: number 0, reply
+answer, one stamp more: number 0, 0 compared, answer 0, reply
 00 01 00 01 00 00 00 00 00 00 00 00 00 01 00 01 00 00 00 00 00 00 00 00 ee
-answer, a view promised: number 0, a run of 57 bytes
+answer, one stamp more: number 0, 1 compared, answer 10000, reply
+00 01 00 01 00 00 00 00 00 00 00 00 00 02 00 01 00 00 00 00 00 00 00 00 ee
+answer, one stamp more: number 0, 1 compared, answer 10000, reply
+00 01 00 01 00 00 00 00 00 00 00 00 00 03 00 01 00 00 00 00 00 00 00 00 ee
+answer, one stamp more: number 0, 2 compared, answer 20000, reply
+00 01 00 01 00 00 00 00 00 00 00 00 00 04 00 01 00 00 00 00 00 00 00 00 ee
+answer, one stamp more: number 0, 2 compared, answer 20000, reply
+00 01 00 01 00 00 00 00 00 00 00 00 00 05 00 01 00 00 00 00 00 00 00 00 ee
+answer, the first of five: number 0, 3 compared, answer 30000, reply
+00 01 00 01 00 00 00 00 00 00 00 00 00 01 00 01 00 00 00 00 00 00 00 00 ee
+answer, the first of five with another body: number 5, 3 compared, answer 30005, reply
+05 00 00 00 00 00 00 00 00 00 00 00 00 00 00 00 00 00 00 00 00 00 00 00 ee
+fresh, box 0 of 3: number 0, 24 bytes changed
+answer, the message of the paper: number 0, 0 compared, answer 0, reply
+00 01 00 01 00 00 00 00 00 00 00 00 00 01 00 01 00 00 00 00 00 00 00 00 ee
+answer, a view promised: answer 0, a run of 57 bytes
 fresh, box 2 of 3: number 0, 24 bytes changed
-answer, a view promised: number 0, a run of 81 bytes
+answer, a view promised: answer 0, a run of 81 bytes
 merge, an output too short: number 1, 0 bytes changed
 merge, no run: number 2, 0 bytes changed
 merge, a byte too few: number 2, 0 bytes changed
@@ -58,13 +78,13 @@ merge, two tables: number 0, 57 bytes changed
 00 00 00 00 00 01 00 01 00 00 00 00 00 00 00 00 00 00 00 30 00 01 05 00 \
 05 00 00 00 00 00 00 00 07
 fresh, a box of 3: number 0, 24 bytes changed
-answer, the message of the paper: number 0, reply
+answer, the message of the paper: number 0, 0 compared, answer 0, reply
 00 01 00 01 00 00 00 00 00 00 00 00 00 01 00 01 00 00 00 00 00 00 00 00 ee
 fresh, a box of 3: number 0, 24 bytes changed
-answer, the message of the paper: number 0, reply
+answer, the message of the paper: number 0, 0 compared, answer 0, reply
 00 01 01 01 00 00 00 00 00 00 00 00 00 01 00 01 00 00 00 00 00 00 00 00 ee
 fresh, a box of 3: number 0, 24 bytes changed
-answer, the message of the paper: number 0, reply
+answer, the message of the paper: number 0, 0 compared, answer 0, reply
 00 01 02 01 00 00 00 00 00 00 00 00 00 01 00 01 00 00 00 00 00 00 00 00 ee
 00 00 00 00 00 01 00 00 00 00 00 00 00 00 00 \
 01 00 00 00 00 01 00 00 00 00 00 00 00 00 00 \
@@ -96,9 +116,16 @@ fn a_c_program_gets_what_the_paper_says() {
 const CPP: &str = "#include \"sprondilu.h\"\n\
     int main() {\n\
     const sprondilu_record records[2] = {{0, SPRONDILU_RETRY, 0, 9, 5}, {1, SPRONDILU_OK, 1, 9, 0}};\n\
+    const uint8_t message[20] = {1, 0, 0, 0, 0, 0, 1, 0, 1, 0, 1, 5, 0, 0, 0, 0, 0, 0, 0, 7};\n\
+    static uint8_t table[SPRONDILU_TABLE_BYTES];\n\
+    uint8_t reply[SPRONDILU_REPLY_BYTES];\n\
     return SPRONDILU_NUMBER_OF(sprondilu_valid(nullptr, 0)) == SPRONDILU_BAD_TABLE\n\
     && sprondilu_fresh(nullptr, 0, 3, 0) == SPRONDILU_SMALL_BUFFER\n\
     && sprondilu_answer(nullptr, 0, nullptr, 0, nullptr, 0) == SPRONDILU_SMALL_BUFFER\n\
+    && sprondilu_answer_compared(nullptr, 0, nullptr, 0, nullptr, 0) == SPRONDILU_SMALL_BUFFER\n\
+    && sprondilu_fresh(table, sizeof table, 3, 0) == SPRONDILU_DONE\n\
+    && sprondilu_answer_compared(table, sizeof table, message, 20, reply, sizeof reply) == SPRONDILU_DONE\n\
+    && SPRONDILU_COMPARED_OF(sprondilu_answer_compared(table, sizeof table, message, 20, reply, sizeof reply)) == 1\n\
     && sprondilu_merge(nullptr, 0, 1, nullptr, 0) == SPRONDILU_SMALL_BUFFER\n\
     && SPRONDILU_NUMBER_OF(sprondilu_count(3, nullptr, 0)) == SPRONDILU_DONE\n\
     && SPRONDILU_KIND_OF(sprondilu_count(3, nullptr, 0)) == SPRONDILU_WAIT\n\
@@ -367,10 +394,11 @@ fn no_constant_is_without_a_sentence() {
 // ---- Answers that are not used.
 
 /// A use of each call, with nothing lent.
-const USES: [&str; 6] = [
+const USES: [&str; 7] = [
     "sprondilu_fresh(NULL, 0, 3, 0)",
     "sprondilu_valid(NULL, 0)",
     "sprondilu_answer(NULL, 0, NULL, 0, NULL, 0)",
+    "sprondilu_answer_compared(NULL, 0, NULL, 0, NULL, 0)",
     "sprondilu_merge(NULL, 0, 1, NULL, 0)",
     "sprondilu_count(3, NULL, 0)",
     "sprondilu_count_records(3, NULL, 0)",
