@@ -108,6 +108,7 @@ bool box_install(struct box *box, uint8_t number)
     }
     box->number = number;
     box->sequence = 0;
+    box->rows_compared = 0;
     box->answers = sprondilu_fresh(box->table, sizeof box->table, BOXES, number) == SPRONDILU_DONE && store_table(box);
     return box->answers;
 }
@@ -120,6 +121,7 @@ bool box_start(struct box *box, uint8_t number)
     const uint8_t *newest = flash_slot(number, even > odd ? 0 : 1);
     box->number = number;
     box->sequence = even > odd ? even : odd;
+    box->rows_compared = 0;
     box->answers = false;
     if (box->sequence > 0) {
         size_t length = number_at(newest + 8, 4);
@@ -139,13 +141,22 @@ static void fall_silent(struct box *box, const char *why)
     box_report(box->number, why);
 }
 
+/* The number of the library's answer. What its search has compared is added up, also where the message is refused. */
+static uint8_t answer_message(struct box *box, const uint8_t *message, size_t length, uint8_t *reply)
+{
+    uint64_t answer = sprondilu_answer_compared(box->table, sizeof box->table, message, length, reply,
+                                                SPRONDILU_REPLY_BYTES);
+    box->rows_compared += SPRONDILU_COMPARED_OF(answer);
+    return (uint8_t)SPRONDILU_NUMBER_OF(answer);
+}
+
 void box_receive(struct box *box, const uint8_t *message, size_t length)
 {
     uint8_t reply[SPRONDILU_REPLY_BYTES];
     if (!box->answers) {
         return;
     }
-    switch (sprondilu_answer(box->table, sizeof box->table, message, length, reply, sizeof reply)) {
+    switch (answer_message(box, message, length, reply)) {
     case SPRONDILU_DONE: /* what was answered outlives every power cut: it is stored before the reply goes out */
         if (!store_table(box)) {
             fall_silent(box, "the table could not be stored");

@@ -16,8 +16,9 @@
 
 struct box {
     uint8_t number;
-    bool answers;      /* if not, the box is silent, and is one of those that are away */
-    uint64_t sequence; /* of what is stored, counted from 1: it lies in slot sequence % 2 */
+    bool answers;           /* if not, the box is silent, and is one of those that are away */
+    uint64_t sequence;      /* of what is stored, counted from 1: it lies in slot sequence % 2 */
+    uint64_t rows_compared; /* by its searches for stamps, since it was started: a part of what it has fetched */
     uint8_t table[SPRONDILU_TABLE_BYTES];
 };
 

@@ -270,6 +270,12 @@ static void read_for(struct transaction *t, uint8_t box)
     }
 }
 
+/* Whether the searches of a box have compared so many rows more than before. */
+static bool has_compared(uint8_t box, uint64_t before, uint64_t rows)
+{
+    return boxes[box].rows_compared - before == rows;
+}
+
 static void begin(void)
 {
     bool installed = true;
@@ -289,6 +295,9 @@ static void fast_and_slow(void)
     show("A", &a, "A: 3 replies in view 0, 0 confirmations, OK declared; nothing accepted by 0, done by 0" WILL);
     advance(&a);
     show("A", &a, "A: 3 replies in view 0, 0 confirmations, OK declared; commit accepted by 3, done by 3: recorded");
+    /* Message 1 came to an empty table, and nothing was compared. Messages 1, 3 and 4 found one row: 0 + 1 + 1 + 1. */
+    step(has_compared(0, 0, 3) && has_compared(1, 0, 3) && has_compared(2, 0, 3),
+         "each box was sent four messages about A, and has compared 3 rows for them");
     reach[2] = OUT_OF_REACH;
     read_for(&b, 0);
     step(b.body.accesses[0].number == a.stamp, "box 2 is out of reach; B reads what A wrote, and so does D");
@@ -437,13 +446,20 @@ static void fill(uint8_t box)
     to_report[box] = "the table is full: a new transaction was refused";
 }
 
+/*
+ * Behind A to G, at the places 0 to 6, lie 505 rows of later stamps, and H belongs between them. By halving its stamp
+ * is compared with the rows at 256, 128, 64, 32, 16, 8 and 4, which is E's, then at 6, which is G's, and at 7: nine.
+ */
 static void full_tables(void)
 {
+    uint64_t before[BOXES] = {0, boxes[1].rows_compared, boxes[2].rows_compared};
     fill(1);
     fill(2);
     advance(&h);
     show("H", &h, "H: 1 reply in view 1, 0 confirmations, no result; abort accepted by 1, done by 0" NOT);
     step(has_reported(1) && has_reported(2) && h.full[1] && h.full[2], "too few boxes have room for H: it is given up");
+    step(has_compared(1, before[1], 18) && has_compared(2, before[2], 18),
+         "messages 1 and 3 were refused; for each of them boxes 1 and 2 have compared 9 of their 512 rows");
     step(restart(1) && restart(2), "boxes 1 and 2 have room again");
     advance(&h);
     show("H", &h, "H: 1 reply in view 1, 0 confirmations, no result; abort accepted by 3, done by 3" NOT);
@@ -580,6 +596,17 @@ static void end(void)
     step(all_read(14, l.stamp, 8), "register 14 is read in each: 8, as L wrote it");
 }
 
+/*
+ * Since its restart each box was asked for a register, and a read searches no stamp. A to L lie at the places 0 to 11.
+ * I's stamp is compared with G's at 6, with J's at 9 and with its own at 8: three, for message 3 and for message 4.
+ */
+static void once_more(void)
+{
+    conclude(&i);
+    step(has_compared(0, 0, 6) && has_compared(1, 0, 6) && has_compared(2, 0, 6),
+         "I's commit is sent once more; each box has compared 3 of its 12 rows for message 3, and 3 for message 4");
+}
+
 /* A line for the header, one for each row, and the bodies. */
 static void print_image(uint8_t box)
 {
@@ -611,6 +638,7 @@ int main(void)
     recorded_though_a_rule_was_broken();
     a_view_without_it();
     end();
+    once_more();
     for (uint8_t box = 0; box < BOXES; box++) {
         print_image(box);
     }

@@ -346,7 +346,7 @@ fn the_tables_in_the_end_are_those_of_the_second_program() {
 // ---- A wrong example is noticed, by itself.
 
 /// A file of the example, words that stand in it once, and what they are bent to.
-const BENT: [(&str, &str, &str); 42] = [
+const BENT: [(&str, &str, &str); 46] = [
     // a reply goes out though the table was not stored
     (
         "box.c",
@@ -390,6 +390,30 @@ const BENT: [(&str, &str, &str); 42] = [
         "box.c",
         "box->answers = false;\n    box_report(box->number, why);",
         "box->answers = false;\n    (void)why;",
+    ),
+    // what was compared is not added up
+    (
+        "box.c",
+        "box->rows_compared += SPRONDILU_COMPARED_OF(answer);",
+        "",
+    ),
+    // what was compared last stands in the place of the sum
+    (
+        "box.c",
+        "box->rows_compared += SPRONDILU_COMPARED_OF(answer);",
+        "box->rows_compared = SPRONDILU_COMPARED_OF(answer);",
+    ),
+    // what was compared for a refused message is left out
+    (
+        "box.c",
+        "box->rows_compared += SPRONDILU_COMPARED_OF(answer);",
+        "box->rows_compared += SPRONDILU_NUMBER_OF(answer) == SPRONDILU_DONE ? SPRONDILU_COMPARED_OF(answer) : 0;",
+    ),
+    // the sum goes on from what stood in memory when power came back
+    (
+        "box.c",
+        "box->sequence = even > odd ? even : odd;\n    box->rows_compared = 0;",
+        "box->sequence = even > odd ? even : odd;",
     ),
     // rule 1: message 3 has another body than message 1
     (
