@@ -30,6 +30,13 @@ pub fn answer(buffer: &mut [u8], message: &[u8]) -> (u8, Reply) {
     (number, reply)
 }
 
+/// The same, with how many rows the search for the message's stamp compared. The answer's bits are those of the C header.
+pub fn answer_compared(buffer: &mut [u8], message: &[u8]) -> (u8, Reply, u64) {
+    let mut reply = [0; REPLY_BYTES];
+    let answer = boundary::answer_word(buffer, message, &mut reply);
+    ((answer & 0xff) as u8, reply, answer >> 16)
+}
+
 /// The image that a merge makes of images laid end to end, or the number that refuses them.
 pub fn merge(run: &[u8], view: u32) -> Result<Vec<u8>, u8> {
     let mut buffer = vec![0; TABLE_BYTES];

@@ -28,6 +28,8 @@ pub struct Refusal {
     /// What was refused, such as the name of a file.
     pub what: String,
     pub reason: String,
+    /// What people are told behind the reason. A program has it in a field of its own.
+    pub behind: String,
     /// Where it is wrong, if it is the bytes of a file that are.
     pub byte: Option<usize>,
     /// What a program may want to know besides.
@@ -40,11 +42,12 @@ impl Refusal {
             format!("{}\n", self.json())
         } else {
             format!(
-                "{}: refused with {} {}: {}\n",
+                "{}: refused with {} {}: {}{}\n",
                 self.what,
                 self.number,
                 names::number(self.number),
-                self.reason
+                self.reason,
+                self.behind
             )
         }
     }

@@ -148,6 +148,12 @@ it, and the reply is printed and, with --reply, written to a file, also if the
 box refuses. If a start-view takes rows away, they are named: what too few boxes
 had heard of may be missing in the merge.
 
+Of messages 1 to 4 it also says how many rows the search for the stamp compared,
+at most 10 of 512. If no stamp was searched, as for the other messages and where
+one is refused with 2, 3, 4 or 9, nothing is said, and rows_compared in JSON is
+0. The rows that a box goes over to judge its table, which are all of them, and
+once more to check a new stamp, are not counted.
+
 The table is written safely: to a new file, synced, and put in the place of the
 old one, before any reply is given. A power cut leaves the old table whole or
 the new one whole. After one, the same message may be answered again and has the

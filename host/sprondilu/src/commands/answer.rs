@@ -54,6 +54,7 @@ fn is_same(one: &Path, other: &Path) -> bool {
 struct Answered {
     number: u8,
     reply: calls::Reply,
+    rows_compared: u64,
     after: Option<Vec<u8>>,
 }
 
@@ -65,7 +66,7 @@ impl Answered {
         let mut buffer = length.map_or(Vec::new(), |_| held.bytes.clone());
         let file_length = buffer.len();
         buffer.resize(file_length.max(TABLE_BYTES), 0);
-        let (number, reply) = calls::answer(&mut buffer, message);
+        let (number, reply, rows_compared) = calls::answer_compared(&mut buffer, message);
         let image = calls::image_in(&buffer).map_or(0, <[u8]>::len);
         // A file with more in it than the image is a dump of a buffer, and stays one.
         let is_dump = Some(file_length) != length;
@@ -78,6 +79,7 @@ impl Answered {
         Answered {
             number,
             reply,
+            rows_compared,
             after: changed.then_some(buffer),
         }
     }
@@ -106,6 +108,20 @@ impl Answered {
             )),
             other => other,
         }
+    }
+
+    /// How many rows the search for the stamp compared, if a stamp was searched. That was done for messages 1 to 4 which were
+    /// answered, and for those which were refused by what the table holds.
+    fn compared_in_words(&self) -> String {
+        let searched = match self.number {
+            0 => matches!(self.reply[1], 1..=4),
+            refusal => matches!(refusal, 5..=8),
+        };
+        if !searched {
+            return String::new();
+        }
+        let rows = names::how_many(self.rows_compared as usize, "row");
+        format!("; {} compared", rows)
     }
 
     /// The rows that the table had and has no more. Message 6 alone takes rows away: what too few boxes had heard of may be missing
@@ -139,7 +155,7 @@ impl Asked<'_> {
         let message = Message::of(&self.bytes);
         let gone = answered.gone(before);
         let text = format!(
-            "{}: {}; {}{}\n",
+            "{}: {}; {}{}{}\n",
             self.table.display(),
             reply.words_with(&said(&message, &reply)),
             if answered.after.is_some() {
@@ -147,6 +163,7 @@ impl Asked<'_> {
             } else {
                 "the table stays as it was"
             },
+            answered.compared_in_words(),
             gone_in_words(&gone)
         );
         let mut fields = reply.json();
@@ -168,6 +185,7 @@ impl Asked<'_> {
         vec![
             super::file_json(&self.table),
             ("table_changed", Json::Bool(answered.after.is_some())),
+            ("rows_compared", Json::from(answered.rows_compared)),
             ("reply", Json::text(hex(&answered.reply))),
             ("reply_file", out.unwrap_or(Json::Null)),
         ]
@@ -190,6 +208,7 @@ impl Asked<'_> {
             number,
             what: path.display().to_string(),
             reason: found.0 + &hint.unwrap_or_default(),
+            behind: answered.compared_in_words(),
             byte: found.1,
             more: self.json(answered),
         })

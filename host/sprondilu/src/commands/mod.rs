@@ -170,6 +170,7 @@ fn refused_bytes(number: u8, path: &Path, bytes: &[u8], found: wrong::Good) -> S
         number,
         what: path.display().to_string(),
         reason: reason + &hint.unwrap_or_default(),
+        behind: String::new(),
         byte,
         more: Vec::new(),
     })
@@ -181,6 +182,7 @@ fn refused(number: u8, what: &str, reason: String) -> Stop {
         number,
         what: what.to_string(),
         reason,
+        behind: String::new(),
         byte: None,
         more: Vec::new(),
     })

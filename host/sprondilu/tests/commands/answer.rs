@@ -6,6 +6,7 @@ use crate::common::json::{Value, READ, STAMP, VERSION};
 use crate::common::ran::{bad_usage, not_tried, refused};
 use crate::common::{answered, fresh, hex, run, Folder, History};
 use samples::{damage, message as make, random, Dice, Row};
+use std::collections::BTreeSet;
 
 /// "After message 1 with stamp 65,537 and one write, register 5, value 7: rows 1, length 57 [..]"
 #[test]
@@ -36,16 +37,20 @@ fn the_bytes_of_the_paper() {
     assert_eq!(folder.names(), ["m", "r", "zero.table"]);
 }
 
-/// Long histories of one table file: number, name, table file and reply file are those of the second program.
+/// Long histories of one table file: number, name, table file and reply file are those of the second program, and the rows
+/// compared are those of halving.
 #[test]
 fn histories_are_those_of_the_second_program() {
     let mut met = [0; 12];
+    let mut compared = BTreeSet::new();
     for seed in 1..29 {
         let folder = Folder::new();
         let mut history = History::seeded(seed);
         folder.put("t", &history.image);
         for _ in 0..25 {
-            met[usize::from(asked(&folder, &mut history))] += 1;
+            let (number, rows) = asked(&folder, &mut history);
+            met[usize::from(number)] += 1;
+            compared.insert(rows);
         }
         assert_eq!(folder.names(), ["m", "r", "t"]);
     }
@@ -55,10 +60,37 @@ fn histories_are_those_of_the_second_program() {
     ];
     assert!(given.iter().all(|times| *times > 2), "{:?}", met);
     assert_eq!((met[1], met[2], met[11]), (0, 0, 0));
+    // In tables of few rows, and in full ones.
+    assert!([0, 1, 2, 3, 9].iter().all(|rows| compared.contains(rows)));
+    assert!(compared.iter().all(|rows| *rows <= 10), "{:?}", compared);
 }
 
-/// Has one message answered by the program and the second program.
-fn asked(folder: &Folder, history: &mut History) -> u8 {
+/// "equal to the steps of a written definition of halving": of the rows left, the one with half as many before it, rounded
+/// down, is compared. It has the stamp, or the search goes on behind it, or before it.
+fn steps(stamps: &[u64], stamp: u64) -> u64 {
+    let (before, rest) = stamps.split_at(stamps.len() / 2);
+    match rest.split_first() {
+        None => 0,
+        Some((middle, _)) if *middle == stamp => 1,
+        Some((middle, behind)) if *middle < stamp => 1 + steps(behind, stamp),
+        Some(_) => 1 + steps(before, stamp),
+    }
+}
+
+/// "The answer to messages 1 to 4 passes this number on beside the reply, with 0 for refusals numbered 1 to 4 and 9."
+fn compared(image: &[u8], message: &[u8], number: u8) -> u64 {
+    let searched = matches!(number, 0 | 5..=8) && matches!(message[0], 1..=4);
+    if !searched {
+        return 0;
+    }
+    let rows = reference::Table::parse(image).expect("a table").0.rows;
+    let stamps: Vec<u64> = rows.keys().copied().collect();
+    let stamp = message[1..9].try_into().expect("eight bytes");
+    steps(&stamps, u64::from_be_bytes(stamp))
+}
+
+/// Has one message answered by the program and the second program: the number, and the rows compared.
+fn asked(folder: &Folder, history: &mut History) -> (u8, u64) {
     let message = history.message();
     let before = history.image.clone();
     let (number, reply) = history.answer(&message);
@@ -79,14 +111,82 @@ fn asked(folder: &Folder, history: &mut History) -> u8 {
     assert_eq!(told.text("reply"), Some(&*hex(&reply)));
     assert_eq!(told.text("reply_file"), Some("r"));
     assert_eq!(told.at(&["table_changed"]), &Value::Bool(changed));
+    let rows = compared(&before, &message, number);
+    assert_eq!(told.number("rows_compared"), Some(rows), "{:?}", ran);
     if number != 0 {
         ran.refused_json(number);
-        return number;
+        return (number, rows);
     }
     ran.done();
     assert_reply(&told, &reply);
     assert_gone(&told, &before, &history.image);
-    number
+    (number, rows)
+}
+
+/// The rows compared, counted by hand: how many rows the table has, the message, the number, and the rows compared if a stamp
+/// was searched. The rows have the stamps 1:1, 2:1 and so on. Of three rows 2:1 is compared first. Of 512 it is 257:1; before
+/// it then 129:1, 65:1, 33:1, 17:1, 9:1, 5:1, 3:1, 2:1 and 1:1, and behind it 385:1, 449:1, 481:1, 497:1, 505:1, 509:1, 511:1
+/// and 512:1.
+const COMPARED: [(u64, &str, u8, Option<u64>); 16] = [
+    (0, "propose-prepare 1:1 write 5=7", 0, Some(0)),
+    (0, "finalise-prepare 1:1 view 0 OK", 8, Some(0)),
+    (1, "propose-prepare 1:1 write 5=7", 0, Some(1)),
+    (3, "propose-prepare 4:1 write 5=7", 0, Some(2)),
+    (3, "finalise-prepare 2:1 view 0 OK", 0, Some(1)),
+    (3, "propose-outcome 1:1 abort write 5=7", 0, Some(2)),
+    (3, "finalise-outcome 2:1 view 0 abort", 8, Some(1)),
+    (3, "propose-prepare 3:1 write 5=8", 5, Some(2)),
+    (3, "finalise-prepare 1:1 view 1 OK", 9, None),
+    (3, "change-view 1", 0, None),
+    (3, "change-view 0", 10, None),
+    (3, "read 3:1 register 5", 0, None),
+    (512, "propose-prepare 1:1 write 5=7", 0, Some(10)),
+    (512, "propose-prepare 257:1 write 5=7", 0, Some(1)),
+    (512, "propose-prepare 513:1 write 5=7", 7, Some(9)),
+    (512, "propose-outcome 512:1 commit write 5=8", 5, Some(9)),
+];
+
+#[test]
+fn the_rows_compared_are_told_behind_all_else() {
+    let folder = Folder::new();
+    for (rows, words, number, compared) in COMPARED {
+        folder.put("t", &long_table(rows));
+        run(&folder, &format!("message {} --out m --replace", words)).done();
+        let told = run(&folder, "answer t m --json").json();
+        assert_eq!(told.number("number"), Some(u64::from(number)), "{}", words);
+        assert_eq!(told.number("rows_compared"), Some(compared.unwrap_or(0)));
+        folder.put("t", &long_table(rows));
+        let out = run(&folder, "answer t m").out;
+        let said = match compared {
+            Some(1) => "; 1 row compared\n".to_string(),
+            Some(rows) => format!("; {} rows compared\n", rows),
+            None => String::new(),
+        };
+        assert!(out.ends_with(&said), "{}: {}", words, out);
+        assert_eq!(out.contains("compared"), compared.is_some(), "{}", out);
+    }
+}
+
+/// A table that is between two views, one that is none, and a message that is none.
+#[test]
+fn nothing_is_compared_for_refusals_2_3_and_4() {
+    let folder = Folder::new();
+    let (normal, changing) = held();
+    let prepare = make::propose_prepare(&samples::row_of_the_paper(0));
+    let cases: [(&[u8], &[u8], u8); 3] = [
+        (&normal[1..], &prepare, 2),
+        (&normal, &prepare[1..], 3),
+        (&changing, &prepare, 4),
+    ];
+    for (table, message, number) in cases {
+        folder.put("t", table);
+        folder.put("m", message);
+        refused(&folder, "answer t m", number);
+        let told = run(&folder, "answer t m --json").json();
+        assert_eq!(told.number("rows_compared"), Some(0), "{}", number);
+        let out = run(&folder, "answer t m").out;
+        assert!(!out.contains("compared"), "{}", out);
+    }
 }
 
 /// The rows that the table had and has no more are told, each of them and no other.

@@ -111,14 +111,25 @@ impl Ran {
     }
 }
 
+/// What people are told behind a reason: the rows compared, where a box was asked and refused by what its table holds.
+fn behind_the_reason(told: &Value, number: u8) -> String {
+    match told.number("rows_compared") {
+        Some(1) if (5..=8).contains(&number) => "; 1 row compared".to_string(),
+        Some(rows) if (5..=8).contains(&number) => format!("; {} rows compared", rows),
+        _ => String::new(),
+    }
+}
+
 /// Runs a line that is refused, once for people and once for programs: both say the same, and no file of the folder is touched.
 /// The reason and the byte are handed back.
 #[track_caller]
 pub fn refused(folder: &Folder, line: &str, number: u8) -> (String, Option<u64>) {
     let before = folder.state();
-    let reason = run(folder, line).refused(number);
-    let (told, byte) = run(folder, &format!("{} --json", line)).refused_json(number);
-    assert_eq!(told, reason, "{}", line);
+    let said = run(folder, line).refused(number);
+    let ran = run(folder, &format!("{} --json", line));
+    let behind = behind_the_reason(&ran.json(), number);
+    let (reason, byte) = ran.refused_json(number);
+    assert_eq!(said, format!("{}{}", reason, behind), "{}", line);
     assert!(folder.state() == before, "{} touched a file", line);
     if let Some(byte) = byte {
         let place = format!("at byte {}", byte);
