@@ -11,13 +11,13 @@ const COMMIT_DONE: u8 = 3;
 
 /// Tables to which one message of this kind is sent, all rows with the longest bodies.
 pub struct Answering<const KIND: u8> {
-    message: Vec<u8>,
+    pub message: Vec<u8>,
     /// The buffer before the message and after it, and the reply, as the second program has them.
-    before: Vec<u8>,
+    pub before: Vec<u8>,
     after: Vec<u8>,
     reply: Vec<u8>,
     /// A table buffer and a reply buffer for each time.
-    lent: Vec<(Vec<u8>, Vec<u8>)>,
+    pub lent: Vec<(Vec<u8>, Vec<u8>)>,
 }
 
 impl<const KIND: u8> Work for Answering<KIND> {

@@ -1,6 +1,6 @@
 //! The proved library beside its twin in plain safe Rust and beside the second program, in one run: validity of an image, a
-//! box's answer to a message of each kind, the merge, the coordinator's count, a row added to a table, and a stamp searched in
-//! one. What matters are ratios: all sides are built for release and work on the same bytes on the same machine, in turns.
+//! box's answer to a message of each kind, also with the rows that its search compared, the merge, the coordinator's count, a
+//! row added to a table, and a stamp searched in one. What matters are ratios: all sides are built for release and work on the same bytes on the same machine, in turns.
 //!
 //! `bench` measures times, has valgrind count instructions, looks how deep the library's calls go on the stack, and prints
 //! tables in Markdown. `bench WORK SIDE SIZE TIMES`, as `bench insert library 511 50`, only does that work so many times, on
@@ -9,6 +9,7 @@
 //! prints the times that a log of the gate has. `tools/bench` does all of it.
 
 mod answer;
+mod compared;
 mod count;
 mod gate;
 mod insert;
@@ -23,6 +24,7 @@ mod twin;
 mod valid;
 
 use answer::Answering;
+use compared::Comparing;
 use count::Counting;
 use insert::Inserting;
 use merge::Merging;
@@ -66,16 +68,21 @@ pub trait Work {
 /// Adds a row to a table in its buffer, at an index.
 type AddRow = unsafe fn(&mut [u8], usize, &[u8]);
 
+/// Answers a message: the number, with the rows compared beside it.
+type AnswerWord = fn(&mut [u8], &[u8], &mut [u8]) -> u64;
+
 /// Copies the body of a stamp's row out of an image of so many rows, and returns its length, 0 if there is no such row.
 type HeldBody = unsafe fn(&[u8], usize, u64, &mut [u8]) -> usize;
 
 /// A side of the comparison: its name, and its ways to judge lent bytes, to answer a message, to merge tables, to count
-/// replies in bytes, and, if it has them, to count replies as records, to add a row to a table and to look a stamp up.
+/// replies in bytes, and, if it has them, to answer with the rows compared, to count replies as records, to add a row to a
+/// table and to look a stamp up.
 #[derive(Clone, Copy)]
 pub struct Side {
     name: &'static str,
     valid_answer: fn(&[u8]) -> u64,
     answer: fn(&mut [u8], &[u8], &mut [u8]) -> u8,
+    answer_word: Option<AnswerWord>,
     merge: fn(&[u8], u32, &mut [u8]) -> u8,
     count: fn(u8, &[u8]) -> u64,
     count_records: Option<fn(u8, &[boundary::Record]) -> u64>,
@@ -87,6 +94,7 @@ pub const LIBRARY: Side = Side {
     name: "library",
     valid_answer: boundary::valid_answer,
     answer: boundary::answer,
+    answer_word: Some(boundary::answer_word),
     merge: boundary::merge,
     count: boundary::count,
     count_records: Some(boundary::count_records),
@@ -98,6 +106,7 @@ pub const TWIN: Side = Side {
     name: "twin",
     valid_answer: twin::valid::valid_answer,
     answer: twin::answer::answer::<Halving>,
+    answer_word: None,
     merge: twin::merge::merge::<Halving>,
     count: twin::count::count,
     count_records: None,
@@ -118,6 +127,7 @@ pub const SECOND: Side = Side {
     name: "second",
     valid_answer: reference::valid,
     answer: reference::answer,
+    answer_word: None,
     merge: reference::merge,
     count: reference::count,
     count_records: Some(second::count_records),
@@ -137,6 +147,13 @@ pub const BYTES: Side = Side {
     name: "bytes",
     count: boundary::count,
     ..TWIN
+};
+
+/// The library, but for the answer that also says what was compared.
+pub const ANSWER: Side = Side {
+    name: "answer",
+    answer_word: None,
+    ..LIBRARY
 };
 
 /// A work by its name, and what can be had of it.
@@ -174,7 +191,7 @@ pub struct Section {
     works: &'static [Named],
 }
 
-const SECTIONS: [Section; 8] = [
+const SECTIONS: [Section; 9] = [
     Section {
         heading: "Validity",
         works: &[named::<Judging>()],
@@ -190,6 +207,10 @@ const SECTIONS: [Section; 8] = [
             named::<Answering<6>>(),
             named::<Answering<7>>(),
         ],
+    },
+    Section {
+        heading: "Messages with the rows compared",
+        works: &[named::<Comparing<1>>(), named::<Comparing<2>>()],
     },
     Section {
         heading: "Merge of the same stamps",

@@ -29,6 +29,7 @@ const PAINTED: Side = Side {
     name: "library on a painted stack",
     valid_answer,
     answer,
+    answer_word: Some(answer_word),
     merge,
     count,
     count_records: Some(count_records),
@@ -74,16 +75,26 @@ fn valid_answer(bytes: &[u8]) -> u64 {
     unsafe { called(library::sprondilu_valid as *const (), words) as u64 }
 }
 
-fn answer(table: &mut [u8], message: &[u8], reply: &mut [u8]) -> u8 {
-    let words = [
+/// What both calls that answer a message are given.
+fn lent(table: &mut [u8], message: &[u8], reply: &mut [u8]) -> [usize; 6] {
+    [
         table.as_mut_ptr() as usize,
         table.len(),
         message.as_ptr() as usize,
         message.len(),
         reply.as_mut_ptr() as usize,
         reply.len(),
-    ];
+    ]
+}
+
+fn answer(table: &mut [u8], message: &[u8], reply: &mut [u8]) -> u8 {
+    let words = lent(table, message, reply);
     unsafe { called(library::sprondilu_answer as *const (), words) as u8 }
+}
+
+fn answer_word(table: &mut [u8], message: &[u8], reply: &mut [u8]) -> u64 {
+    let words = lent(table, message, reply);
+    unsafe { called(library::sprondilu_answer_compared as *const (), words) as u64 }
 }
 
 fn merge(run: &[u8], view: u32, out: &mut [u8]) -> u8 {
@@ -218,6 +229,7 @@ mod tests {
         let others = [
             "sprondilu_valid",
             "sprondilu_answer",
+            "sprondilu_answer_compared",
             "sprondilu_merge",
             "sprondilu_count",
             "sprondilu_count_records",
