@@ -3,41 +3,64 @@
 use crate::body::Body;
 use crate::bytes::put;
 use crate::check::check;
+use crate::halving::compared_for;
 use crate::message::Message;
 use crate::numbers::{first_that_applies, Number};
-use crate::reply::{refusal_bytes, Reply, REPLY_LENGTH};
+use crate::reply::{refusal_bytes, Answered, Reply, REPLY_LENGTH};
 use crate::row::{HeldOutcome, HeldPrepare, Outcome, PrepareResult, Row};
 use crate::table::{Mode, Table};
 use crate::Model;
 
-/// The answer over bytes. The table is written only here, and only when the message was done.
+/// The number of the answer over bytes.
 pub fn answer_for(model: Model, table: &mut [u8], message: &[u8], reply: &mut [u8]) -> Number {
+    answered_for(model, table, message, reply).number
+}
+
+/// The answer over bytes, with the rows that were compared.
+pub fn answered_for(model: Model, table: &mut [u8], message: &[u8], reply: &mut [u8]) -> Answered {
     if table.len() < model.buffer || reply.len() < REPLY_LENGTH {
         // "except number 1, which writes nothing"
-        return Number::SmallBuffer;
+        return Answered::unsearched(Number::SmallBuffer);
     }
-    match judged(model, table, message) {
-        Ok((old_length, after, done)) => {
-            let mut image = after.image();
-            // "if the image shrank, the bytes given up are zero"
-            image.resize(image.len().max(old_length), 0);
-            put(table, &image);
-            put(reply, &done.bytes());
-            Number::Done
+    match parsed(model, table, message) {
+        Ok((held, length, message)) => {
+            let number = match respond(model, &held, &message) {
+                Ok((after, done)) => write(table, length, &after, reply, &done),
+                Err(refusal) => refuse(reply, refusal),
+            };
+            let compared = compared_for(number, &held, &message);
+            Answered { number, compared }
         }
-        Err(refusal) => {
-            put(reply, &refusal_bytes(refusal));
-            refusal
-        }
+        Err(refusal) => Answered::unsearched(refuse(reply, refusal)),
     }
 }
 
-/// The length of the image held, the table after the message, and the reply.
-fn judged(model: Model, table: &[u8], message: &[u8]) -> Result<(usize, Table, Reply), Number> {
+/// The table held with the length of its image, and the message.
+fn parsed(model: Model, table: &[u8], message: &[u8]) -> Result<(Table, usize, Message), Number> {
     let (held, length) = Table::parse_for(model, table).ok_or(Number::BadTable)?;
     let message = Message::parse_for(model, message).ok_or(Number::BadMessage)?;
-    let (after, reply) = respond(model, &held, &message)?;
-    Ok((length, after, reply))
+    Ok((held, length, message))
+}
+
+/// The table is written only here, and only when the message was done.
+fn write(
+    table: &mut [u8],
+    old_length: usize,
+    after: &Table,
+    reply: &mut [u8],
+    done: &Reply,
+) -> Number {
+    let mut image = after.image();
+    // "if the image shrank, the bytes given up are zero"
+    image.resize(image.len().max(old_length), 0);
+    put(table, &image);
+    put(reply, &done.bytes());
+    Number::Done
+}
+
+fn refuse(reply: &mut [u8], refusal: Number) -> Number {
+    put(reply, &refusal_bytes(refusal));
+    refusal
 }
 
 /// The answer over structures: the table after the message and the reply, or the refusal.

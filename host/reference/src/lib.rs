@@ -11,6 +11,7 @@
 //! - [`numbers`]: "Numbers returned"
 //! - [`message`], [`answer`], [`reply`]: "Messages to a box"
 //! - [`check`], [`merge`], [`count`]: the chapters of these names
+//! - [`halving`]: the rows that the search for a stamp compares, which document 02 asks for
 
 pub mod answer;
 pub mod body;
@@ -18,6 +19,7 @@ pub mod bytes;
 pub mod check;
 pub mod count;
 pub mod group;
+pub mod halving;
 pub mod merge;
 pub mod message;
 pub mod numbers;
@@ -34,7 +36,7 @@ pub use group::Counts;
 pub use merge::merged;
 pub use message::Message;
 pub use numbers::Number;
-pub use reply::Reply;
+pub use reply::{Answered, Reply};
 pub use row::{HeldOutcome, HeldPrepare, Outcome, PrepareResult, Row, Rows};
 pub use table::{Mode, Table};
 
@@ -65,6 +67,11 @@ pub fn valid(bytes: &[u8]) -> u64 {
 /// A box's answer to one message: the table changed, the reply written; returns the number.
 pub fn answer(table: &mut [u8], message: &[u8], reply: &mut [u8]) -> u8 {
     answer::answer_for(VALLEY, table, message, reply).code()
+}
+
+/// The same answer, coded as at the C boundary: the number, and from bit 16 on the rows that the search compared.
+pub fn answer_word(table: &mut [u8], message: &[u8], reply: &mut [u8]) -> u64 {
+    answer::answered_for(VALLEY, table, message, reply).word()
 }
 
 /// The merge for a view of the images laid end to end in a run; returns the number.

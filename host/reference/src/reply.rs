@@ -41,6 +41,27 @@ impl Reply {
     }
 }
 
+/// What an answer says beside the reply's bytes.
+#[derive(Clone, Copy, Debug, PartialEq, Eq)]
+pub struct Answered {
+    pub number: Number,
+    /// How many rows the search for the message's stamp compared.
+    pub compared: usize,
+}
+
+impl Answered {
+    /// An answer without a search, for there was no table or no message.
+    pub fn unsearched(number: Number) -> Answered {
+        let compared = 0;
+        Answered { number, compared }
+    }
+
+    /// Coded as at the C boundary: the number in bits 0 to 7, the rows compared from bit 16 on.
+    pub fn word(self) -> u64 {
+        u64::from(self.number.code()) | (self.compared as u64) << 16
+    }
+}
+
 /// "the reply has the number in byte 0 and 23 zero bytes"
 pub fn refusal_bytes(number: Number) -> Vec<u8> {
     let mut bytes = vec![0; REPLY_LENGTH];
