@@ -73,7 +73,7 @@ pub fn answer(table: &mut [u8], message: &[u8], reply: &mut [u8]) -> u8 {
     }
 }
 
-/// The same answer, with the rows that the search for the stamp compared: the word as the call codes it.
+/// The same answer with the rows that the search for the message's stamp compared: the answer as the call codes it.
 pub fn answer_word(table: &mut [u8], message: &[u8], reply: &mut [u8]) -> u64 {
     // Slices are valid for their lengths; nobody else has those that are written, so none overlap.
     unsafe {

@@ -23,23 +23,28 @@ fn a_length_is_taken_whole() {
 }
 
 /// Cut to 32 bits, each of these lengths would be another one.
-#[test]
-fn every_length_of_an_answer_is_taken_whole() {
+fn lengths_are_taken_whole(answer: fn(&mut [u8], &[u8], &mut [u8]) -> u64) {
     let mut table = vec![0; TABLE_BYTES];
     assert_eq!(boundary::fresh(&mut table, 3, 1), 0);
     let change_view = [5, 0, 0, 0, 7];
     let mut long = longer_than_32_bits(5);
     long[..24].copy_from_slice(&table[..24]);
     let mut reply = [0; 24];
-    assert_eq!(boundary::answer(&mut long, &change_view, &mut reply), 0);
+    assert_eq!(answer(&mut long, &change_view, &mut reply), 0);
     assert_eq!((long[3], long[15]), (1, 7));
     long[..24].fill(0);
-    assert_eq!(boundary::answer(&mut table, &change_view, &mut long), 0);
+    assert_eq!(answer(&mut table, &change_view, &mut long), 0);
     assert_eq!(long[..24], reply);
     // A byte is behind the first five of such a message, and many more.
     long[..24].fill(0);
     long[..5].copy_from_slice(&[5, 0, 0, 0, 9]);
-    assert_eq!(boundary::answer(&mut table, &long, &mut reply), 3);
+    assert_eq!(answer(&mut table, &long, &mut reply), 3);
+}
+
+#[test]
+fn every_length_of_an_answer_is_taken_whole() {
+    lengths_are_taken_whole(|table, message, reply| boundary::answer(table, message, reply).into());
+    lengths_are_taken_whole(boundary::answer_word);
 }
 
 /// An output cut to 32 bits would be too short, and the run cut to them would be the two images alone.

@@ -1,4 +1,5 @@
-//! A box's answers against the second program: number, table and reply, to the byte, in more than a million calls.
+//! A box's answers against the second program: number, rows compared, table and reply, to the byte, in more than a
+//! million calls; and the call that answers with the number alone against the one that answers with both.
 
 mod buffers;
 mod damaged;
@@ -75,9 +76,10 @@ fn the_worked_message_makes_the_table_of_the_paper() {
     let mut table = vec![0xee; TABLE_BYTES];
     let mut reply = [0xee; 30];
     assert_eq!(boundary::fresh(&mut table, 3, 0), 0);
-    // The second time the prepare that is held is answered, and nothing changes.
-    for _ in 0..2 {
-        assert_eq!(boundary::answer(&mut table, &message, &mut reply), 0);
+    // The second time the prepare that is held is answered, and nothing changes. Then there is a row to compare.
+    for compared in [0, 1] {
+        let word = boundary::answer_word(&mut table, &message, &mut reply);
+        assert_eq!(word, compared << 16);
         assert_eq!(table[..57], image);
         assert_eq!(table[57..], [0xee; TABLE_BYTES - 57]);
         assert_eq!(reply[..24], answered);

@@ -11,6 +11,8 @@ const DIRT: u8 = 0xee;
 /// What a message came to.
 #[derive(Clone, PartialEq, Debug)]
 pub struct Answered {
+    /// The number, and beside it the rows compared, as the call codes them.
+    pub word: u64,
     pub number: u8,
     pub image: Vec<u8>,
     pub reply: Vec<u8>,
@@ -38,8 +40,8 @@ pub fn table_number(bytes: &[u8]) -> Checked<u8> {
 
 /// The answer to a message of a box whose buffer begins with an image.
 pub fn answered(image: &[u8], message: &[u8]) -> Checked<Answered> {
-    let one = answered_by(image, message, boundary::answer);
-    let other = answered_by(image, message, reference::answer);
+    let one = answered_by(image, message, boundary::answer_word);
+    let other = answered_by(image, message, reference::answer_word);
     if one.1 != other.1 {
         return Err(format!("the tables differ after {:02x?}", message));
     }
@@ -47,19 +49,20 @@ pub fn answered(image: &[u8], message: &[u8]) -> Checked<Answered> {
     Ok(one.0)
 }
 
-type Answer = fn(&mut [u8], &[u8], &mut [u8]) -> u8;
+type Answer = fn(&mut [u8], &[u8], &mut [u8]) -> u64;
 
 /// The answer, and the whole table buffer after it.
 fn answered_by(image: &[u8], message: &[u8], answer: Answer) -> (Answered, Vec<u8>) {
     let mut table = buffer(image, TABLE_BYTES);
     let mut reply = vec![DIRT; 24];
-    let number = answer(&mut table, message, &mut reply);
+    let word = answer(&mut table, message, &mut reply);
     let image = match reference::Table::parse(&table) {
         Some((_, length)) => table[..length].to_vec(),
         None => Vec::new(),
     };
     let answered = Answered {
-        number,
+        word,
+        number: word as u8,
         image,
         reply,
     };
@@ -68,10 +71,10 @@ fn answered_by(image: &[u8], message: &[u8], answer: Answer) -> (Answered, Vec<u
 
 /// The number that a message gets in buffers of these lengths.
 pub fn number_in(image: &[u8], message: &[u8], table: usize, reply: usize) -> Checked<u8> {
-    let number = |answer: Answer| answer(&mut buffer(image, table), message, &mut vec![0; reply]);
-    let found = number(boundary::answer);
-    same("number", found, number(reference::answer))?;
-    Ok(found)
+    let word = |answer: Answer| answer(&mut buffer(image, table), message, &mut vec![0; reply]);
+    let found = word(boundary::answer_word);
+    same("answer", found, word(reference::answer_word))?;
+    Ok(found as u8)
 }
 
 /// The number, and the buffer after a fresh call.
