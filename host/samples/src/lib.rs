@@ -7,6 +7,7 @@
 //! - [`dice`]: numbers that look random and are the same in every run
 //! - [`table`]: a table as plain numbers, which keeps no rule by itself, and its image
 //! - [`random`]: random tables by the rules
+//! - [`spaced`]: tables of which every row and every gap is searched
 //! - [`field`]: where the fields of an image stand, and values about the limits of each
 //! - [`transactions`]: transactions that clash often
 //! - [`damage`]: images of many kinds, good and bad
@@ -30,6 +31,7 @@ pub mod parts;
 pub mod random;
 pub mod replies;
 pub mod runs;
+pub mod spaced;
 pub mod table;
 pub mod tally;
 pub mod transactions;

@@ -4,7 +4,7 @@ mod common;
 
 use common::{read, tables, SIZES};
 use samples::table::HEADER_LENGTH;
-use samples::{random, Dice, Row, Table, Tally, GREATEST_STAMP, MOST_ROWS};
+use samples::{spaced, Dice, Row, Table, Tally, GREATEST_STAMP, MOST_ROWS};
 use std::collections::BTreeSet;
 
 /// The longest body.
@@ -60,30 +60,10 @@ fn a_lookup_hands_out_the_body_of_the_row_with_the_stamp() {
     met.assert_met(9, 100);
 }
 
-/// A table of so many rows whose stamps are so far apart, beginning with this one. Each row writes its own stamp, so that no
-/// two have the same body.
-fn spaced(dice: &mut Dice, rows: usize, first: u64, apart: u64) -> Table {
-    let row = |place: usize| {
-        let stamp = first + apart * place as u64;
-        let mut row = random::row(dice, stamp, (place % 4, 1 + place % 4));
-        row.writes[0].number = stamp;
-        row
-    };
-    Table::in_view_0((0..rows).map(row).collect())
-}
-
-/// Every stamp of the table, one before the first and one behind the last, and one in each gap between two of them.
-fn rows_and_gaps(table: &Table) -> BTreeSet<u64> {
-    let behind = |row: &Row| [row.stamp, row.stamp + 1];
-    let before = table.rows.first().map_or(1, |row| row.stamp - 1);
-    let rows = table.rows.iter().flat_map(behind);
-    rows.chain([before]).collect()
-}
-
 /// Every row and every gap is looked up, of a table of so many rows with stamps so far apart.
 fn rows_and_gaps_looked_up(dice: &mut Dice, rows: usize, first: u64, apart: u64) {
-    let table = spaced(dice, rows, first, apart);
-    let lengths = looked_up(dice, &table, &rows_and_gaps(&table));
+    let table = spaced::table(dice, rows, first, apart);
+    let lengths = looked_up(dice, &table, &spaced::rows_and_gaps(&table));
     // Stamps side by side leave none but the two at the ends.
     let gaps = if apart > 1 { rows + 1 } else { 2.min(rows + 1) };
     let missing = lengths.iter().filter(|length| **length == 0);

@@ -2,6 +2,7 @@
 //! million calls; and the call that answers with the number alone against the one that answers with both.
 
 mod buffers;
+mod compared;
 mod damaged;
 mod histories;
 mod large;

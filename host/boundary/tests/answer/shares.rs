@@ -81,7 +81,7 @@ impl Shares {
     }
 }
 
-fn add_all(here: &mut [u64], there: &[u64]) {
+pub fn add_all(here: &mut [u64], there: &[u64]) {
     for (count, more) in here.iter_mut().zip(there) {
         *count += more;
     }
@@ -98,16 +98,18 @@ fn assert_met(name: &str, what: &str, counts: &[u64], possible: &[u8], least: u6
     }
 }
 
+/// One of the counts, with its share of all of them.
+pub fn percents(counts: &[u64], which: usize) -> String {
+    let all: u64 = counts.iter().sum();
+    match counts[which] {
+        0 => String::new(),
+        count => format!("{} {:5.1}%", count, 100.0 * count as f64 / all as f64),
+    }
+}
+
 /// A column for each kind, a line for each number, then one for each state byte.
 impl Display for Shares {
     fn fmt(&self, f: &mut Formatter) -> fmt::Result {
-        let percents = |counts: &[u64], which: usize| {
-            let all: u64 = counts.iter().sum();
-            match counts[which] {
-                0 => String::new(),
-                count => format!("{} {:5.1}%", count, 100.0 * count as f64 / all as f64),
-            }
-        };
         write!(f, "kind     ")?;
         POSSIBLE
             .iter()
