@@ -14,6 +14,8 @@ pub const LONGEST_INPUT: usize = 600_000;
 /// The longest table or output buffer, and the longest reply buffer.
 const LONGEST_TABLE: usize = 200_000;
 const LONGEST_REPLY: usize = 1_000;
+/// So often in a hundred the call that answers with the number alone is asked what the other one was.
+const NUMBER_ALONE: u64 = 5;
 
 /// Two answers to one call, or two buffers after it.
 #[derive(Clone, Debug, PartialEq, Eq)]
@@ -49,6 +51,21 @@ fn differs(name: &'static str, library: &[u8], second: &[u8]) -> Option<(&'stati
     pairs
         .position(|(one, other)| one != other)
         .map(|place| (name, place))
+}
+
+/// What is lent to the library for an answer.
+struct Lent<'a> {
+    table: &'a mut [u8],
+    message: &'a [u8],
+    reply: &'a mut [u8],
+}
+
+impl Lent<'_> {
+    /// The buffer and the first place in which it differs from what the second program left.
+    fn differs(&self, table: &[u8], reply: &[u8]) -> Option<(&'static str, usize)> {
+        let in_table = differs("table", self.table, table);
+        in_table.or_else(|| differs("reply", self.reply, reply))
+    }
 }
 
 pub struct Both {
@@ -113,7 +130,8 @@ impl Both {
         self.judged(Call::Valid, found, reference::valid(bytes), None)
     }
 
-    /// A box's answer to a message, left in the buffers; returns the number.
+    /// A box's answer to a message, left in the buffers; returns the number. The library answers in a word, with the
+    /// rows compared, and now and then once more with the number alone.
     pub fn answer(
         &mut self,
         dice: &mut Dice,
@@ -121,14 +139,32 @@ impl Both {
         message: &[u8],
         reply: &mut [u8],
     ) -> Result<u64, Difference> {
-        let lent_table = self.table.lend(table, either(dice));
-        let lent_message = self.input.lend_for_reading(message, either(dice));
-        let lent_reply = self.reply.lend(reply, either(dice));
-        let found = (self.calls.answer)(lent_table, lent_message, lent_reply);
-        let number = reference::answer(table, message, reply);
-        let in_table = differs("table", lent_table, table);
-        let place = in_table.or_else(|| differs("reply", lent_reply, reply));
-        self.judged(Call::answering(message), found.into(), number.into(), place)
+        let calls = self.calls;
+        let again = dice.in_a_hundred(NUMBER_ALONE);
+        let before = again.then(|| (table.to_vec(), reply.to_vec()));
+        let lent = self.lend(dice, table, message, reply);
+        let found = (calls.answer_word)(lent.table, lent.message, lent.reply);
+        let word = reference::answer_word(table, message, reply);
+        let place = lent.differs(table, reply);
+        self.judged(Call::answering(message), found, word, place)?;
+        self.met.count_compared((word >> 16) as usize);
+        let number = word & 0xff;
+        if let Some((table_before, reply_before)) = before {
+            let lent = self.lend(dice, &table_before, message, &reply_before);
+            let found = (calls.answer)(lent.table, lent.message, lent.reply);
+            let place = lent.differs(table, reply);
+            self.judged(Call::NumberAlone, found.into(), number, place)?;
+        }
+        Ok(number)
+    }
+
+    /// The buffers of an answer, each at a fence.
+    fn lend(&mut self, dice: &mut Dice, table: &[u8], message: &[u8], reply: &[u8]) -> Lent<'_> {
+        Lent {
+            table: self.table.lend(table, either(dice)),
+            message: self.input.lend_for_reading(message, either(dice)),
+            reply: self.reply.lend(reply, either(dice)),
+        }
     }
 
     /// The merge of a run for a view, left in the output; returns the number.

@@ -5,9 +5,9 @@
 //! The work goes in rounds. A round is given by its number alone, so that any of them can be played again.
 //!
 //! - [`fenced`]: memory with a fence on either side, which nobody may touch
-//! - [`calls`]: the six calls of the library, or of whatever is put in its place
+//! - [`calls`]: the seven calls of the library, or of whatever is put in its place
 //! - [`both`]: one call by both programs, and what differs
-//! - [`met`]: how often each call ended with each number
+//! - [`met`]: how often each call ended with each number, and an answer with each count
 //! - [`inputs`]: what the calls are given
 //! - [`rounds`]: rounds one after the other, side by side
 

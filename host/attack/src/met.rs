@@ -1,9 +1,12 @@
-//! How often each call ended with each number, so that an attack without a difference is no empty one.
+//! How often each call ended with each number, and how often an answer came with each count of compared rows, so that
+//! an attack without a difference is no empty one.
 
 use samples::kinds::NUMBERS as NUMBERS_OF_KINDS;
 use std::fmt::{self, Display, Formatter};
 
 const NUMBERS: usize = 12;
+/// "at most 10 for 512 rows"
+const COUNTS: usize = 11;
 
 /// A call, and for the answer the kind of message; 0 for kinds that there are not, and for no bytes at all.
 #[derive(Clone, Copy, Debug, PartialEq, Eq)]
@@ -11,13 +14,15 @@ pub enum Call {
     Fresh,
     Valid,
     Answer(u8),
+    /// The answer to a message of any kind by the call that says the number alone.
+    NumberAlone,
     Merge,
     Count,
     CountRecords,
 }
 
 /// Each call, its name, and the numbers that the paper has for it.
-const CALLS: [(Call, &str, &[u8]); 13] = [
+const CALLS: [(Call, &str, &[u8]); 14] = [
     (Call::Fresh, "fresh", &[0, 1, 3]),
     (Call::Valid, "valid", &[0, 2]),
     (Call::Answer(0), "answer to no kind", NUMBERS_OF_KINDS[0]),
@@ -28,6 +33,11 @@ const CALLS: [(Call, &str, &[u8]); 13] = [
     (Call::Answer(5), "answer to 5", NUMBERS_OF_KINDS[5]),
     (Call::Answer(6), "answer to 6", NUMBERS_OF_KINDS[6]),
     (Call::Answer(7), "answer to 7", NUMBERS_OF_KINDS[7]),
+    (
+        Call::NumberAlone,
+        "answer, the number alone",
+        &[0, 1, 2, 3, 4, 5, 6, 7, 8, 9, 10],
+    ),
     (Call::Merge, "merge", &[0, 1, 2, 5, 6, 7, 11]),
     (Call::Count, "count", &[0, 3, 6]),
     (Call::CountRecords, "count of records", &[0, 3, 6]),
@@ -46,6 +56,7 @@ impl Call {
 #[derive(Clone, Debug, Default, PartialEq, Eq)]
 pub struct Met {
     numbers: [[u64; NUMBERS]; CALLS.len()],
+    compared: [u64; COUNTS],
 }
 
 impl Met {
@@ -54,9 +65,14 @@ impl Met {
         self.numbers[place.expect("a call of the list")][usize::from(number)] += 1;
     }
 
+    /// An answer that came with so many rows compared.
+    pub fn count_compared(&mut self, rows: usize) {
+        self.compared[rows] += 1;
+    }
+
     pub fn add(&mut self, other: &Met) {
-        let here = self.numbers.iter_mut().flatten();
-        let there = other.numbers.iter().flatten();
+        let here = self.numbers.iter_mut().flatten().chain(&mut self.compared);
+        let there = other.numbers.iter().flatten().chain(&other.compared);
         here.zip(there).for_each(|(count, more)| *count += more);
     }
 
@@ -78,11 +94,16 @@ impl Met {
                 }
             }
         }
+        for (rows, count) in self.compared.iter().enumerate() {
+            if *count < least {
+                missing.push(format!("{} rows compared: {} times", rows, count));
+            }
+        }
         missing
     }
 }
 
-/// A line for each call, a column for each number.
+/// A line for each call, a column for each number; then the answers, with a column for each count.
 impl Display for Met {
     fn fmt(&self, f: &mut Formatter) -> fmt::Result {
         write!(f, "| call | calls |")?;
@@ -98,6 +119,12 @@ impl Display for Met {
                 }
             }
         }
-        Ok(())
+        write!(f, "\n\n| rows compared |")?;
+        (0..COUNTS).try_for_each(|rows| write!(f, " {} |", rows))?;
+        write!(f, "\n|---|")?;
+        (0..COUNTS).try_for_each(|_| write!(f, "---|"))?;
+        write!(f, "\n| answers |")?;
+        let mut counts = self.compared.iter();
+        counts.try_for_each(|count| write!(f, " {} |", count))
     }
 }

@@ -83,19 +83,19 @@ fn a_byte_too_many_is_found_in_every_buffer() {
     };
     assert_found("a 25th byte", fresh, Some("table"));
     let table = Calls {
-        answer: |table, message, reply| {
-            let number = boundary::answer(table, message, reply);
+        answer_word: |table, message, reply| {
+            let word = boundary::answer_word(table, message, reply);
             touch_behind(table);
-            number
+            word
         },
         ..LIBRARY
     };
     assert_found("a byte behind the table", table, Some("table"));
     let reply = Calls {
-        answer: |table, message, reply| {
-            let number = boundary::answer(table, message, reply);
+        answer_word: |table, message, reply| {
+            let word = boundary::answer_word(table, message, reply);
             reply.get_mut(24).into_iter().for_each(|byte| *byte = 0);
-            number
+            word
         },
         ..LIBRARY
     };
@@ -115,9 +115,9 @@ fn a_byte_too_many_is_found_in_every_buffer() {
 #[test]
 fn a_refusal_that_is_another_is_found() {
     let seven = Calls {
-        answer: |table, message, reply| match boundary::answer(table, message, reply) {
-            7 => 8,
-            number => number,
+        answer_word: |table, message, reply| {
+            let word = boundary::answer_word(table, message, reply);
+            word + u64::from(word as u8 == 7)
         },
         ..LIBRARY
     };
@@ -131,13 +131,64 @@ fn a_refusal_that_is_another_is_found() {
     };
     assert_found("5 for 6", six, None);
     let short = Calls {
-        answer: |table, message, reply| match table.len() == TABLE_BYTES - 1 {
-            true => boundary::answer(&mut [&table[..], &[0]].concat(), message, reply),
-            false => boundary::answer(table, message, reply),
+        answer_word: |table, message, reply| match table.len() == TABLE_BYTES - 1 {
+            true => boundary::answer_word(&mut [&table[..], &[0]].concat(), message, reply),
+            false => boundary::answer_word(table, message, reply),
         },
         ..LIBRARY
     };
     assert!(found(short).is_some(), "a buffer that is a byte too short");
+}
+
+/// Other rows compared, and nothing else.
+#[test]
+fn a_count_of_rows_that_is_another_is_found() {
+    let fewer = Calls {
+        answer_word: |table, message, reply| {
+            let word = boundary::answer_word(table, message, reply);
+            word - (u64::from(word >> 16 == 10) << 16)
+        },
+        ..LIBRARY
+    };
+    assert_found("9 for 10 rows", fewer, None);
+    let told = Calls {
+        answer_word: |table, message, reply| {
+            let word = boundary::answer_word(table, message, reply);
+            word + (u64::from(word == 9) << 16)
+        },
+        ..LIBRARY
+    };
+    assert_found("a row compared for another view", told, None);
+    let elsewhere = Calls {
+        answer_word: |table, message, reply| {
+            let word = boundary::answer_word(table, message, reply);
+            word & 0xff | word >> 16 << 8
+        },
+        ..LIBRARY
+    };
+    assert_found("the rows in bits 8 to 15", elsewhere, None);
+}
+
+/// The same faults, in the call that answers with the number alone.
+#[test]
+fn a_fault_of_the_number_alone_is_found() {
+    let table = Calls {
+        answer: |table, message, reply| {
+            let number = boundary::answer(table, message, reply);
+            touch_behind(table);
+            number
+        },
+        ..LIBRARY
+    };
+    assert_found("a byte behind the table", table, Some("table"));
+    let seven = Calls {
+        answer: |table, message, reply| match boundary::answer(table, message, reply) {
+            7 => 8,
+            number => number,
+        },
+        ..LIBRARY
+    };
+    assert_found("8 for 7", seven, None);
 }
 
 #[test]
