@@ -1,5 +1,7 @@
 //! What stands under the simulated group: the four calls, by the library or by the second program.
 
+use reference::bytes::Source;
+use reference::halving::compared;
 use reference::{Decision, PrepareResult};
 use samples::replies::laid;
 use samples::Record;
@@ -19,7 +21,7 @@ pub struct Machine {
 pub const LIBRARY: Machine = Machine {
     name: "the library",
     fresh: boundary::fresh,
-    answer: boundary::answer,
+    answer: answer_with_its_count,
     merge: boundary::merge,
     count: count_by_both_calls,
 };
@@ -32,6 +34,35 @@ pub const SECOND: Machine = Machine {
     merge: reference::merge,
     count: |n, records| reference::count(n, &laid(records)),
 };
+
+/// The library answers in a word. The rows compared that it has beside the number are those of the second program's
+/// halving, over the stamps that the table held when the message came: "with 0 for refusals numbered 1 to 4 and 9", and
+/// for messages other than 1 to 4.
+fn answer_with_its_count(table: &mut [u8], message: &[u8], reply: &mut [u8]) -> u8 {
+    let stamps = stamps_in(table);
+    let word = boundary::answer_word(table, message, reply);
+    let number = word as u8;
+    let rows = match (message[0], number) {
+        (1..=4, 0 | 5..=8) => compared(&stamps, number_of_8(message, 1)),
+        _ => 0,
+    };
+    let expected = u64::from(number) | (rows as u64) << 16;
+    assert_eq!(word, expected, "{:02x?} in {:?}", message, stamps);
+    number
+}
+
+/// The stamps of the rows that a table by the rules has, in their order.
+fn stamps_in(table: &[u8]) -> Vec<u64> {
+    let rows = Source::starting_at(table, 4).and_then(|mut header| header.four());
+    let place = |row: u32| 24 + 24 * row as usize;
+    let rows = 0..rows.expect("a header");
+    rows.map(|row| number_of_8(table, place(row))).collect()
+}
+
+fn number_of_8(bytes: &[u8], at: usize) -> u64 {
+    let number = Source::starting_at(bytes, at).and_then(|mut field| field.eight());
+    number.expect("eight bytes")
+}
 
 /// The library counts replies in bytes and as records; both calls have the same answer.
 fn count_by_both_calls(n: u8, records: &[Record]) -> u64 {

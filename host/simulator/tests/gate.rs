@@ -100,8 +100,18 @@ fn demand_3_holds_in_every_history() {
     }
 }
 
-/// The same seeds lead the second program through the same histories, to the last count.
+/// The library with the call that answers with the number alone.
+const NUMBER_ALONE: Machine = Machine {
+    name: "the library, which answers with the number alone",
+    answer: boundary::answer,
+    ..LIBRARY
+};
+
+/// The same seeds lead the second program through the same histories, to the last count, and the library by its other
+/// call.
 #[test]
-fn the_second_program_is_played_alike() {
-    assert_eq!(played(SECOND, 300), played(LIBRARY, 300));
+fn the_second_program_and_the_number_alone_are_played_alike() {
+    let met = played(LIBRARY, 300);
+    assert_eq!(played(SECOND, 300), met);
+    assert_eq!(played(NUMBER_ALONE, 300), met);
 }
