@@ -44,7 +44,10 @@ module _ (s : ℕ) (before : List Row) (r : Row) (behind : List Row) (halved : l
   abbrev rows : List Row
   rows = before ++ (r ∷ behind)
 
-  parted : steps rows s ≡ compared s (λ part. halving (length before + length behind) part s) before (r ∷ behind)
+  abbrev turns : ℕ
+  turns = length before + length behind
+
+  parted : steps rows s ≡ compared s (λ part. halving turns part s) before (r ∷ behind)
   unfolding steps halving
   parted =
       let n : length rows ≡ suc (length before + length behind) = length-append before (r ∷ behind) ∙ omega arith in
@@ -52,20 +55,25 @@ module _ (s : ℕ) (before : List Row) (r : Row) (behind : List Row) (halved : l
       let d : drop (length rows / 2) rows ≡ r ∷ behind = drop-at before (r ∷ behind) _ (sym halved) in
       rw (t, d) at (ap (λ turns. halving turns rows s) n)
 
+  -- the row has not the stamp, and the search goes on at the side that it tells
+  turned : {side : Bool} {n : ℕ} → eqb (r .stamp) s ≡ false → ltb (r .stamp) s ≡ side → cond side (halving turns behind s) (halving turns before s) ≡ n →
+      compared s (λ part. halving turns part s) before (r ∷ behind) ≡ 1 + n
+  turned missed told e = rw missed (ap (λ side. 1 + cond side (halving turns behind s) (halving turns before s)) told ∙ ap (λ n. 1 + n) e)
+
   pub steps-here : r .stamp ≡ s → steps rows s ≡ 1
   steps-here e = parted ∙ rw (eq-eqb (r .stamp) s e)
 
   pub steps-behind : r .stamp < s → steps rows s ≡ 1 + steps behind s
   unfolding steps
   steps-behind l =
-      let e = turns-enough (length before + length behind) (length behind) s behind (omega arith) (omega arith) in
-      parted ∙ rw (ne-eqb (r .stamp) s (λ e. absurd (omega arith)), lt-ltb (r .stamp) s l, e)
+      let e = turns-enough turns (length behind) s behind (omega arith) (omega arith) in
+      parted ∙ turned (ne-eqb (r .stamp) s (λ e. absurd (omega arith))) (lt-ltb (r .stamp) s l) e
 
   pub steps-before : s < r .stamp → steps rows s ≡ 1 + steps before s
   unfolding steps
   steps-before l =
-      let e = turns-enough (length before + length behind) (length before) s before (omega arith) (omega arith) in
-      parted ∙ rw (ne-eqb (r .stamp) s (λ e. absurd (omega arith)), le-ltb (r .stamp) s (omega arith), e)
+      let e = turns-enough turns (length before) s before (omega arith) (omega arith) in
+      parted ∙ turned (ne-eqb (r .stamp) s (λ e. absurd (omega arith))) (le-ltb (r .stamp) s (omega arith)) e
 
 -- ---- how many there are at most
 

@@ -3,7 +3,7 @@ use mathlib.Core.Path.{_≡_, sym, _∙_}
 use mathlib.Core.Bool.{true}
 use mathlib.Core.Logic.{⊎-elim}
 use Prim.Native.Nat.{_+_, _-_, _*_, _/_, _≤_, _<_}
-use native.Mathlib.Nat.{add-zero, zero-add, sub-zero, eq-or-lt-of-le}
+use native.Mathlib.Nat.{add-zero, sub-zero, eq-or-lt-of-le}
 use native.Mathlib.Omega.{arith}
 use denote.Ref.{now}
 use Rattle.rules.specs.Tables.{rising}
@@ -32,7 +32,7 @@ loop-holds : tie.Need-loop-holds Inv-loop μ-loop
 loop-holds c =
     let a = c .before .args in
     let rise = c .before .pre .1 in
-    (omega arith, omega arith, rw (add-zero, sub-zero) rise, rw (add-zero, sub-zero) (place-sought (rowsAt (now (a .image)) (a .begin) (a .rows)) (a .stamp) rise), rw (add-zero, sub-zero, zero-add))
+    (omega arith, omega arith, rw (add-zero, sub-zero) rise, rw (add-zero, sub-zero) (place-sought (rowsAt (now (a .image)) (a .begin) (a .rows)) (a .stamp) rise), rw (add-zero, sub-zero) (omega arith))
 
 sub-middle : tie.Need-sub-middle Inv-loop μ-loop
 sub-middle c = omega arith
