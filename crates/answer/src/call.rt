@@ -34,7 +34,7 @@ fn respond(table: &mut [u8], message: &[u8], limit: u16) -> Response
         least: header::LENGTH + seek::GREATEST_ROW * limit as usize,
     };
     let Found::Image { length: _ } = image::find(table, model) else {
-        return Response::unsearched(Reply::refusal(2));
+        return Reply::refusal(2).with_compared(0);
     };
     let n = header::read(table).n;
     let asked = message::kinds::read(message, n, model);

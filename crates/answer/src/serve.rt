@@ -48,13 +48,13 @@ pub fn serve(table: &mut [u8], message: &[u8], asked: Message, limit: u16) -> Re
             view,
             verdict,
         } => outcome::finalise_outcome(table, stamp, view, verdict),
-        Message::ChangeView { view } => Response::unsearched(views::change_view(table, view)),
+        Message::ChangeView { view } => views::change_view(table, view).with_compared(0),
         Message::StartView { view } => {
-            Response::unsearched(views::start_view(table, &message[5..], view))
+            views::start_view(table, &message[5..], view).with_compared(0)
         }
         Message::ReadRegister { stamp, register } => {
-            Response::unsearched(read::read_register(table, stamp, register))
+            read::read_register(table, stamp, register).with_compared(0)
         }
-        Message::Bad => Response::unsearched(Reply::refusal(3)),
+        Message::Bad => Reply::refusal(3).with_compared(0),
     }
 }

@@ -108,18 +108,16 @@ pub fn propose_outcome(
     let proposal = found.proposal;
     let compared = found.compared;
     match proposal {
-        Proposal::Against { number } => Response {
-            reply: Reply::refusal(number),
-            compared,
-        },
-        Proposal::Held { index } => Response {
-            reply: note_held(table, index, stamp, verdict),
-            compared,
-        },
-        Proposal::New { index } => Response {
-            reply: add::add_new(table, index, row, message, 3, verdict),
-            compared,
-        },
+        Proposal::Against { number } => Reply::refusal(number).with_compared(compared),
+        Proposal::Held { index } => note_held(table, index, stamp, verdict).with_compared(compared),
+        Proposal::New { index } => add::add_new(
+            table,
+            index,
+            row,
+            message,
+            3,
+            verdict,
+        ).with_compared(compared),
     }
 }
 
@@ -159,13 +157,9 @@ pub fn finalise_outcome(table: &mut [u8], stamp: u64, view: u32, verdict: u8) ->
     let finding = found.finding;
     let compared = found.compared;
     match finding {
-        Finding::Refused { number } => Response {
-            reply: Reply::refusal(number),
+        Finding::Refused { number } => Reply::refusal(number).with_compared(compared),
+        Finding::Known { index } => finalise_held(table, index, stamp, verdict).with_compared(
             compared,
-        },
-        Finding::Known { index } => Response {
-            reply: finalise_held(table, index, stamp, verdict),
-            compared,
-        },
+        ),
     }
 }

@@ -135,18 +135,9 @@ pub fn propose_prepare(
     let proposal = found.proposal;
     let compared = found.compared;
     match proposal {
-        Proposal::Against { number } => Response {
-            reply: Reply::refusal(number),
-            compared,
-        },
-        Proposal::Held { index } => Response {
-            reply: answer_held(table, index, stamp),
-            compared,
-        },
-        Proposal::New { index } => Response {
-            reply: add_checked(table, message, index, row),
-            compared,
-        },
+        Proposal::Against { number } => Reply::refusal(number).with_compared(compared),
+        Proposal::Held { index } => answer_held(table, index, stamp).with_compared(compared),
+        Proposal::New { index } => add_checked(table, message, index, row).with_compared(compared),
     }
 }
 
@@ -200,13 +191,9 @@ pub fn finalise_prepare(table: &mut [u8], stamp: u64, view: u32, result: u8, ret
     let finding = found.finding;
     let compared = found.compared;
     match finding {
-        Finding::Refused { number } => Response {
-            reply: Reply::refusal(number),
+        Finding::Refused { number } => Reply::refusal(number).with_compared(compared),
+        Finding::Known { index } => finalise_held(table, index, stamp, result, retry).with_compared(
             compared,
-        },
-        Finding::Known { index } => Response {
-            reply: finalise_held(table, index, stamp, result, retry),
-            compared,
-        },
+        ),
     }
 }

@@ -41,14 +41,15 @@ impl Reply {
             value: 0,
         }
     }
-}
 
-impl Response {
-    // A reply for which no stamp was sought.
-    pub fn unsearched(reply: Reply) -> Response
-        ensures { λ r. ⌜ (r .reply ≡ reply) × (r .compared ≡ 0) ⌝ }
+    // The reply, with so many rows compared beside it.
+    pub fn with_compared(self, compared: usize) -> Response
+        ensures { λ r. ⌜ (r .reply ≡ self) × (r .compared ≡ compared) ⌝ }
     {
-        Response { reply, compared: 0 }
+        Response {
+            reply: self,
+            compared,
+        }
     }
 }
 

@@ -28,8 +28,8 @@ enum-told-2 c = search needs
 refusal-requires : tie.Need-refusal-requires
 refusal-requires c κs = search needs
 
-unsearched-requires : tie.Need-unsearched-requires
-unsearched-requires c κs = search needs
+with-compared-requires : tie.Need-with-compared-requires
+with-compared-requires c κs = search needs
 
 same-length : tie.Need-same-length
 same-length c = search needs
@@ -37,7 +37,7 @@ same-length c = search needs
 returns : tie.Need-returns
 returns c = let p = c .before .before .before .before .before .before .before .before in
     let nothing = found-nothing (parse formatOne (limited (p .args .limit)) (now (p .args .table))) (sym (c .before .before .enum-told2 .given .1) ∙ c .before .before .before .before .find .ensures) in
-    rw nothing ((c .unsearched .ensures .0 ∙ c .before .refusal .ensures, c .unsearched .ensures .1), refl)
+    rw nothing ((c .with-compared .ensures .0 ∙ c .before .refusal .ensures, c .with-compared .ensures .1), refl)
 
 read-requires : tie.Need-read-requires
 read-requires c κs = omega arith
@@ -73,7 +73,7 @@ respond-spec =
     enum-told
     enum-told-2
     refusal-requires
-    unsearched-requires
+    with-compared-requires
     same-length
     returns
     read-requires

@@ -54,8 +54,8 @@ enum-known-asked-5 c = search needs
 change-view-requires : tie.Need-change-view-requires
 change-view-requires c κs = search needs
 
-unsearched-requires : tie.Need-unsearched-requires
-unsearched-requires c κs = search needs
+with-compared-requires : tie.Need-with-compared-requires
+with-compared-requires c κs = search needs
 
 enum-known-asked-6 : tie.Need-enum-known-asked-6
 enum-known-asked-6 c = search needs
@@ -74,8 +74,8 @@ start-view-requires c κs = let p = (c .before .before .before .before .before .
     let g = start-given (p .args .limit) (headerAt (now (p .args .table)) .n) (now (p .args .message)) (message-bytes (c .before .before .before .before .before)) _ (p .pre .0 .1) (rw ((c .before .before .before) .asked6 .given .1) at (p .pre .1 .0)) in
     rw (up-to-end (now (p .args .message)) 5) (p .pre .0 .0, g .1, g .2, le-trans (g .3) (p .pre .0 .2))
 
-unsearched-requires-2 : tie.Need-unsearched-requires-2
-unsearched-requires-2 c κs = search needs
+with-compared-requires-2 : tie.Need-with-compared-requires-2
+with-compared-requires-2 c κs = search needs
 
 enum-known-asked-7 : tie.Need-enum-known-asked-7
 enum-known-asked-7 c = search needs
@@ -83,8 +83,8 @@ enum-known-asked-7 c = search needs
 read-register-requires : tie.Need-read-register-requires
 read-register-requires c κs = search needs
 
-unsearched-requires-3 : tie.Need-unsearched-requires-3
-unsearched-requires-3 c κs = search needs
+with-compared-requires-3 : tie.Need-with-compared-requires-3
+with-compared-requires-3 c κs = search needs
 
 enum-told : tie.Need-enum-told
 enum-told c = search needs
@@ -92,8 +92,8 @@ enum-told c = search needs
 refusal-requires : tie.Need-refusal-requires
 refusal-requires c κs = search needs
 
-unsearched-requires-4 : tie.Need-unsearched-requires-4
-unsearched-requires-4 c κs = search needs
+with-compared-requires-4 : tie.Need-with-compared-requires-4
+with-compared-requires-4 c κs = search needs
 
 same-length : tie.Need-same-length
 same-length c = search needs
@@ -135,7 +135,7 @@ unfolding servedCompared
 returns-5 c =
     let p = c .before .before .before .before .before .before .before .before .before .before in
     let (reply, after) = kept-any valley (limited (p .args .limit)) _ (now (p .args .table)) (λ T. same-5 valley (limited (p .args .limit)) T _) (c .before .before .before .change-view .ensures) in
-    rw (c .before .before .before .before .before .before .asked5 .given .1) ((c .unsearched .ensures .0 ∙ reply, c .unsearched .ensures .1), after)
+    rw (c .before .before .before .before .before .before .asked5 .given .1) ((c .with-compared .ensures .0 ∙ reply, c .with-compared .ensures .1), after)
 
 same-length-6 : tie.Need-same-length-6
 same-length-6 c = search needs
@@ -146,7 +146,7 @@ returns-6 c =
     let p = c .before .before .before .before .before .before .before .before .before .before .before in
     let I = tableAt formatOne (drop 5 (now (p .args .message))) in
     let (reply, after) = kept-any valley (limited (p .args .limit)) _ (now (p .args .table)) (λ T. same-6 valley (limited (p .args .limit)) T _ I) (rw (up-to-end (now (p .args .message)) 5) at (c .before .before .before .start-view .ensures)) in
-    rw (c .before .before .before .before .before .before .before .asked6 .given .1) ((c .unsearched2 .ensures .0 ∙ reply, c .unsearched2 .ensures .1), after)
+    rw (c .before .before .before .before .before .before .before .asked6 .given .1) ((c .with-compared2 .ensures .0 ∙ reply, c .with-compared2 .ensures .1), after)
 
 same-length-7 : tie.Need-same-length-7
 same-length-7 c = search needs
@@ -157,14 +157,14 @@ returns-7 c =
     let p = c .before .before .before .before .before .before .before .before in
     let s = now (p .args .table) in
     let (reply, after) = kept-any valley (limited (p .args .limit)) _ s (λ T. same-7 valley (limited (p .args .limit)) T _ _) (c .before .read-register .ensures, read-keeps valley s _ _ (image-holds valley s (p .pre .0 .0))) in
-    rw (c .before .before .before .before .asked7 .given .1) ((c .unsearched3 .ensures .0 ∙ reply, c .unsearched3 .ensures .1), after)
+    rw (c .before .before .before .before .asked7 .given .1) ((c .with-compared3 .ensures .0 ∙ reply, c .with-compared3 .ensures .1), after)
 
 returns-8 : tie.Need-returns-8
 returns-8 c =
     let p = c .before .before .before .before .before .before in
     let s = now (p .args .table) in
     let (reply, after) = none-answered (limited (p .args .limit)) s (image-holds valley s (p .pre .0 .0)) in
-    rw (c .before .before .enum-told .given .1) ((c .unsearched4 .ensures .0 ∙ c .before .refusal .ensures ∙ reply, c .unsearched4 .ensures .1), after)
+    rw (c .before .before .enum-told .given .1) ((c .with-compared4 .ensures .0 ∙ c .before .refusal .ensures ∙ reply, c .with-compared4 .ensures .1), after)
 
 pub serve-spec : {M : Type 1} → statement M
 serve-spec =
@@ -180,19 +180,19 @@ serve-spec =
     finalise-outcome-requires
     enum-known-asked-5
     change-view-requires
-    unsearched-requires
+    with-compared-requires
     enum-known-asked-6
     sub-start-view
     part-start-view-start
     part-start-view-end
     start-view-requires
-    unsearched-requires-2
+    with-compared-requires-2
     enum-known-asked-7
     read-register-requires
-    unsearched-requires-3
+    with-compared-requires-3
     enum-told
     refusal-requires
-    unsearched-requires-4
+    with-compared-requires-4
     same-length
     returns
     same-length-2
