@@ -3,6 +3,7 @@
 use crate::plain::{table_of, Sent};
 use reference::answer::answer_for;
 use reference::count::count_bytes;
+use reference::halving::compared;
 use reference::merge::merge_for;
 use reference::numbers::first_that_applies;
 use reference::{check, Decision, Model, Number, PrepareResult, Rows, VALLEY};
@@ -29,6 +30,8 @@ pub enum Case {
     Buffers(usize, bool, usize, bool),
     /// The number given where these numbers apply.
     Applying(Vec<Number>, Number),
+    /// How many rows the search for a stamp compares, of rows with these stamps.
+    Steps(Vec<u64>, u64, usize),
 }
 
 impl Case {
@@ -112,6 +115,11 @@ impl Case {
     pub fn applying(numbers: Vec<Number>) -> Case {
         let first = first_that_applies(|number| numbers.contains(&number));
         Case::Applying(numbers, first)
+    }
+
+    pub fn steps(stamps: Vec<u64>, sought: u64) -> Case {
+        let told = compared(&stamps, sought);
+        Case::Steps(stamps, sought, told)
     }
 }
 

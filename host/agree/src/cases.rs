@@ -36,14 +36,18 @@ fn random(seed: u64) -> Vec<Case> {
 /// How many cases of each kind were given each number.
 pub fn summary(cases: &[Named]) -> String {
     let mut numbers = [[0; 12]; 3];
-    let mut others = 0;
+    let (mut parts, mut searches) = (0, 0);
     for (_, case) in cases {
         let (kind, refusal) = match case {
             Case::Answer(_, _, told) => (0, told.as_ref().err()),
             Case::Merge(_, _, told) => (1, told.as_ref().err()),
             Case::Count(_, _, told) => (2, told.as_ref().err()),
+            Case::Steps(..) => {
+                searches += 1;
+                continue;
+            }
             _ => {
-                others += 1;
+                parts += 1;
                 continue;
             }
         };
@@ -52,12 +56,14 @@ pub fn summary(cases: &[Named]) -> String {
     let random = cases.iter().filter(|(name, _)| name.starts_with("random"));
     let random = random.count();
     format!(
-        "{} cases near the boundaries and {} random ones; by number 0 to 11: answers {:?}, merges {:?}, counts {:?}; and {} of the parts",
+        "{} cases near the boundaries and {} random ones; by number 0 to 11: answers {:?}, merges {:?}, counts {:?}; \
+         {} of the parts, and {} of halving",
         cases.len() - random,
         random,
         numbers[0],
         numbers[1],
         numbers[2],
-        others
+        parts,
+        searches
     )
 }

@@ -1,10 +1,11 @@
-//! Writes a crate of statements: in each of many cases the definitions of `rules` compute to what the second program answers.
-//! The checker decides each one by computation, so two renderings of document 01 that know nothing of each other are held
-//! against each other before any byte is proved.
+//! Writes a crate of statements: in each of many cases the definitions of `rules`, and that of halving in `rows`,
+//! compute to what the second program answers. The checker decides each one by computation, so two renderings of
+//! document 01, and of what document 02 asks of the search, that know nothing of each other are held against each other
+//! before any byte is proved.
 //!
-//! `agree SPECS FOLDER SEED` reads the names of the definitions in SPECS and writes the crate; `tools/agree` writes it
-//! and has it checked. Without a seed the cases near the boundaries are written alone, which `tools/noticed` holds against
-//! changed definitions.
+//! `agree CRATES FOLDER SEED` reads the names of the definitions in the folder CRATES and writes the crate;
+//! `tools/agree` writes it and has it checked. Without a seed the cases near the boundaries are written alone, which
+//! `tools/noticed` holds against changed definitions.
 
 mod case;
 mod cases;
@@ -17,7 +18,7 @@ mod replies;
 mod scattered;
 
 use cases::Named;
-use std::path::Path;
+use std::path::{Path, PathBuf};
 use std::{env, fs, io, process};
 
 /// What the statements name that is no definition by clauses, and the words that they are written in.
@@ -26,15 +27,13 @@ const WORDS: &str = include_str!("words.txt");
 
 fn main() {
     let words: Vec<String> = env::args().skip(1).collect();
-    let (specs, folder, seed) = match &words[..] {
-        [specs, folder] => (specs, folder, Ok(None)),
-        [specs, folder, seed] => (specs, folder, seed.parse().map(Some)),
-        _ => {
-            refuse("name the folder of the definitions, the folder to write to and perhaps a seed")
-        }
+    let (crates, folder, seed) = match &words[..] {
+        [crates, folder] => (crates, folder, Ok(None)),
+        [crates, folder, seed] => (crates, folder, seed.parse().map(Some)),
+        _ => refuse("name the folder of the crates, the folder to write to and perhaps a seed"),
     };
     match seed {
-        Ok(seed) => match write_crate(Path::new(specs), Path::new(folder), seed) {
+        Ok(seed) => match write_crate(Path::new(crates), Path::new(folder), seed) {
             Ok(done) => println!("agree: {}", done),
             Err(error) => refuse(&error),
         },
@@ -47,8 +46,8 @@ fn refuse(why: &str) -> ! {
     process::exit(2);
 }
 
-fn write_crate(specs: &Path, folder: &Path, seed: Option<u64>) -> Result<String, String> {
-    let definitions = definitions(specs).map_err(|error| at(specs, error))?;
+fn write_crate(crates: &Path, folder: &Path, seed: Option<u64>) -> Result<String, String> {
+    let definitions = definitions(crates)?;
     let cases = cases::all(seed);
     let files = [
         ("src", "lib.rt", "// Statements alone.\n".to_string()),
@@ -70,27 +69,40 @@ fn at(place: &Path, error: io::Error) -> String {
     format!("{}: {}", place.display(), error)
 }
 
-/// Each file of the definitions with the names in it that have to be unfolded.
-fn definitions(specs: &Path) -> io::Result<Vec<(String, Vec<String>)>> {
+/// Each file of the definitions, by the name that its module has, with the names in it that have to be unfolded.
+fn definitions(crates: &Path) -> Result<Vec<(String, Vec<String>)>, String> {
+    let specs = crates.join("rules/specs");
+    let files = files_in(&specs).map_err(|error| at(&specs, error))?;
+    let files = files.into_iter().map(|file| ("rules", file));
+    // Of `rows` this is what the second program has too. The rest of its definitions is about bytes.
+    let halving = ("rows", crates.join("rows/specs/Halving.antt"));
     let mut found = Vec::new();
-    for entry in fs::read_dir(specs)? {
-        let path = entry?.path();
-        // What stands in a folder there, no answer is computed by.
-        if path.is_dir() {
-            continue;
-        }
-        let module = path.file_stem().unwrap_or_default().to_string_lossy();
-        let names: Vec<String> = fs::read_to_string(&path)?
-            .lines()
-            .filter_map(|line| line.trim_start().strip_prefix("unfoldable pub "))
-            .filter_map(|line| line.split(' ').next())
-            .map(str::to_string)
-            .collect();
-        found.push((module.to_string(), names));
+    for (name, file) in files.chain([halving]) {
+        let stem = file.file_stem().unwrap_or_default().to_string_lossy();
+        let text = fs::read_to_string(&file).map_err(|error| at(&file, error))?;
+        found.push((format!("Rattle.{}.specs.{}", name, stem), unfoldable(&text)));
     }
-    found.sort();
     found.retain(|(_, names)| !names.is_empty());
     Ok(found)
+}
+
+/// The files that stand in a folder itself. What stands in a folder below it, no answer is computed by.
+fn files_in(specs: &Path) -> io::Result<Vec<PathBuf>> {
+    let mut found = Vec::new();
+    for entry in fs::read_dir(specs)? {
+        found.push(entry?.path());
+    }
+    found.retain(|path| !path.is_dir());
+    found.sort();
+    Ok(found)
+}
+
+fn unfoldable(text: &str) -> Vec<String> {
+    text.lines()
+        .filter_map(|line| line.trim_start().strip_prefix("unfoldable pub "))
+        .filter_map(|line| line.split(' ').next())
+        .map(str::to_string)
+        .collect()
 }
 
 /// So many cases stand in one statement: what each statement costs by itself is shared.
@@ -102,11 +114,7 @@ fn statements(definitions: &[(String, Vec<String>)], cases: &[Named]) -> String 
     let mut text = HEADER.to_string();
     let mut unfolded = String::new();
     for (module, names) in definitions {
-        text += &format!(
-            "use Rattle.rules.specs.{}.{{{}}}\n",
-            module,
-            names.join(", ")
-        );
+        text += &format!("use {}.{{{}}}\n", module, names.join(", "));
         unfolded += &format!(" {}", names.join(" "));
     }
     text += &print::models();

@@ -44,6 +44,10 @@ pub fn statement(case: &Case) -> String {
             let given = list(numbers.iter().map(|k| format!("({}, true)", name(*k))));
             format!("number {} ≡ {}", given, told.code())
         }
+        Case::Steps(stamps, sought, told) => {
+            let stamps = list(stamps.iter().map(u64::to_string));
+            format!("compares {} {} {}", stamps, sought, told)
+        }
     }
 }
 

@@ -9,10 +9,12 @@
 //! - [`checks`]: the check, each inequality at equality and one off it
 //! - [`merges`], [`settling`]: when a merge is refused, and how it settles each stamp
 //! - [`counts`]: the coordinator's count
+//! - [`halving`]: the rows that the search for a stamp compares, which document 02 asks for
 
 mod bodies;
 mod checks;
 mod counts;
+mod halving;
 mod merges;
 mod messages;
 mod numbers;
@@ -36,6 +38,7 @@ pub fn all() -> Vec<Named> {
         merges::all,
         settling::all,
         counts::all,
+        halving::all,
     ];
     chapters.iter().flat_map(|cases| cases()).collect()
 }
