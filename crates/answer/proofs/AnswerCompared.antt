@@ -1,15 +1,12 @@
 -- How many rows the answer says were compared: none where the search has not run, else its steps, of 512 rows 10 at most.
-use mathlib.Core.Path.{_≡_, refl, sym, ap, _∙_}
+use mathlib.Core.Path.{_≡_, refl, sym, _∙_}
 use mathlib.Core.Bool.{Bool, true, false, cond}
 use mathlib.Core.List.{List, [], _∷_, List·Memᴰ·head, List·Memᴰ·tail}
-use mathlib.Core.Logic.{_⊎_, inl, inr}
 use mathlib.Core.Option.{Option, none, some}
-use Prim.Native.Nat.{ℕ, _≤_, _<_}
+use Prim.Native.Nat.{ℕ, _≤_}
 use native.Mathlib.Omega.{arith}
-use lib.Dec.{eqb, leb}
-use lib.ListN.{length}
 use Rattle.rules.specs.Tests.{both, either}
-use Rattle.rules.specs.Tables.{Model, Table, valley, rising}
+use Rattle.rules.specs.Tables.{Model, Table}
 use Rattle.rules.specs.Messages.{Message, Message.proposePrepare, Message.finalisePrepare, Message.proposeOutcome, Message.finaliseOutcome, Message.changeView, Message.startView, Message.readRegister}
 use Rattle.rules.specs.Circumstances.{belowLimit, isChanging, forOtherView, heldWithOtherBody, heldUnequalFinal, heldOppositeOutcome, newButFull, prepareNotHeld, outcomeNotHeld}
 use Rattle.rules.proofs.Logic.{none-some}
