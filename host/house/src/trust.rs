@@ -93,7 +93,8 @@ pub fn contracts(source: &str) -> Vec<(String, BTreeSet<Name>)> {
             let name = function.split('(').next().unwrap_or(function);
             found.push((name.to_string(), BTreeSet::new()));
         }
-        public = line.starts_with("pub extern") || public && line.starts_with(' ');
+        // A signature of several lines ends with one that begins with its bracket.
+        public = line.starts_with("pub extern") || public && line.starts_with(&[' ', ')'][..]);
         let contract = ["requires", "ensures"].map(|word| line.trim_start().starts_with(word));
         if let Some((_, names)) = found
             .last_mut()

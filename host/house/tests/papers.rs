@@ -236,7 +236,7 @@ fn an_edit_for_each_public_call_is_tried_in_the_gate() {
         .into_iter()
         .filter(|row| row[0].starts_with("CALL-"))
         .collect();
-    assert_eq!(calls.len(), 6);
+    assert_eq!(calls.len(), 7);
     for row in calls {
         assert!(row[5].contains("/must-fail/"), "{}: {}", row[0], row[5]);
     }

@@ -90,7 +90,7 @@ fn whatever_is_named_is_there() {
 #[test]
 fn every_public_call_has_a_contract_that_names_something() {
     let calls = contracts(&text(BOUNDARY));
-    assert_eq!(calls.len(), 6);
+    assert_eq!(calls.len(), 7);
     for (call, names) in calls {
         assert!(
             names.iter().any(|(home, _)| home.contains("/specs/")),

@@ -45,8 +45,8 @@ fn first_words(file: &str) -> String {
 const OPENING: [&str; 3] = [
     "`tools/trust` writes this page from the tree, and a host test holds it to the tree. Nothing on it is written by hand.",
     "A proof is checked by a program, so nobody has to believe it. A definition is checked by its reader alone. Whoever relies on \
-     the three promises has to believe that the definitions on this page say what document 01 says. Where one renders a sentence of \
-     document 01, the sentence is quoted above it in its file. No other definition has to be believed for the promises.",
+     the three promises has to believe that the definitions on this page say what document 01 says, and what the landed requests of \
+     document 02 say. Where one renders a sentence of either, the sentence is quoted above it in its file. No other definition has to be believed for the promises.",
     "A definition is on this page if what is promised names it, or if a definition on this page does. This is promised:",
 ];
 
