@@ -5,8 +5,8 @@ use table::image;
 use table::image::Found;
 use table::model::Model;
 use transact::reply;
+use transact::reply::CountedReply;
 use transact::reply::Reply;
-use transact::reply::Response;
 ghost use mathlib.Core.Path.{_≡_};
 ghost use Prim.Native.Nat.{_+_, _*_, _≤_};
 ghost use lib.ListN.{length};
@@ -24,7 +24,7 @@ pub struct Answered {
 }
 
 // The reply to any bytes of a message, by the table of at most `limit` rows that a buffer begins with, or by none.
-fn respond(table: &mut [u8], message: &[u8], limit: u16) -> Response
+fn respond(table: &mut [u8], message: &[u8], limit: u16) -> CountedReply
     requires { ⌜ (limit ≤ 512) × (limited limit .leastBuffer ≤ length (now table)) ⌝ }
     ensures { λ r. ⌜ (r .reply ≡ heardReply (limited limit) (now (message .entry)) (parse formatOne (limited limit) (now (table .entry)))) × (r .compared ≡ heardCompared (limited limit) (now (message .entry)) (parse formatOne (limited limit) (now (table .entry)))) ⌝ }
     ensures { λ _. ⌜ now (table .exit) ≡ heardBuffer (limited limit) (now (message .entry)) (now (table .entry)) (parse formatOne (limited limit) (now (table .entry))) ⌝ }

@@ -4,8 +4,8 @@ use crate::views;
 use message::kinds::Message;
 use transact::outcome;
 use transact::prepare;
+use transact::reply::CountedReply;
 use transact::reply::Reply;
-use transact::reply::Response;
 ghost use mathlib.Core.Path.{_≡_};
 ghost use Prim.Native.Nat.{_+_, _*_, _≤_};
 ghost use lib.ListN.{length};
@@ -19,7 +19,7 @@ ghost use Rattle.table.specs.Parse.{tableAt, BeginsWithImage};
 ghost use Rattle.answer.specs.Inner.BoxAnswers.{answerReply, answerBuffer, answerCompared};
 
 // The answer to one of the seven messages, or to none.
-pub fn serve(table: &mut [u8], message: &[u8], asked: Message, limit: u16) -> Response
+pub fn serve(table: &mut [u8], message: &[u8], asked: Message, limit: u16) -> CountedReply
     requires { ⌜ BeginsWithImage valley (now table) × (limit ≤ 512) × (limited limit .leastBuffer ≤ length (now table)) ⌝ }
     requires { ⌜ (meant formatOne (now message) asked ≡ messageTo formatOne (limited limit) (headerAt (now table) .n) (now message)) × Coded asked ⌝ }
     ensures { λ r. ⌜ (r .reply ≡ answerReply (limited limit) (meant formatOne (now (message .entry)) asked) (now (table .entry))) × (r .compared ≡ answerCompared (meant formatOne (now (message .entry)) asked) (tableAt formatOne (now (table .entry)))) ⌝ }

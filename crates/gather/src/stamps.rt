@@ -26,6 +26,7 @@ fn stamp_above(image: &[u8], newest: u32, last: u64) -> u64
     }
     let place = seek::find(image, h, last + 1).place;
     let Place::Absent { row: index } = place else {
+        // It is held, so it is the next one itself.
         return last + 1;
     };
     if index < h.rows as usize {

@@ -20,7 +20,7 @@ ghost use Rattle.gather.specs.Inner.UsedTables.{usedOf};
 ghost use Rattle.merge.specs.Calls.{callNumber, callOutput};
 ghost use Rattle.merge.specs.Inner.Written.{startHeader};
 
-// The header of a table of so many rows that starts a view: a fresh one of the box of that view, with view, promise and rows changed.
+// The header of a table of so many rows that starts a view: a fresh one of the box of that view, with view, promise and rows changed, and with start rows equal to rows.
 fn start_header(n: u8, view: u32, rows: u32, length: u32) -> Header
     requires { ⌜ 0 < n ⌝ }
     ensures { λ r. ⌜ r ≡ startHeader n view rows length ⌝ }

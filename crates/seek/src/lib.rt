@@ -41,39 +41,39 @@ pub enum Proposal {
 }
 
 // Either of them, with the rows that were compared to find it.
-pub struct ToFinalise {
+pub struct FoundToFinalise {
     pub finding: Finding,
     pub compared: usize,
 }
 
-pub struct ToPropose {
+pub struct FoundToPropose {
     pub proposal: Proposal,
     pub compared: usize,
 }
 
-impl ToFinalise {
-    fn refused(number: u8, compared: usize) -> ToFinalise
+impl FoundToFinalise {
+    fn refused(number: u8, compared: usize) -> FoundToFinalise
         ensures { λ r. ⌜ (r .finding ≡ Refused number) × (r .compared ≡ compared) ⌝ }
     {
-        ToFinalise {
+        FoundToFinalise {
             finding: Finding::Refused { number },
             compared,
         }
     }
 }
 
-impl ToPropose {
-    fn refused(number: u8, compared: usize) -> ToPropose
+impl FoundToPropose {
+    fn refused(number: u8, compared: usize) -> FoundToPropose
         ensures { λ r. ⌜ (r .proposal ≡ Against number) × (r .compared ≡ compared) ⌝ }
     {
-        ToPropose {
+        FoundToPropose {
             proposal: Proposal::Against { number },
             compared,
         }
     }
 }
 
-// Where the table that an image holds has a stamp. Whoever seeks one does so here.
+// Where the table that an image holds has a stamp. Whoever in the library seeks one does so here.
 pub fn find(image: &[u8], h: Header, stamp: u64) -> Sought
     requires { ⌜ BeginsWithImage valley (now image) × (h ≡ headerAt (now image)) ⌝ }
     ensures { λ r. ⌜ (r .place ≡ placeOf (tableAt formatOne (now (image .entry)) .rows) stamp) × (r .compared ≡ steps (tableAt formatOne (now (image .entry)) .rows) stamp) ⌝ }
@@ -82,35 +82,30 @@ pub fn find(image: &[u8], h: Header, stamp: u64) -> Sought
 }
 
 // Messages 2 and 4: the row of the stamp, in a box that is in that view. A refusal that comes before the search has compared nothing.
-pub fn row_to_finalise(table: &[u8], stamp: u64, view: u32) -> ToFinalise
+pub fn row_to_finalise(table: &[u8], stamp: u64, view: u32) -> FoundToFinalise
     requires { ⌜ BeginsWithImage valley (now table) ⌝ }
     ensures { λ r. ⌜ (r .finding ≡ toFinalise (tableAt formatOne (now (table .entry))) stamp view) × (r .compared ≡ comparedToFinalise (tableAt formatOne (now (table .entry))) stamp view) ⌝ }
 {
     let h = header::read(table);
     if h.mode == 1 {
-        return ToFinalise::refused(4, 0);
+        return FoundToFinalise::refused(4, 0);
     }
     if view != h.view {
-        return ToFinalise::refused(9, 0);
+        return FoundToFinalise::refused(9, 0);
     }
     let sought = find(table, h, stamp);
     let place = sought.place;
     let Place::Held { row: index } = place else {
-        return ToFinalise::refused(8, sought.compared);
+        return FoundToFinalise::refused(8, sought.compared);
     };
-    ToFinalise {
+    FoundToFinalise {
         finding: Finding::Known { index },
         compared: sought.compared,
     }
 }
 
 // A body that is needed for an answer: the table's if the stamp is known, else the message's.
-pub fn needed_body<'a>(
-    table: &'a [u8],
-    message: &'a [u8],
-    place: Place,
-    given: RowFields,
-) -> &'a [u8]
+fn needed_body<'a>(table: &'a [u8], message: &'a [u8], place: Place, given: RowFields) -> &'a [u8]
     requires { ⌜ NeededInside (now table) (now message) given place ⌝ }
     ensures { λ r. ⌜ now r ≡ neededBody (now (table .entry)) (now (message .entry)) given place ⌝ }
 {
@@ -172,7 +167,7 @@ fn has_room(h: Header, limit: u16) -> bool
     h.rows < limit as u32
 }
 
-// A stamp that is not held: the place of its row, if there is room. No row is new where one is held.
+// A stamp that is not held: the place of its row, if there is room. It is asked only where no row is held, so the refusal for a held one is never reached.
 fn new_row(place: Place, h: Header, limit: u16) -> Proposal
     ensures { λ r. ⌜ r ≡ newOrFull (belowLimit limit (fOf (h .n)) (h .start) (h .rows)) place ⌝ }
 {
@@ -191,26 +186,26 @@ pub fn row_to_propose<'a>(
     message: &'a [u8],
     given: RowFields,
     limit: u16,
-) -> ToPropose
+) -> FoundToPropose
     requires { ⌜ BeginsWithImage valley (now table) × BodyInside (now message) given ⌝ }
     ensures { λ r. ⌜ (r .proposal ≡ toPropose (limited limit) (tableAt formatOne (now (table .entry))) (given .stamp) (bodyAt (now (message .entry)) (given .offset) (given .reads) (given .writes))) × (r .compared ≡ comparedToPropose (tableAt formatOne (now (table .entry))) (given .stamp)) ⌝ }
 {
     let h = header::read(table);
     if h.mode == 1 {
-        return ToPropose::refused(4, 0);
+        return FoundToPropose::refused(4, 0);
     }
     let sought = find(table, h, given.stamp);
     let place = sought.place;
     let Place::Held { row: index } = place else {
-        return ToPropose {
+        return FoundToPropose {
             proposal: new_row(place, h, limit),
             compared: sought.compared,
         };
     };
     if other_body(table, message, place, given) {
-        return ToPropose::refused(5, sought.compared);
+        return FoundToPropose::refused(5, sought.compared);
     }
-    ToPropose {
+    FoundToPropose {
         proposal: Proposal::Held { index },
         compared: sought.compared,
     }

@@ -1,7 +1,7 @@
 // Messages 3 and 4: an outcome proposed and finalised.
 use crate::add;
+use crate::reply::CountedReply;
 use crate::reply::Reply;
-use crate::reply::Response;
 use message::carried;
 use rows::row;
 use rows::row::RowFields;
@@ -89,7 +89,7 @@ pub fn propose_outcome(
     reads: u8,
     writes: u8,
     limit: u16,
-) -> Response
+) -> CountedReply
     requires { ⌜ BeginsWithImage valley (now table) × (limit ≤ 512) × (limited limit .leastBuffer ≤ length (now table)) ⌝ }
     requires { ⌜ (verdictByCode verdict ≡ true) × (isStamp stamp ≡ true) × (countsByRule reads writes ≡ true) × (outcomeBody + bodyLength reads writes ≤ length (now message)) ⌝ }
     ensures { λ r. ⌜ (r .reply ≡ servedReply (limited limit) (proposeOutcome stamp (verdictNumbered verdict) (bodyAt (now (message .entry)) outcomeBody reads writes)) (now (table .entry))) × (r .compared ≡ servedCompared (tableAt formatOne (now (table .entry))) (proposeOutcome stamp (verdictNumbered verdict) (bodyAt (now (message .entry)) outcomeBody reads writes))) ⌝ }
@@ -148,7 +148,7 @@ fn finalise_held(table: &mut [u8], index: usize, stamp: u64, verdict: u8) -> Rep
 }
 
 // Message 4, finalise outcome: in this view, of an outcome that is held and not the opposite one.
-pub fn finalise_outcome(table: &mut [u8], stamp: u64, view: u32, verdict: u8) -> Response
+pub fn finalise_outcome(table: &mut [u8], stamp: u64, view: u32, verdict: u8) -> CountedReply
     requires { ⌜ BeginsWithImage valley (now table) × (verdictByCode verdict ≡ true) ⌝ }
     ensures { λ r. ⌜ (r .reply ≡ servedReply valley (finaliseOutcome stamp view (verdictNumbered verdict)) (now (table .entry))) × (r .compared ≡ servedCompared (tableAt formatOne (now (table .entry))) (finaliseOutcome stamp view (verdictNumbered verdict))) ⌝ }
     ensures { λ _. ⌜ now (table .exit) ≡ servedBuffer valley (finaliseOutcome stamp view (verdictNumbered verdict)) (now (table .entry)) ⌝ }

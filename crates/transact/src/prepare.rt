@@ -1,7 +1,7 @@
 // Messages 1 and 2: a prepare proposed and finalised.
 use crate::add;
+use crate::reply::CountedReply;
 use crate::reply::Reply;
-use crate::reply::Response;
 use checks::pass::Checked;
 use message::carried;
 use rows::row;
@@ -116,7 +116,7 @@ pub fn propose_prepare(
     reads: u8,
     writes: u8,
     limit: u16,
-) -> Response
+) -> CountedReply
     requires { ⌜ BeginsWithImage valley (now table) × (limit ≤ 512) × (limited limit .leastBuffer ≤ length (now table)) ⌝ }
     requires { ⌜ (isStamp stamp ≡ true) × (countsByRule reads writes ≡ true) × (prepareBody + bodyLength reads writes ≤ length (now message)) ⌝ }
     ensures { λ r. ⌜ (r .reply ≡ servedReply (limited limit) (proposePrepare stamp (bodyAt (now (message .entry)) prepareBody reads writes)) (now (table .entry))) × (r .compared ≡ servedCompared (tableAt formatOne (now (table .entry))) (proposePrepare stamp (bodyAt (now (message .entry)) prepareBody reads writes))) ⌝ }
@@ -182,7 +182,13 @@ fn finalise_held(table: &mut [u8], index: usize, stamp: u64, result: u8, retry: 
 }
 
 // Message 2, finalise prepare: in this view, of a prepare that is held, and not against another final result.
-pub fn finalise_prepare(table: &mut [u8], stamp: u64, view: u32, result: u8, retry: u64) -> Response
+pub fn finalise_prepare(
+    table: &mut [u8],
+    stamp: u64,
+    view: u32,
+    result: u8,
+    retry: u64,
+) -> CountedReply
     requires { ⌜ BeginsWithImage valley (now table) × (resultByCode result retry ≡ true) ⌝ }
     ensures { λ r. ⌜ (r .reply ≡ servedReply valley (finalisePrepare stamp view (resultNumbered result retry)) (now (table .entry))) × (r .compared ≡ servedCompared (tableAt formatOne (now (table .entry))) (finalisePrepare stamp view (resultNumbered result retry))) ⌝ }
     ensures { λ _. ⌜ now (table .exit) ≡ servedBuffer valley (finalisePrepare stamp view (resultNumbered result retry)) (now (table .entry)) ⌝ }

@@ -20,8 +20,8 @@ pub struct Reply {
     pub value: u64,
 }
 
-// A reply, and beside it how many rows were compared to find the row of its stamp: none of the 24 bytes.
-pub struct Response {
+// A reply, and how many rows were compared to find the row of its stamp. That number is none of the 24 bytes.
+pub struct CountedReply {
     pub reply: Reply,
     pub compared: usize,
 }
@@ -43,10 +43,10 @@ impl Reply {
     }
 
     // The reply, with so many rows compared beside it.
-    pub fn with_compared(self, compared: usize) -> Response
+    pub fn with_compared(self, compared: usize) -> CountedReply
         ensures { λ r. ⌜ (r .reply ≡ self) × (r .compared ≡ compared) ⌝ }
     {
-        Response {
+        CountedReply {
             reply: self,
             compared,
         }

@@ -13,7 +13,7 @@ use Rattle.rows.specs.Fields.{rowLength, fieldsAt}
 use Rattle.rows.specs.Inner.Rows.{BodyInside, bodyPart}
 use Rattle.rows.specs.declared.lookup.Place.{Place}
 use Rattle.rows.specs.declared.lookup.Place.the-variants.{Held, Absent}
-use Rattle.rows.specs.Inner.Places.{placeOf}
+use Rattle.rows.specs.Inner.Places.{placeOf, FoundInside, bodyFound}
 use Rattle.table.specs.Headers.{headerLength}
 use Rattle.seek.specs.declared.Finding.{Finding}
 use Rattle.seek.specs.declared.Finding.the-variants.{Known, Refused}
@@ -57,11 +57,11 @@ RowInside s (Absent i) = Unit {0}
 
 -- "A body needed for an answer is read from the table if the stamp is known, else from the message."
 abbrev pub neededBody : List ℕ → List ℕ → RowFields → Place → List ℕ
-neededBody s m given (Held i) = bodyPart s (fieldsAt s (headerLength + rowLength * i))
+neededBody s m given (Held i) = bodyFound s headerLength (Held i)
 neededBody s m given (Absent i) = bodyPart m given
 
 abbrev pub NeededInside : List ℕ → List ℕ → RowFields → Place → Type 0
-NeededInside s m given (Held i) = (headerLength + rowLength * i + rowLength ≤ length s) × BodyInside s (fieldsAt s (headerLength + rowLength * i))
+NeededInside s m given (Held i) = FoundInside s headerLength (Held i)
 NeededInside s m given (Absent i) = BodyInside m given
 
 -- the counts of a held row are not those of the message
