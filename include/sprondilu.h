@@ -282,10 +282,11 @@ uint8_t sprondilu_merge(const uint8_t *run, size_t run_len, uint32_t view, uint8
  * result is final and 0 if it is tentative. The first byte of each number counts most. replies_len is how many bytes there
  * are in all. The list may be any bytes that arrived, of any length, also none. The order of the replies does not matter.
  *
- * Each is made of a reply of sprondilu_answer to message 1 or 2 whose number is SPRONDILU_DONE. Of its 24 bytes, the box
- * is at SPRONDILU_REPLY_BOX, the view from SPRONDILU_REPLY_VIEW on, and the retry stamp from SPRONDILU_REPLY_VALUE on. The
- * result is in the state byte at SPRONDILU_REPLY_STATE. If that is 1 to 4, it is the result, which is tentative. If it is 5
- * to 8, so from SPRONDILU_FINAL_OK on, the result is 4 less, and is final.
+ * Each is made of a reply of sprondilu_answer or sprondilu_answer_compared to message 1 or 2 whose number is
+ * SPRONDILU_DONE. Of its 24 bytes, the box is at SPRONDILU_REPLY_BOX, the view from SPRONDILU_REPLY_VIEW on, and the
+ * retry stamp from SPRONDILU_REPLY_VALUE on. The result is in the state byte at SPRONDILU_REPLY_STATE. If that is 1 to
+ * 4, it is the result, which is tentative. If it is 5 to 8, so from SPRONDILU_FINAL_OK on, the result is 4 less, and is
+ * final.
  *
  * The answer has the number in bits 0 to 7, the first of these that applies, and SPRONDILU_DONE if none does:
  *   SPRONDILU_BAD_MESSAGE    n is not 3, 5 or 7; or replies_len is no multiple of SPRONDILU_COUNTED_BYTES; or in a reply
@@ -323,11 +324,11 @@ SPRONDILU_MUST_USE
 uint64_t sprondilu_count(uint8_t n, const uint8_t *replies, size_t replies_len);
 
 /*
- * One reply as sprondilu_count_records takes it. It is made of the 24 bytes of a reply of sprondilu_answer to message 1 or 2
- * whose number is SPRONDILU_DONE. `box` is the byte at SPRONDILU_REPLY_BOX. `view` is the 4 bytes from SPRONDILU_REPLY_VIEW
- * on, and `retry` the 8 from SPRONDILU_REPLY_VALUE on, as numbers whose first byte counts most. The byte at
- * SPRONDILU_REPLY_STATE is the state byte. If it is 1 to 4, it is `result`, and `is_final` is 0. If it is 5 to 8, `result`
- * is 4 less, and `is_final` is 1.
+ * One reply as sprondilu_count_records takes it. It is made of the 24 bytes of a reply of sprondilu_answer or
+ * sprondilu_answer_compared to message 1 or 2 whose number is SPRONDILU_DONE. `box` is the byte at SPRONDILU_REPLY_BOX.
+ * `view` is the 4 bytes from SPRONDILU_REPLY_VIEW on, and `retry` the 8 from SPRONDILU_REPLY_VALUE on, as numbers whose
+ * first byte counts most. The byte at SPRONDILU_REPLY_STATE is the state byte. If it is 1 to 4, it is `result`, and
+ * `is_final` is 0. If it is 5 to 8, `result` is 4 less, and `is_final` is 1.
  */
 typedef struct sprondilu_record {
     uint8_t box;
