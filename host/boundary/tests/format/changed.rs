@@ -139,7 +139,7 @@ fn changed_bits_are_noticed() {
     let text = text();
     let lines: Vec<&str> = text.lines().collect();
     let rows = rows_of_tables(&lines, "| bits | field | values |");
-    assert_eq!(rows.len(), 8);
+    assert_eq!(rows.len(), 11);
     for place in rows {
         let (first, last) = cells(lines[place])[0].split_once(" to ").expect("bits");
         let more = |bit: &str| one_more(bit).expect("a bit");

@@ -26,9 +26,10 @@ const WITH_OFFSETS: [&str; 16] = [
     "Counted reply",
     "Record in C",
 ];
-const MADE_OF_OTHERS: [&str; 5] = [
+const MADE_OF_OTHERS: [&str; 6] = [
     "Table image",
     "Body",
+    "Answer with the rows compared",
     "Run of a merge",
     "Answer of the count",
     "Answer of valid",

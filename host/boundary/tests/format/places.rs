@@ -24,6 +24,7 @@ pub fn all(page: &Page) -> Checked {
     ];
     messages.iter().try_for_each(|message| message(page))?;
     reply(page)?;
+    answer_with_the_rows_compared(page)?;
     stamp(page)?;
     counted_reply(page)?;
     record(page)?;
@@ -494,6 +495,24 @@ fn answer_of_the_count(page: &Page) -> Checked {
     said(word_of(3, &heard[..2])?, 0, 2, 4, RETRY)?;
     said(word_of(4, &heard)?, 3, 0, 0, 0)?;
     said(word_of(3, &unequal)?, 6, 0, 0, 0)
+}
+
+/// No rows, the most rows below which a stamp can lie, and a refusal for which none is sought.
+fn answer_with_the_rows_compared(page: &Page) -> Checked {
+    let said = |rows: Vec<samples::Row>, message: &[u8], number, compared| {
+        let word = agreed::answered(&normal(VIEW, rows).image(), message)?.word;
+        let expected = [("number", number), ("zero", 0), ("rows compared", compared)];
+        parts(page, "Answer with the rows compared", word, &expected)
+    };
+    let full = samples::random::full_table(&mut samples::Dice::seeded(1), samples::MOST_ROWS);
+    let lowest = samples::Row::of(1, Vec::new(), vec![access(6, 5)]);
+    let held = samples::Row {
+        prepare: 1,
+        ..row()
+    };
+    said(vec![], &message::propose_prepare(&row()), 0, 0)?;
+    said(full.rows, &message::propose_prepare(&lowest), 7, 10)?;
+    said(vec![held], &message::change_view(0), 10, 0)
 }
 
 fn answer_of_valid(page: &Page) -> Checked {
