@@ -1,7 +1,7 @@
 //! A box's answer to a message of each kind: what all sides do to a full table.
 
 use crate::{Side, Work, LIBRARY, SECOND, TWIN, WALK};
-use samples::{random, Dice, Table, GREATEST_STAMP, TABLE_BYTES};
+use samples::{message, random, Dice, Table, GREATEST_STAMP, TABLE_BYTES};
 
 const REPLY_LENGTH: usize = 24;
 const OK: u8 = 1;
@@ -15,19 +15,14 @@ pub struct Answering<const KIND: u8> {
     /// The buffer before the message and after it, and the reply, as the second program has them.
     pub before: Vec<u8>,
     after: Vec<u8>,
-    reply: Vec<u8>,
+    pub reply: Vec<u8>,
     /// A table buffer and a reply buffer for each time.
     pub lent: Vec<(Vec<u8>, Vec<u8>)>,
 }
 
-impl<const KIND: u8> Work for Answering<KIND> {
-    const NAME: &'static str = name(KIND);
-    const CALL: Option<&'static str> = Some("sprondilu_answer");
-    const SIDES: &'static [Side] = &[LIBRARY, TWIN, SECOND, WALK];
-    const ABOUT: &'static str = about(KIND);
-
-    fn of(rows: usize) -> Answering<KIND> {
-        let (table, message) = table_and_message(KIND, rows);
+impl<const KIND: u8> Answering<KIND> {
+    /// This table and this message of the kind.
+    pub fn asked(table: &Table, message: Vec<u8>) -> Answering<KIND> {
         let mut before = table.image();
         before.resize(TABLE_BYTES, 0);
         let mut after = before.clone();
@@ -41,6 +36,18 @@ impl<const KIND: u8> Work for Answering<KIND> {
             reply,
             lent: Vec::new(),
         }
+    }
+}
+
+impl<const KIND: u8> Work for Answering<KIND> {
+    const NAME: &'static str = name(KIND);
+    const CALL: Option<&'static str> = Some("sprondilu_answer");
+    const SIDES: &'static [Side] = &[LIBRARY, TWIN, SECOND, WALK];
+    const ABOUT: &'static str = about(KIND);
+
+    fn of(rows: usize) -> Answering<KIND> {
+        let (table, message) = table_and_message(KIND, rows);
+        Answering::asked(&table, message)
     }
 
     /// The table and the message, each as far as it is looked at.
@@ -111,7 +118,7 @@ fn image_length(buffer: &[u8]) -> usize {
 }
 
 /// A table of so many rows, normal and as its view began, with every row committed.
-fn committed(seed: u64, rows: usize) -> Table {
+pub fn committed(seed: u64, rows: usize) -> Table {
     let mut table = random::full_table(&mut Dice::seeded(seed), rows);
     (table.box_number, table.n, table.mode) = (0, 3, 0);
     (table.view, table.promised, table.start_rows) = (0, 0, rows as u32);
@@ -151,8 +158,7 @@ fn table_and_message(kind: u8, rows: usize) -> (Table, Vec<u8>) {
 fn proposed(mut table: Table) -> (Table, Vec<u8>) {
     let row = table.rows.remove(table.rows.len() / 2);
     table.start_rows = 0;
-    let stamp = row.stamp.to_be_bytes();
-    (table, [&[1], &stamp[..], &[4, 4], &row.body()].concat())
+    (table, message::propose_prepare(&row))
 }
 
 /// Another table, with which a view begins whose box is 0 of 3.

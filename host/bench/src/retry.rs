@@ -1,0 +1,88 @@
+//! A box's answer to a message 1 that ends in RETRY: the check finds later readers of what is written, row after row.
+
+use crate::answer::{committed, Answering};
+use crate::{Side, Work};
+use samples::{message, Access, Table};
+
+/// What is answered is a message 1, in tables that hold nothing but later readers.
+pub struct Retrying {
+    asked: Answering<1>,
+}
+
+impl Work for Retrying {
+    const NAME: &'static str = "answer1-retry";
+    const CALL: Option<&'static str> = Answering::<1>::CALL;
+    const SIDES: &'static [Side] = Answering::<1>::SIDES;
+    const ABOUT: &'static str = "\
+`sprondilu_answer` of the library answers a message 1 that ends in RETRY. The input is a table like that of answer1,
+but the message proposes the first row, and every other row has read the four registers that it writes, when nothing
+was written there. So each row is a committed reader with a later stamp, and the check finds that in its first read.
+All rows move.";
+
+    fn of(rows: usize) -> Retrying {
+        let (table, message) = table_and_message(rows);
+        Retrying {
+            asked: Answering::asked(&table, message),
+        }
+    }
+
+    fn bytes(&self) -> usize {
+        self.asked.bytes()
+    }
+
+    fn get_ready(&mut self, times: usize) {
+        self.asked.get_ready(times);
+    }
+
+    fn done_by(&mut self, side: Side, times: usize) {
+        self.asked.done_by(side, times);
+    }
+
+    fn assert_done(&self, side: Side) {
+        self.asked.assert_done(side);
+    }
+}
+
+/// The first row taken out of a table and proposed, and what it writes read by all the others.
+fn table_and_message(rows: usize) -> (Table, Vec<u8>) {
+    let mut table = committed(1, rows);
+    let first = table.rows.remove(0);
+    table.start_rows = 0;
+    let read = |write: &Access| Access {
+        number: 0,
+        ..*write
+    };
+    for row in &mut table.rows {
+        row.reads = first.writes.iter().map(read).collect();
+    }
+    (table, message::propose_prepare(&first))
+}
+
+#[cfg(test)]
+mod tests {
+    use super::Retrying;
+    use crate::Work;
+    use reference::{check, Message, PrepareResult, Rows, Table};
+
+    /// Any row alone would be answered with its own stamp, and all of them are with that of the last.
+    #[test]
+    fn each_row_is_a_later_reader() {
+        for size in Retrying::SIZES {
+            let asked = Retrying::of(size).asked;
+            let table = Table::parse(&asked.before).expect("a table").0;
+            let (stamp, body) = match Message::parse(&asked.message) {
+                Some(Message::ProposePrepare { stamp, body }) => (stamp, body),
+                other => panic!("no message 1: {:?}", other),
+            };
+            for (reader, row) in &table.rows {
+                let alone = Rows::from([(*reader, row.clone())]);
+                let expected = PrepareResult::Retry(*reader);
+                assert_eq!(check(&alone, stamp, &body), expected);
+            }
+            let greatest = table.rows.keys().max().expect("a row");
+            assert_eq!(table.rows.len() + 1, size);
+            assert_eq!(asked.reply[3], 4);
+            assert_eq!(asked.reply[16..], greatest.to_be_bytes());
+        }
+    }
+}
