@@ -9,7 +9,7 @@ use Rattle.rules.specs.Numbers.{applies, first, number}
 use Rattle.rules.specs.Messages.{Message.proposePrepare, held, changed, added, tableAfter, prepareProposed, prepareFinalised, outcomeProposed, outcomeFinalised, found, later, writeOf}
 use Rattle.rules.specs.Circumstances.{circumstances, furtherCircumstances, messageByRule, startsView, settled, isChanging, heldWithOtherBody, heldUnequalFinal, heldOppositeOutcome, newButFull, belowLimit, prepareNotHeld, outcomeNotHeld, forOtherView, changesToOldView, startsOldView}
 use Rattle.rules.specs.Answers.{answer, answerNumber, taken, refused, refusal, replyFrom, stateByte, replyStamp, replyValue}
-use Rattle.rules.specs.Check.{committed, prepared, overwrites, ruleA, ruleB, ruleC, retryStamp, check}
+use Rattle.rules.specs.Check.{committed, prepared, accepted, overwrites, ruleA, ruleB, ruleC, retryStamp, check}
 use Rattle.cases.specs.Marked.{writes, row}
 use Rattle.cases.specs.Beside.{afterOne, numbers, twoRows, messages}
 
@@ -22,7 +22,7 @@ pub answered :
       table = afterOne;
       reply = record { number = 0; kind = 1; box = 0; state = 1; view = 0; stamp = 65537; value = 0 };
     })
-unfolding numbers messages answer answerNumber circumstances furtherCircumstances taken refused refusal replyFrom stateByte replyStamp replyValue messageByRule startsView settled isChanging heldWithOtherBody heldUnequalFinal heldOppositeOutcome newButFull belowLimit prepareNotHeld outcomeNotHeld forOtherView changesToOldView startsOldView tableAfter prepareProposed prepareFinalised outcomeProposed outcomeFinalised held changed added found later writeOf isStamp isRegister bodyByRule countsByRule contentsByRule accessesByRule sameAccesses sameBody sameResult resultByRule retryByRule somethingHeld rowByRule rising isGroup isView modeByRule headerByRule tableByRule freshTable check retryStamp ruleA ruleB ruleC committed prepared overwrites number first applies both either any every those greatest firstOf
+unfolding numbers messages answer answerNumber circumstances furtherCircumstances taken refused refusal replyFrom stateByte replyStamp replyValue messageByRule startsView settled isChanging heldWithOtherBody heldUnequalFinal heldOppositeOutcome newButFull belowLimit prepareNotHeld outcomeNotHeld forOtherView changesToOldView startsOldView tableAfter prepareProposed prepareFinalised outcomeProposed outcomeFinalised held changed added found later writeOf isStamp isRegister bodyByRule countsByRule contentsByRule accessesByRule sameAccesses sameBody sameResult resultByRule retryByRule somethingHeld rowByRule rising isGroup isView modeByRule headerByRule tableByRule freshTable check retryStamp ruleA ruleB ruleC committed prepared accepted overwrites number first applies both either any every those greatest firstOf
 answered = (refl, refl)
 
 -- "for 7 the version found, and value its value, both 0 if none"

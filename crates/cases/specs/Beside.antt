@@ -1,4 +1,4 @@
--- Beside the marked cases: the codes of a row, merges, message 1 to the byte, and messages to one box, one after the other.
+-- Beside the marked cases: the codes of a row, what a RETRY advises, merges, message 1 to the byte, and messages to one box, one after the other.
 use mathlib.Core.Bool.{cond}
 use mathlib.Core.List.{List, [], _∷_, _++_, map}
 use Prim.Native.Nat.{ℕ}
@@ -8,8 +8,9 @@ use Rattle.rules.specs.Messages.{Message, Message.proposePrepare, Message.final
 use Rattle.rules.specs.Circumstances.{belowLimit}
 use Rattle.rules.specs.Answers.{answer}
 use Rattle.rules.specs.Check.{check}
-use Rattle.cases.specs.Kinds.{Case, Case.merged, Case.imaged, Case.replied}
-use Rattle.cases.specs.Marked.{reads, writes, row, prepared, changing}
+use Rattle.rules.specs.Stamps.{Body}
+use Rattle.cases.specs.Kinds.{Case, Case.checked, Case.merged, Case.imaged, Case.replied}
+use Rattle.cases.specs.Marked.{reads, writes, row, committed, prepared, changing}
 
 -- the nine prepare bytes and the five outcome bytes, in the order of their codes
 abbrev pub prepares : List Prepare
@@ -43,6 +44,24 @@ retries s t =
     ∷ changing 5 1 2 0 []
     ∷ []
 
+-- another register than k, read; and both of them written
+abbrev pub readsOther : ℕ → Body
+readsOther version = record { reads = record { register = 6; number = version } ∷ []; writes = [] }
+
+abbrev pub writesBoth : Body
+writesBoth = record { reads = []; writes = record { register = 5; number = 7 } ∷ record { register = 6; number = 7 } ∷ [] }
+
+-- the readers of M7's companion, and above them one of a newer version
+abbrev pub companionAndNewer : List Row
+companionAndNewer = committed 30 (reads 10) ∷ prepared 40 (reads 10) ∷ prepared 50 (reads 35) ∷ []
+
+-- the readers of M7's companion in a merge, the prepared one final, above a write that one table alone holds
+abbrev pub openWrite : List Table
+openWrite =
+    changing 3 1 0 0 (prepared 20 writes ∷ committed 30 (reads 10) ∷ row 40 (reads 10) (final OK) noOutcome ∷ [])
+    ∷ changing 3 1 1 0 []
+    ∷ []
+
 -- "After message 1 with stamp 65,537 and one write, register 5, value 7"
 abbrev pub afterOne : Table
 afterOne = record { box = 0; n = 3; mode = normalMode; view = 0; promised = 0; start = 0; rows = row 65537 writes (tentative OK) noOutcome ∷ [] }
@@ -65,7 +84,21 @@ replyOne = 0 ∷ 1 ∷ 0 ∷ 1 ∷ replicate 4 0 ++ (0 ∷ 0 ∷ 0 ∷ 0 ∷ 0 �
 
 unfoldable pub beside : List Case
 beside =
-    merged 2 older 20 (final OK)
+    -- 02: B "still fires only on a committed reader"; a prepared one alone is C's
+    checked (prepared 40 (reads 10) ∷ []) 20 writes ABSTAIN
+    -- "the greatest among committed and prepared readers"
+    ∷ checked (prepared 25 (reads 10) ∷ committed 30 (reads 10) ∷ []) 20 writes (RETRY 30)
+    -- who "meet the same inequality": one that read at 20 does not, and an aborted one is neither
+    ∷ checked (committed 30 (reads 10) ∷ prepared 40 (reads 20) ∷ []) 20 writes (RETRY 30)
+    ∷ checked (committed 30 (reads 10) ∷ row 40 (reads 10) (final OK) (done abort) ∷ []) 20 writes (RETRY 30)
+    -- of any register that is written, not only of the one on which B fired
+    ∷ checked (committed 30 (reads 10) ∷ prepared 40 (readsOther 10) ∷ []) 20 writesBoth (RETRY 40)
+    -- the limit of the advice: whoever read at 35 is met above it
+    ∷ checked companionAndNewer 20 writes (RETRY 40)
+    ∷ checked companionAndNewer 41 writes ABSTAIN
+    -- the merge's check has the same stamp
+    ∷ merged 1 openWrite 20 (final (RETRY 40))
+    ∷ merged 2 older 20 (final OK)
     ∷ merged 2 older 30 noPrepare
     -- equal retry stamps are agreed; unequal ones are not, so the row is checked, and nothing is there that clashes
     ∷ merged 1 (retries 30 30) 20 (final (RETRY 30))

@@ -39,6 +39,8 @@ marked =
     ∷ checked (committed 30 (reads 10) ∷ []) 20 writes (RETRY 30)
     ∷ checked (committed 30 (reads 10) ∷ []) 31 writes OK
     ∷ checked (committed 30 (reads 10) ∷ []) 9 writes OK
+    -- 02: "Case M7 gains a companion with a prepared reader at 40 that read at 10: RETRY 40."
+    ∷ checked (committed 30 (reads 10) ∷ prepared 40 (reads 10) ∷ []) 20 writes (RETRY 40)
     -- M10: "M4 with the write prepared: ABSTAIN"
     ∷ checked (prepared 10 writes ∷ []) 20 (reads 0) ABSTAIN
     -- M11: "f 2; t1 tentative OK in two tables, clashing t2 final OK in the third, no outcomes: t1 ABSTAIN"

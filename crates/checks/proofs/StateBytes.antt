@@ -9,8 +9,7 @@ use lib.Dec.{eqb, leb}
 use borrow.Author.Tests.{leb-true, leb-false, eqb-true, lt-leb, ne-eqb, eq-eqb}
 use Rattle.rules.specs.Tests.{both, either}
 use Rattle.rules.specs.Tables.{Result, Result.OK, Result.ABORT, Result.ABSTAIN, Result.RETRY, Prepare, Prepare.tentative, Prepare.final, Outcome.done, Verdict.abort, resultCode, prepareCode, outcomeCode}
-use Rattle.rules.specs.Check.{committed, prepared}
-use Rattle.rules.specs.Inner.Clashes.{accepted}
+use Rattle.rules.specs.Check.{committed, prepared, accepted}
 use Rattle.rules.proofs.Logic.{cases, same?, same-test, both-comm, either-none}
 use Rattle.rows.specs.declared.row.RowFields.{RowFields}
 use Rattle.rows.specs.Fields.{resultNumbered, prepareNumbered, verdictNumbered, outcomeNumbered}

@@ -1,4 +1,4 @@
-// The check: one pass over the rows of a lent image, from the last to the first, with three running answers.
+// The check: one pass over the rows of a lent image, from the last to the first, with four running answers.
 use crate::clashes;
 use rows::row;
 use rows::row::RowFields;
@@ -10,7 +10,7 @@ ghost use Rattle.rules.specs.Check.{check};
 ghost use Rattle.rows.specs.Read.{rowOf, rowsAt, bodyAt};
 ghost use Rattle.rows.specs.Inner.Rows.{BodyInside, RowsInside};
 ghost use Rattle.checks.specs.Inner.Given.{checkedAs};
-ghost use Rattle.checks.specs.Inner.Passed.{acceptedBytes, withClash, rowClashes, seenWith, answerOf};
+ghost use Rattle.checks.specs.Inner.Passed.{acceptedBytes, raised, withClash, rowClashes, seenWith, answerOf};
 
 // The check's result as a row has it: its code and its retry stamp.
 pub struct Checked {
@@ -18,10 +18,11 @@ pub struct Checked {
     pub retry: u64,
 }
 
-// What the rows passed say: the greatest stamp that B holds of or 0, whether A holds of one, whether C holds of one. The stamp stands first so that the two marks lie side by side: apart, each would drag its padding through every turn of the loop.
+// What the rows passed say: the advice, which is the greatest stamp of an accepted row that B names or 0; whether A holds of a committed one, whether B does, whether C holds of one. A prepared row raises the advice and B does not fire on it, so B has a mark of its own. The stamp stands first so that the marks lie side by side: apart, each would drag its padding through every turn of the loop.
 pub struct Seen {
-    pub retry: u64,
+    pub advice: u64,
     pub abort: bool,
+    pub retry: bool,
     pub abstain: bool,
 }
 
@@ -65,10 +66,24 @@ fn row_clashes(
     false
 }
 
-// One more accepted row clashes. A committed one below the stamp wrote what was read too early: A. One above read too early what is written: B.
+// The advice, which is the retry stamp if B fires, with one more accepted row that clashes. A row above the stamp has read too early what is written, and raises it. None that clashes lies at the stamp itself.
+fn raised(advice: u64, other: u64, stamp: u64) -> u64
+    ensures { λ r. ⌜ r ≡ raised advice other stamp ⌝ }
+{
+    if other <= stamp {
+        return advice;
+    }
+    if advice < other {
+        return other;
+    }
+    advice
+}
+
+// One more accepted row clashes. A committed one below the stamp wrote what was read too early: A. One above read too early what is written: B. A prepared one is C's on either side.
 fn with_clash(mut seen: Seen, other: u64, outcome: u8, stamp: u64) -> Seen
     ensures { λ r. ⌜ r ≡ withClash (eqb outcome 3) other stamp seen ⌝ }
 {
+    seen.advice = raised(seen.advice, other, stamp);
     if outcome != 3 {
         seen.abstain = true;
         return seen;
@@ -77,9 +92,7 @@ fn with_clash(mut seen: Seen, other: u64, outcome: u8, stamp: u64) -> Seen
         seen.abort = true;
         return seen;
     }
-    if seen.retry < other {
-        seen.retry = other;
-    }
+    seen.retry = true;
     seen
 }
 
@@ -109,10 +122,10 @@ fn answer(seen: Seen) -> Checked
     if seen.abort {
         return Checked { code: 2, retry: 0 };
     }
-    if 0 < seen.retry {
+    if seen.retry {
         return Checked {
             code: 4,
-            retry: seen.retry,
+            retry: seen.advice,
         };
     }
     if seen.abstain {
@@ -135,8 +148,9 @@ pub fn check(
     ensures { λ r. ⌜ r ≡ checkedAs (check (rowsAt (now (image .entry)) begin rows) stamp (bodyAt (now (body .entry)) 0 reads writes)) ⌝ }
 {
     let mut seen = Seen {
-        retry: 0,
+        advice: 0,
         abort: false,
+        retry: false,
         abstain: false,
     };
     let mut i = rows;

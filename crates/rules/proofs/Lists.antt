@@ -123,11 +123,6 @@ module _ {A : Type 0} where
       go true e m′ below = here e (List·Memᴰ·cases-cons m′) below
       go false e m′ below = there (below m′)
 
-  pub those-none : (test : A → Bool) (xs : List A) → any test xs ≡ false → those test xs ≡ []
-  unfolding any those
-  those-none test [] e = refl
-  those-none test (y ∷ ys) e = rw (either-left (test y) (any test ys) e) (those-none test ys (either-right (test y) (any test ys) e))
-
   pub in-those : (test : A → Bool) (xs : List A) (x : A) → x ∈ xs → test x ≡ true → x ∈ those test xs
   unfolding those
   in-those test [] x m t = absurd (List·Memᴰ·not-nil m)

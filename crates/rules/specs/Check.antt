@@ -1,4 +1,4 @@
--- 01, 'The check'.
+-- 01, 'The check', and what 02 mends in its rule B.
 use mathlib.Core.Bool.{Bool, cond}
 use mathlib.Core.List.{List}
 use Prim.Native.Nat.{ℕ}
@@ -15,6 +15,10 @@ committed r = eqb (outcomeCode (r .outcome)) 3
 unfoldable pub prepared : Row → Bool
 prepared r = both (either (eqb (prepareCode (r .prepare)) 1) (eqb (prepareCode (r .prepare)) 5)) (leb (outcomeCode (r .outcome)) 2)
 
+-- either of them, as "committed and prepared readers" are in 02: A, B and C speak of no other row
+unfoldable pub accepted : Row → Bool
+accepted r = either (committed r) (prepared r)
+
 -- a transaction at s read a register k at version v, another at w writes k, and "v < w < s"
 unfoldable pub overwrites : ℕ → List Access → ℕ → List Access → Bool
 overwrites w writes s reads = any (λ read. any (λ write. both (eqb (read .register) (write .register)) (both (ltb (read .number) w) (ltb w s))) writes) reads
@@ -27,9 +31,9 @@ ruleA counts s x r = both (counts r) (overwrites (r .stamp) (r .body .writes) s 
 unfoldable pub ruleB : (Row → Bool) → ℕ → Body → Row → Bool
 ruleB counts s x r = both (counts r) (overwrites s (x .writes) (r .stamp) (r .body .reads))
 
--- "the greatest such s'"
+-- "the greatest such s'", mended by 02: "it still fires only on a committed reader, but the stamp returned is the greatest among committed and prepared readers that meet the same inequality"
 unfoldable pub retryStamp : List Row → ℕ → Body → ℕ
-retryStamp rows s x = greatest (λ r. r .stamp) (those (ruleB committed s x) rows)
+retryStamp rows s x = greatest (λ r. r .stamp) (those (ruleB accepted s x) rows)
 
 -- "C. A or B holds with prepared for committed", of one row
 unfoldable pub ruleC : ℕ → Body → Row → Bool

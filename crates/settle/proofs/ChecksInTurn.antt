@@ -18,7 +18,7 @@ use Rattle.rules.specs.Check.{check}
 use Rattle.rules.specs.Merge.{stamps, rowsOf, mergedOutcome, finalOf, agreedOf, holdsPrepare, Standing, Standing.hasNone, standing, agreedPrepare, openPrepare, uncheckedPrepare, uncheckedRow, uncheckedRows, isSettled, amongAgreed, amongOpen, toCheck, checkedAt, checkedInTurn, mergedRows}
 use Rattle.rules.proofs.Logic.{impossible, both-right, both-true, both-false, both-whole, same?, eqb-self}
 use Rattle.rules.proofs.Lists.{_∈_, every-one, all-every, those-of}
-use Rattle.rules.proofs.Check.{Fired, by-A, by-B, by-C, by-D, check-fired, retry-is}
+use Rattle.rules.proofs.Check.{check-stamped}
 use Rattle.rules.proofs.Rows.{rising-above}
 use Rattle.rules.proofs.Stamps.{RisingFrom, rows-from}
 use Rattle.rules.proofs.Standings.{NoneOrDone, outcome-cases, Says, standing-says, check-settled}
@@ -373,16 +373,6 @@ result-codes OK h = (omega arith, omega arith, refl, refl)
 result-codes ABORT h = (omega arith, omega arith, refl, refl)
 result-codes ABSTAIN h = (omega arith, omega arith, refl, refl)
 result-codes (RETRY t) h = (omega arith, omega arith, h, refl)
-
-check-stamped : (rows : List Row) (s : ℕ) (x : Body) → every hasStamp rows ≡ true → resultByRule (check rows s x) ≡ true
-unfolding resultByRule
-check-stamped rows s x h = go (check rows s x) (check-fired rows s x)
-  where
-    go : (q : Result) → Fired rows s x q → resultByRule q ≡ true
-    go q (by-A p) = refl
-    go q (by-B p) = let (r, m, b, e) = retry-is rows s x p in ap isStamp (sym e) ∙ every-one hasStamp rows h r m
-    go q (by-C p) = refl
-    go q (by-D p k t) = refl
 
 pub check-result-codes : (rows : List Row) (s : ℕ) (x : Body) → every hasStamp rows ≡ true →
     let k = checkedAs (check rows s x) in

@@ -1,35 +1,40 @@
 -- What rows that were passed say, as the code keeps it while it goes on.
-use mathlib.Core.Bool.{Bool, true, cond}
+use mathlib.Core.Bool.{Bool, not, cond}
 use mathlib.Core.List.{List}
 use Prim.Native.Nat.{ℕ, max}
 use lib.Dec.{eqb, ltb, leb}
 use Rattle.rules.specs.Tests.{both, either, any}
 use Rattle.rules.specs.Stamps.{Body}
 use Rattle.rules.specs.Tables.{Result, Result.OK, Result.ABORT, Result.ABSTAIN, Result.RETRY, Row}
-use Rattle.rules.specs.Check.{committed, ruleA, ruleC, retryStamp}
-use Rattle.rules.specs.Inner.Clashes.{clash, accepted}
+use Rattle.rules.specs.Check.{committed, accepted, ruleA, ruleB, ruleC, retryStamp}
+use Rattle.rules.specs.Inner.Clashes.{clash}
 use Rattle.rules.specs.Messages as rules
 use Rattle.checks.specs.declared.pass.Seen.{Seen}
 use Rattle.checks.specs.declared.newest.Found.{Found}
 
 -- ---- the check
 
--- what A, B and C say of rows: "the greatest such s'" for B, 0 if it holds of none
+-- what A, B and C say of rows; "the greatest among committed and prepared readers" beside them, 0 if there is none
 unfoldable pub seenOf : ℕ → Body → List Row → Seen
-seenOf s x rows = record { abort = any (ruleA committed s x) rows; retry = retryStamp rows s x; abstain = any (ruleC s x) rows }
+seenOf s x rows = record { advice = retryStamp rows s x; abort = any (ruleA committed s x) rows; retry = any (ruleB committed s x) rows; abstain = any (ruleC s x) rows }
 
 -- "Committed: outcome 3. Prepared: prepare byte 1 or 5 and outcome 0, 1 or 2.": either, by a row's two bytes
 unfoldable pub acceptedBytes : ℕ → ℕ → Bool
 acceptedBytes prepare outcome = either (eqb outcome 3) (both (leb outcome 2) (either (eqb prepare 1) (eqb prepare 5)))
 
--- one more row clashes, which is at t: "ABSTAIN" if it is prepared; if committed, A's below the stamp s and B's above it
+-- "the greatest among committed and prepared readers", with one more accepted row that clashes, at t: above the stamp s it is such a reader
+unfoldable pub raised : ℕ → ℕ → ℕ → ℕ
+raised advice t s = cond (leb t s) advice (max t advice)
+
+-- one more accepted row clashes, which is at t: if committed, A's below the stamp s and B's above it; if prepared, C's; above s it raises the advice either way
 unfoldable pub withClash : Bool → ℕ → ℕ → Seen → Seen
 withClash isCommitted t s seen =
-    cond isCommitted
-    (cond (ltb t s)
-    (record { abort = true; retry = seen .retry; abstain = seen .abstain })
-    (record { abort = seen .abort; retry = max t (seen .retry); abstain = seen .abstain }))
-    (record { abort = seen .abort; retry = seen .retry; abstain = true })
+    record {
+      advice = raised (seen .advice) t s;
+      abort = either (both isCommitted (ltb t s)) (seen .abort);
+      retry = either (both isCommitted (not (ltb t s))) (seen .retry);
+      abstain = either (not isCommitted) (seen .abstain);
+    }
 
 abbrev pub rowClashes : ℕ → Body → Row → Bool
 rowClashes s x r = both (accepted r) (clash s x (r .stamp) (r .body))
@@ -38,9 +43,9 @@ rowClashes s x r = both (accepted r) (clash s x (r .stamp) (r .body))
 unfoldable pub seenWith : ℕ → Body → Row → Seen → Seen
 seenWith s x r seen = cond (rowClashes s x r) (withClash (committed r) (r .stamp) s seen) seen
 
--- "in this order": "ABORT", "RETRY with the greatest such s'", "ABSTAIN", "Otherwise OK."
+-- "in this order": "ABORT", "RETRY" with "the stamp returned", "ABSTAIN", "Otherwise OK."
 unfoldable pub answerOf : Seen → Result
-answerOf seen = cond (seen .abort) ABORT (cond (ltb 0 (seen .retry)) (RETRY (seen .retry)) (cond (seen .abstain) ABSTAIN OK))
+answerOf seen = cond (seen .abort) ABORT (cond (seen .retry) (RETRY (seen .advice)) (cond (seen .abstain) ABSTAIN OK))
 
 -- ---- message 7
 

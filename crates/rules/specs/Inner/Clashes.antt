@@ -3,13 +3,10 @@ use mathlib.Core.Bool.{Bool}
 use Prim.Native.Nat.{ℕ}
 use Rattle.rules.specs.Tests.{either}
 use Rattle.rules.specs.Stamps.{Body}
-use Rattle.rules.specs.Tables.{Row}
-use Rattle.rules.specs.Check.{committed, prepared, overwrites}
+use Rattle.rules.specs.Check.{overwrites}
+-- a row that counts for A, B or C: laws that speak of clashes speak of it, and find it here
+unfoldable pub use Rattle.rules.specs.Check.{accepted}
 
 -- two transactions clash if either overwrites what the other read: rules A and B, seen from either side
 unfoldable pub clash : ℕ → Body → ℕ → Body → Bool
 clash s x t y = either (overwrites t (y .writes) s (x .reads)) (overwrites s (x .writes) t (y .reads))
-
--- a row that counts for A, B or C: committed or prepared
-unfoldable pub accepted : Row → Bool
-accepted r = either (committed r) (prepared r)

@@ -1,5 +1,4 @@
 use mathlib.Core.Path.{_≡_, sym, ap}
-use borrow.Author.Tests.{lt-ltb, le-ltb}
 use Rattle.rules.specs.Tables.{Result.OK, Result.ABORT, Result.ABSTAIN, Result.RETRY}
 use Rattle.checks.specs.Inner.Given.{checkedAs}
 use Rattle.checks.specs.Inner.Passed.{answerOf}
@@ -15,20 +14,20 @@ returns c =
 returns-2 : tie.Need-returns-2
 unfolding answerOf
 returns-2 c =
-    let seen = c .before .before .before .args .seen in
-    let e : answerOf seen ≡ RETRY (seen .retry) = rw (c .before .before .if1 .left, lt-ltb _ _ (c .if2 .taken)) in
+    let seen = c .before .before .args .seen in
+    let e : answerOf seen ≡ RETRY (seen .advice) = rw (c .before .if1 .left, c .if2 .taken) in
     sym (ap checkedAs e)
 
 returns-3 : tie.Need-returns-3
 unfolding answerOf
 returns-3 c =
-    let e : answerOf (c .before .before .before .before .args .seen) ≡ ABSTAIN = rw (c .before .before .before .if1 .left, le-ltb _ _ (c .before .if2 .left), c .if3 .taken) in
+    let e : answerOf (c .before .before .before .args .seen) ≡ ABSTAIN = rw (c .before .before .if1 .left, c .before .if2 .left, c .if3 .taken) in
     sym (ap checkedAs e)
 
 returns-4 : tie.Need-returns-4
 unfolding answerOf
 returns-4 c =
-    let e : answerOf (c .before .before .before .before .args .seen) ≡ OK = rw (c .before .before .before .if1 .left, le-ltb _ _ (c .before .if2 .left), c .if3 .left) in
+    let e : answerOf (c .before .before .before .args .seen) ≡ OK = rw (c .before .before .if1 .left, c .before .if2 .left, c .if3 .left) in
     sym (ap checkedAs e)
 
 pub answer-spec : {M : Type 1} → statement M

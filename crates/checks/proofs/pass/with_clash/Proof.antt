@@ -1,30 +1,24 @@
-use mathlib.Core.Path.{_≡_}
-use Prim.Native.Nat.{max}
-use native.Mathlib.Omega.{arith}
-use native.Mathlib.Nat.{max-eq-left, max-eq-right}
+use borrow.Author.Needs.{needs}
+use Rattle.rules.specs.Tests.{both, either}
 use Rattle.rules.proofs.Chains.{tests}
 use Rattle.checks.specs.Inner.Passed.{withClash}
 use Rattle.checks.proofs.pass.with_clash.Statement.{statement}
 use Rattle.checks.proofs.pass.with_clash.Tie as tie
 
+raised-requires : tie.Need-raised-requires
+raised-requires c κs = search needs
+
 returns : tie.Need-returns
-unfolding withClash
-returns c = search tests
+unfolding withClash both either
+returns c = search (tests, c .before .raised .ensures)
 
 returns-2 : tie.Need-returns-2
-unfolding withClash
-returns-2 c = search tests
+unfolding withClash both either
+returns-2 c = search (tests, c .before .before .raised .ensures)
 
 returns-3 : tie.Need-returns-3
-unfolding withClash
-returns-3 c =
-    let a = c .before .before .before .before .args in
-    let m : max (a .other) (a .seen .retry) ≡ a .other = max-eq-left (omega arith) in
-    search (tests, m)
-
-returns-4 : tie.Need-returns-4
-unfolding withClash
-returns-4 c = search (tests, max-eq-right)
+unfolding withClash both either
+returns-3 c = search (tests, c .before .before .raised .ensures)
 
 pub with-clash-spec : {M : Type 1} → statement M
-with-clash-spec = tie.close (tie.spec returns returns-2 returns-3 returns-4)
+with-clash-spec = tie.close (tie.spec raised-requires returns returns-2 returns-3)
