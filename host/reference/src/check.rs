@@ -1,4 +1,4 @@
-//! "The check"
+//! "The check", with rule B as document 02 mends it.
 
 use crate::body::Body;
 use crate::row::{PrepareResult, Row, Rows};
@@ -10,13 +10,15 @@ pub fn check(rows: &Rows, stamp: u64, body: &Body) -> PrepareResult {
     if read_is_overwritten(rows, committed, stamp, body) {
         return PrepareResult::Abort;
     }
-    if let Some(reader) = greatest_later_reader(rows, committed, stamp, body) {
-        return PrepareResult::Retry(reader);
+    let committed_reader = greatest_later_reader(rows, committed, stamp, body);
+    let prepared_reader = greatest_later_reader(rows, prepared, stamp, body);
+    // 02: "it still fires only on a committed reader, but the stamp returned is the greatest among committed and
+    // prepared readers that meet the same inequality."
+    if let Some(reader) = committed_reader {
+        return PrepareResult::Retry(reader.max(prepared_reader.unwrap_or(reader)));
     }
     // "C. A or B holds with prepared for committed: ABSTAIN."
-    if read_is_overwritten(rows, prepared, stamp, body)
-        || greatest_later_reader(rows, prepared, stamp, body).is_some()
-    {
+    if read_is_overwritten(rows, prepared, stamp, body) || prepared_reader.is_some() {
         return PrepareResult::Abstain;
     }
     // "D. Otherwise OK."

@@ -10,7 +10,7 @@
 //! - [`row`], [`table`]: "The table image: contents first, bodies after"
 //! - [`numbers`]: "Numbers returned"
 //! - [`message`], [`answer`], [`reply`]: "Messages to a box"
-//! - [`check`], [`merge`], [`count`]: the chapters of these names
+//! - [`check`], [`merge`], [`count`]: the chapters of these names; of the check, rule B as document 02 mends it
 //! - [`halving`]: the rows that the search for a stamp compares, which document 02 asks for
 
 pub mod answer;

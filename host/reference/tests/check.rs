@@ -57,6 +57,76 @@ fn m7_a_write_under_a_committed_later_reader_retries_at_its_stamp() {
     assert_eq!(checked(&[reader], 20, &[], &[(K, 1)]), (4, 30));
 }
 
+/// M7 with another row beside its committed reader.
+fn m7_beside(other: RawRow) -> (u8, u64) {
+    let mut rows = [row(30, &[(K, 10)], &[], 5, 3), other];
+    rows.sort_by_key(|row| row.stamp);
+    checked(&rows, 20, &[], &[(K, 1)])
+}
+
+/// "Case M7 gains a companion with a prepared reader at 40 that read at 10: RETRY 40." In every state that is prepared.
+#[test]
+fn the_companion_of_m7_retries_at_the_prepared_readers_stamp() {
+    for (prepare, outcome) in [(1, 0), (1, 1), (1, 2), (5, 0), (5, 1), (5, 2)] {
+        let reader = row(40, &[(K, 10)], &[], prepare, outcome);
+        assert_eq!(m7_beside(reader), (4, 40), "{} {}", prepare, outcome);
+    }
+}
+
+#[test]
+fn a_reader_that_is_not_prepared_is_none_of_the_greatest() {
+    for (prepare, outcome) in [(1, 4), (5, 4), (0, 4), (0, 1), (2, 0), (3, 1), (6, 0)] {
+        let reader = row(40, &[(K, 10)], &[], prepare, outcome);
+        assert_eq!(m7_beside(reader), (4, 30), "{} {}", prepare, outcome);
+    }
+}
+
+/// "the same inequality": v' < s < s'.
+#[test]
+fn a_prepared_reader_meets_the_inequality_or_does_not_count() {
+    let read_at = |version| m7_beside(row(40, &[(K, version)], &[], 1, 0));
+    assert_eq!(read_at(0), (4, 40));
+    assert_eq!(read_at(19), (4, 40));
+    assert_eq!(read_at(20), (4, 30));
+    assert_eq!(read_at(35), (4, 30));
+    let below = |stamp| m7_beside(row(stamp, &[(K, 10)], &[], 1, 0));
+    assert_eq!(below(25), (4, 30));
+    assert_eq!(below(19), (4, 30));
+}
+
+#[test]
+fn a_prepared_reader_of_another_register_counts_if_that_is_written_too() {
+    let rows = [
+        row(30, &[(K, 10)], &[], 5, 3),
+        row(40, &[(K + 1, 10)], &[], 1, 0),
+    ];
+    assert_eq!(checked(&rows, 20, &[], &[(K, 1), (K + 1, 1)]), (4, 40));
+    assert_eq!(checked(&rows, 20, &[], &[(K, 1)]), (4, 30));
+    assert_eq!(checked(&rows, 20, &[], &[(K + 1, 1)]), ABSTAIN);
+}
+
+/// "it still fires only on a committed reader"
+#[test]
+fn the_companion_without_a_committed_reader_abstains() {
+    let companion = row(40, &[(K, 10)], &[], 1, 0);
+    assert_eq!(checked(&[companion.clone()], 20, &[], &[(K, 1)]), ABSTAIN);
+    // A committed one that read too late is none either.
+    let late = row(30, &[(K, 20)], &[], 5, 3);
+    assert_eq!(checked(&[late, companion], 20, &[], &[(K, 1)]), ABSTAIN);
+}
+
+/// The stamp is above all readers that are met at s. Right above it may lie one that had read later than s.
+#[test]
+fn the_next_stamp_may_meet_a_reader_that_did_not_count() {
+    let rows = [
+        row(30, &[(K, 10)], &[], 5, 3),
+        row(40, &[(K, 10)], &[], 1, 0),
+        row(50, &[(K, 35)], &[], 1, 0),
+    ];
+    assert_eq!(checked(&rows, 20, &[], &[(K, 1)]), (4, 40));
+    assert_eq!(checked(&rows, 41, &[], &[(K, 1)]), ABSTAIN);
+}
+
 #[test]
 fn m8_a_write_above_the_committed_reader_is_ok() {
     let reader = row(30, &[(K, 10)], &[], 5, 3);
@@ -109,15 +179,16 @@ fn a_write_over_or_under_a_write_is_ok() {
 }
 
 #[test]
-fn retry_has_the_greatest_committed_reader_and_no_prepared_one() {
+fn retry_has_the_greatest_reader_committed_or_prepared_of_what_is_written() {
     let rows = [
         row(30, &[(K, 10)], &[], 5, 3),
         row(40, &[(9, 10)], &[], 0, 3),
         row(50, &[(K, 10)], &[], 1, 0),
         row(60, &[(K, 25)], &[], 5, 3),
     ];
-    assert_eq!(checked(&rows, 20, &[], &[(K, 1)]), (4, 30));
-    assert_eq!(checked(&rows, 20, &[], &[(K, 1), (9, 1)]), (4, 40));
+    assert_eq!(checked(&rows, 20, &[], &[(K, 1)]), (4, 50));
+    assert_eq!(checked(&rows, 20, &[], &[(9, 1)]), (4, 40));
+    assert_eq!(checked(&rows, 20, &[], &[(K, 1), (9, 1)]), (4, 50));
 }
 
 #[test]

@@ -217,6 +217,48 @@ fn an_outcome_noted_anywhere_is_done_for_the_checks() {
     assert_eq!(codes(&table, 15), (RETRY, 0, 30));
 }
 
+/// "Case M7 gains a companion with a prepared reader at 40 that read at 10: RETRY 40." A merge checks by the same rule.
+#[test]
+fn the_companion_of_m7_is_told_to_an_open_row_and_to_an_agreed_one() {
+    let (write, read) = (writes(20, 1, 0), [(K, 10)]);
+    let committed = row(30, &read, &[], 5, 3);
+    let prepared = row(40, &read, &[], 5, 0);
+    let readers = [committed.clone(), prepared.clone()];
+    let open = [write.clone(), committed.clone()];
+    let both = [write.clone(), committed.clone(), prepared.clone()];
+    let runs: [[&[RawRow]; 2]; 3] = [
+        [&open, &[prepared.clone()]],
+        [&both, &readers],
+        [&both, &[write.clone()]],
+    ];
+    for tables in runs {
+        let table = merged(3, &tables).unwrap();
+        assert_eq!(codes(&table, 20), (RETRY, 0, 40));
+        assert_eq!(codes(&table, 40), (OK, 0, 0));
+    }
+    let table = merged(3, &[&[write], &[prepared]]).unwrap();
+    assert_eq!(codes(&table, 20), (ABSTAIN, 0, 0));
+}
+
+/// "a check sees only rows settled before it": a prepared reader whose turn is later does not count.
+#[test]
+fn the_retry_stamp_is_that_of_a_reader_settled_before() {
+    let committed = row(30, &[(K, 10)], &[], 5, 3);
+    let tentative = row(40, &[(K, 10)], &[], 1, 0);
+    let write = writes(20, 1, 0);
+    let all = [write.clone(), committed.clone(), tentative.clone()];
+    let agreed_reader = [committed.clone(), tentative];
+    let agreed_write = [write, committed];
+    // In fewer tables than agree: both are open, and the write comes first.
+    let table = merged(3, &[&all, &[]]).unwrap();
+    assert_eq!(codes(&table, 20), (RETRY, 0, 30));
+    let table = merged(3, &[&all, &agreed_write]).unwrap();
+    assert_eq!(codes(&table, 20), (RETRY, 0, 30));
+    let table = merged(3, &[&all, &agreed_reader]).unwrap();
+    assert_eq!(codes(&table, 20), (RETRY, 0, 40));
+    assert_eq!(codes(&table, 40), (OK, 0, 0));
+}
+
 #[test]
 fn tables_of_an_older_view_are_not_used() {
     let old = [row(10, &[], &[(K, 2)], 6, 2), writes(11, 1, 0)];
