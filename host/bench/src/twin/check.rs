@@ -54,25 +54,27 @@ fn is_accepted(row: &Row) -> bool {
 
 /// The result of the check as a row has it: its code and its retry stamp.
 pub(super) fn check(image: &[u8], rows: usize, new: &Transaction) -> (u8, u64) {
-    let (mut abort, mut retry, mut abstain) = (false, 0, false);
+    // Whether A holds of a row, whether B does, the greatest stamp of a later reader, whether C holds of a row.
+    let (mut abort, mut retry, mut advice, mut abstain) = (false, false, 0, false);
     for index in (0..rows).rev() {
         let row = Row::read(image, index);
         if !is_accepted(&row) || !clashes(new, &Transaction::of(&row, image)) {
             continue;
         }
-        if row.outcome != COMMIT_DONE {
-            abstain = true;
-        } else if row.stamp < new.stamp {
-            abort = true;
-        } else if retry < row.stamp {
-            retry = row.stamp;
+        let is_committed = row.outcome == COMMIT_DONE;
+        if row.stamp < new.stamp {
+            abort |= is_committed;
+        } else {
+            advice = row.stamp.max(advice);
+            retry |= is_committed;
         }
+        abstain |= !is_committed;
     }
     match (abort, retry, abstain) {
         (true, _, _) => (2, 0),
-        (false, 0, true) => (3, 0),
-        (false, 0, false) => (1, 0),
-        (false, retry, _) => (4, retry),
+        (false, true, _) => (4, advice),
+        (false, false, true) => (3, 0),
+        (false, false, false) => (1, 0),
     }
 }
 
