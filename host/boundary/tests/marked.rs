@@ -1,5 +1,6 @@
-//! The marked cases of document 01 that are about a check and about the agreement count, through the compiled library. The
-//! others stand in `count/worked.rs`, `merge/worked.rs` and `fresh.rs`.
+//! The marked cases of document 01 that are about a check and about the agreement count, and the companion that
+//! document 02 gives one of them, through the compiled library. The others stand in `count/worked.rs`,
+//! `merge/worked.rs` and `fresh.rs`.
 
 use samples::{message, Access, Row, Table, TABLE_BYTES};
 
@@ -8,20 +9,22 @@ const OK: u8 = 1;
 const ABORT: u8 = 2;
 const ABSTAIN: u8 = 3;
 const RETRY: u8 = 4;
-const COMMIT: u8 = 1;
+/// What becomes of a transaction in the end, if it is told.
+const COMMIT: Option<u8> = Some(1);
+const ABORTED: Option<u8> = Some(2);
+const PREPARED: Option<u8> = None;
 
-fn of_register(number: u64) -> Vec<Access> {
-    let register = REGISTER;
-    vec![Access { register, number }]
+fn access(register: u8, number: u64) -> Access {
+    Access { register, number }
 }
 
 /// A transaction that read the register at a version, and one that writes it.
 fn reader(stamp: u64, version: u64) -> Row {
-    Row::of(stamp, of_register(version), Vec::new())
+    Row::of(stamp, vec![access(REGISTER, version)], Vec::new())
 }
 
 fn writer(stamp: u64) -> Row {
-    Row::of(stamp, Vec::new(), of_register(7))
+    Row::of(stamp, Vec::new(), vec![access(REGISTER, 7)])
 }
 
 /// What a box says to a message that it takes: the state byte and the value.
@@ -38,22 +41,25 @@ fn fresh() -> Vec<u8> {
     table
 }
 
-/// What is said to a transaction after another one was prepared, and committed if so.
-fn checked(first: &Row, committed: bool, second: &Row) -> (u8, u64) {
+/// What is said to a transaction after others were prepared, one after the other, and committed or aborted if so.
+fn checked(earlier: &[(Row, Option<u8>)], asked: &Row) -> (u8, u64) {
     let mut table = fresh();
-    assert_eq!(told(&mut table, &message::propose_prepare(first)), (OK, 0));
-    if committed {
-        told(&mut table, &message::propose_outcome(first, COMMIT));
-        let done = message::finalise_outcome(first.stamp, 0, COMMIT);
-        assert_eq!(told(&mut table, &done).0, COMMIT + 2);
+    for (row, outcome) in earlier {
+        assert_eq!(told(&mut table, &message::propose_prepare(row)), (OK, 0));
+        if let Some(outcome) = *outcome {
+            let noted = told(&mut table, &message::propose_outcome(row, outcome));
+            assert_eq!(noted, (outcome, 0));
+            let done = message::finalise_outcome(row.stamp, 0, outcome);
+            assert_eq!(told(&mut table, &done), (outcome + 2, 0));
+        }
     }
-    told(&mut table, &message::propose_prepare(second))
+    told(&mut table, &message::propose_prepare(asked))
 }
 
 /// "M4: committed write of k at 10; s 20 read k at 0: ABORT. M5: read at 10: OK. M6: s 8 read at 0: OK."
 #[test]
 fn a_read_of_what_was_overwritten_is_aborted() {
-    let after_the_write = |second| checked(&writer(10), true, &second);
+    let after_the_write = |asked| checked(&[(writer(10), COMMIT)], &asked);
     assert_eq!(after_the_write(reader(20, 0)), (ABORT, 0));
     assert_eq!(after_the_write(reader(20, 10)), (OK, 0));
     assert_eq!(after_the_write(reader(8, 0)), (OK, 0));
@@ -62,16 +68,53 @@ fn a_read_of_what_was_overwritten_is_aborted() {
 /// "M7: committed read of k at 10 by 30; write at 20: RETRY 30. M8: write at 31: OK. M9: write at 9: OK."
 #[test]
 fn a_write_below_a_later_read_is_told_to_retry() {
-    let after_the_read = |second| checked(&reader(30, 10), true, &second);
+    let after_the_read = |asked| checked(&[(reader(30, 10), COMMIT)], &asked);
     assert_eq!(after_the_read(writer(20)), (RETRY, 30));
     assert_eq!(after_the_read(writer(31)), (OK, 0));
     assert_eq!(after_the_read(writer(9)), (OK, 0));
 }
 
+/// "Case M7 gains a companion with a prepared reader at 40 that read at 10: RETRY 40."
+#[test]
+fn a_write_below_a_later_prepared_read_is_told_of_it() {
+    let companion = [(reader(30, 10), COMMIT), (reader(40, 10), PREPARED)];
+    assert_eq!(checked(&companion, &writer(20)), (RETRY, 40));
+    let [committed, prepared] = companion;
+    // Whichever came first; the prepared one alone; and what a writer meets that takes the next stamp.
+    let turned = [prepared.clone(), committed.clone()];
+    assert_eq!(checked(&turned, &writer(20)), (RETRY, 40));
+    assert_eq!(checked(&[prepared.clone()], &writer(20)), (ABSTAIN, 0));
+    let above = [committed, prepared, (reader(50, 35), PREPARED)];
+    assert_eq!(checked(&above, &writer(20)), (RETRY, 40));
+    assert_eq!(checked(&above, &writer(41)), (ABSTAIN, 0));
+}
+
+/// M7 with a reader that is none of "the greatest among committed and prepared readers that meet the same inequality":
+/// below the committed one, of a version that is not below the write, aborted, of a register that is not written.
+#[test]
+fn a_write_below_a_later_read_is_told_of_no_other() {
+    let elsewhere = Row::of(40, vec![access(REGISTER + 1, 10)], Vec::new());
+    for beside in [
+        (reader(25, 10), PREPARED),
+        (reader(40, 20), PREPARED),
+        (reader(40, 10), ABORTED),
+        (elsewhere.clone(), PREPARED),
+    ] {
+        let both = [(reader(30, 10), COMMIT), beside];
+        assert_eq!(checked(&both, &writer(20)), (RETRY, 30), "{:?}", both);
+    }
+    // The last one counts as soon as its register is written too.
+    let both = [(reader(30, 10), COMMIT), (elsewhere, PREPARED)];
+    let mut asked = writer(20);
+    asked.writes.push(access(REGISTER + 1, 7));
+    assert_eq!(checked(&both, &asked), (RETRY, 40));
+}
+
 /// "M10: M4 with the write prepared: ABSTAIN."
 #[test]
 fn a_read_of_what_may_be_overwritten_abstains() {
-    assert_eq!(checked(&writer(10), false, &reader(20, 0)), (ABSTAIN, 0));
+    let prepared = [(writer(10), PREPARED)];
+    assert_eq!(checked(&prepared, &reader(20, 0)), (ABSTAIN, 0));
 }
 
 /// What becomes of a tentative ABSTAIN that so many of f+1 tables hold: its prepare byte in the merge.

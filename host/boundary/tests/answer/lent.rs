@@ -123,6 +123,7 @@ impl Lent {
     /// or not; and so has the call that answers with the number alone.
     fn word_with(&mut self, lengths: (usize, usize), message: &[u8]) -> u64 {
         let before = self.held()[..240].to_vec();
+        let rows_before = self.number_at(4);
         let answers = self.answers(lengths, message);
         let same_bytes = self.library == self.second && self.number_alone == self.library;
         if !same_bytes || !answers.are_same() {
@@ -134,6 +135,11 @@ impl Lent {
         }
         let reply = &self.second.reply[self.begin..self.begin + 24];
         self.shares.count(message, number, reply);
+        let is_checked = number == 0 && message[0] == 1 && self.number_at(4) > rows_before;
+        if is_checked {
+            self.shares
+                .count_checked(reply, &self.second.table[self.begin..]);
+        }
         answers.expected
     }
 

@@ -1,5 +1,6 @@
 //! How often each kind of message was answered with each number, so that no comparison holds for want of a case.
 
+use reference::{Row, Table};
 use samples::kinds::NUMBERS as NUMBERS_OF_KINDS;
 use std::fmt::{self, Display, Formatter};
 
@@ -17,6 +18,9 @@ const POSSIBLE: [(&str, &[u8]); KINDS] = [
 ];
 const KINDS: usize = 9;
 const NUMBERS: usize = 12;
+
+/// The state byte of a tentative RETRY.
+const RETRY: u8 = 4;
 
 /// The state bytes that the paper has in the reply to each kind that was done.
 const STATES: [&[u8]; KINDS] = [
@@ -37,6 +41,8 @@ pub struct Shares {
     states: [[u64; 9]; KINDS],
     /// Messages 7 that found a write.
     found: u64,
+    /// Messages 1 that were checked to RETRY, with the stamp of a row that is prepared.
+    at_prepared: u64,
 }
 
 fn kind_of(message: &[u8]) -> usize {
@@ -57,12 +63,24 @@ impl Shares {
         }
     }
 
+    /// What message 1 was answered with, if it was checked, and the table with its new row. The other rows are as they
+    /// were then.
+    pub fn count_checked(&mut self, reply: &[u8], held: &[u8]) {
+        if reply[3] == RETRY {
+            let stamp = u64::from_be_bytes(reply[16..24].try_into().expect("eight bytes"));
+            let (table, _) = Table::parse(held).expect("a table");
+            let row = table.rows.get(&stamp);
+            self.at_prepared += u64::from(row.map_or(false, Row::is_prepared));
+        }
+    }
+
     pub fn add(&mut self, other: &Shares) {
         let numbers = self.numbers.iter_mut().zip(&other.numbers);
         numbers.for_each(|(here, there)| add_all(here, there));
         let states = self.states.iter_mut().zip(&other.states);
         states.for_each(|(here, there)| add_all(here, there));
         self.found += other.found;
+        self.at_prepared += other.at_prepared;
     }
 
     pub fn calls(&self) -> u64 {
@@ -70,7 +88,7 @@ impl Shares {
     }
 
     /// That every number which a kind can be answered with was met at least so often, and no other was; likewise every
-    /// state byte.
+    /// state byte, and RETRY with the stamp of a prepared row.
     pub fn assert_all_met(&self, least: u64) {
         for (kind, (name, possible)) in POSSIBLE.iter().enumerate() {
             assert_met(name, "number", &self.numbers[kind], possible, least);
@@ -78,6 +96,8 @@ impl Shares {
         }
         let missed = self.states[7][0] - self.found;
         assert!(self.found >= least && missed >= least, "message 7");
+        let times = self.at_prepared;
+        assert!(times >= least, "a prepared row's stamp: {} times", times);
     }
 }
 
@@ -126,9 +146,10 @@ impl Display for Shares {
         }
         write!(
             f,
-            "\n{} calls; message 7 found {}",
+            "\n{} calls; message 7 found {}; message 1 was checked to RETRY with a prepared row's stamp {} times",
             self.calls(),
-            self.found
+            self.found,
+            self.at_prepared
         )
     }
 }

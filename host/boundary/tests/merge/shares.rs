@@ -1,6 +1,7 @@
 //! How often each number was given, and what the merges that were done did, so that no comparison holds for want of a
 //! case.
 
+use reference::{Row, Table};
 use std::collections::BTreeMap;
 use std::fmt::{self, Display, Formatter};
 
@@ -27,13 +28,16 @@ const WAYS: [&str; 14] = [
 ];
 const AGREED_CHECKED: usize = 3;
 const OPEN_CHECKED: usize = 9;
+/// How far behind these RETRY stands.
+const TO_RETRY: usize = 3;
 
 /// Of merges, and not of rows.
-const MERGES: [&str; 4] = [
+const MERGES: [&str; 5] = [
     "of no rows",
     "of 512 rows",
     "with tables of older views",
     "with fewer used tables than the agreement count",
+    "with a check to RETRY at a prepared row's stamp",
 ];
 
 #[derive(Default)]
@@ -116,6 +120,16 @@ fn way(held: &Held, agreement: usize, merged: &[u8]) -> usize {
     }
 }
 
+/// Whether one of these stamps is that of a row which is prepared in a merged image.
+fn some_are_prepared(stamps: &[u64], merged: &[u8]) -> bool {
+    if stamps.is_empty() {
+        return false;
+    }
+    let (table, _) = Table::parse(merged).expect("a merged table");
+    let mut rows = stamps.iter().filter_map(|stamp| table.rows.get(stamp));
+    rows.any(Row::is_prepared)
+}
+
 impl Shares {
     /// A run that was given this number, and the merged image, if there is one.
     pub fn count(&mut self, run: &[u8], number: u8, merged: &[u8]) {
@@ -132,14 +146,20 @@ impl Shares {
         // "Agreement count: f half, rounded up, plus one", and f+1 tables are there.
         let agreement = images.len() / 2 + 1;
         let stamps = held(&used);
+        let mut retries = Vec::new();
         for row in rows(merged) {
-            self.ways[way(&stamps[&stamp_at(row, 0)], agreement, row)] += 1;
+            let way = way(&stamps[&stamp_at(row, 0)], agreement, row);
+            self.ways[way] += 1;
+            if [AGREED_CHECKED + TO_RETRY, OPEN_CHECKED + TO_RETRY].contains(&way) {
+                retries.push(stamp_at(row, 8));
+            }
         }
         let merges = [
             stamps.is_empty(),
             stamps.len() == 512,
             used.len() < images.len(),
             used.len() < agreement,
+            some_are_prepared(&retries, merged),
         ];
         for (count, is_such) in self.merges.iter_mut().zip(merges) {
             *count += u64::from(is_such);

@@ -9,6 +9,8 @@ const OK: u8 = 1;
 const FINAL_OK: u8 = 5;
 const FINAL_ABORT: u8 = 6;
 const FINAL_ABSTAIN: u8 = 7;
+const FINAL_RETRY: u8 = 8;
+const COMMIT_DONE: u8 = 3;
 
 /// A table of a box that changes from a view to view 9.
 fn changing(box_number: u8, n: u8, view: u32, rows: &[Row]) -> Table {
@@ -44,9 +46,14 @@ fn writes(stamp: u64, codes: (u8, u8)) -> Row {
 }
 
 fn reads(stamp: u64, codes: (u8, u8)) -> Row {
+    reads_at(0, stamp, codes)
+}
+
+/// A transaction that read the register at a version.
+fn reads_at(version: u64, stamp: u64, codes: (u8, u8)) -> Row {
     let read = Access {
         register: K,
-        number: 0,
+        number: version,
     };
     row(stamp, (&[read], &[]), codes)
 }
@@ -148,6 +155,29 @@ fn an_open_row_is_checked_behind_an_agreed_one() {
     ];
     let settled = [writes(10, (FINAL_ABSTAIN, 0)), reads(20, (FINAL_OK, 0))];
     assert_merged(&tables, &settled);
+}
+
+/// "Case M7 gains a companion with a prepared reader at 40 that read at 10: RETRY 40." A merge checks by the same rule,
+/// and "a check sees only rows settled before it".
+#[test]
+fn an_open_write_below_a_committed_and_a_prepared_reader_has_the_stamp_of_the_latter() {
+    let committed = reads_at(10, 30, (FINAL_OK, COMMIT_DONE));
+    let prepared = |code| reads_at(10, 40, (code, 0));
+    let tables = |prepared: &Row| {
+        let one = [writes(20, (OK, 0)), committed.clone()];
+        let other = [committed.clone(), prepared.clone()];
+        [changing(0, 3, 0, &one), changing(1, 3, 0, &other)]
+    };
+    let settled = |retry| {
+        let told = Row {
+            retry,
+            ..writes(20, (FINAL_RETRY, 0))
+        };
+        [told, committed.clone(), prepared(FINAL_OK)]
+    };
+    assert_merged(&tables(&prepared(FINAL_OK)), &settled(40));
+    // An open reader is checked behind the write, which has the lower stamp.
+    assert_merged(&tables(&prepared(OK)), &settled(30));
 }
 
 /// The order of numbers holds over all stamps: 5 of a late one comes before 6 of an early one.
