@@ -5,6 +5,8 @@ use crate::calls::Calls;
 use crate::fenced::{Memory, Room, Touching};
 use crate::met::{Call, Met};
 use boundary::{Record, RECORD_WORDS};
+use reference::merge::tables_of_run;
+use reference::{Row, Table, VALLEY};
 use samples::replies::RECORD_LENGTH;
 use samples::Dice;
 use std::fmt::{self, Display, Formatter};
@@ -142,6 +144,7 @@ impl Both {
         let calls = self.calls;
         let again = dice.in_a_hundred(NUMBER_ALONE);
         let before = again.then(|| (table.to_vec(), reply.to_vec()));
+        let rows_before = rows_in(table);
         let lent = self.lend(dice, table, message, reply);
         let found = (calls.answer_word)(lent.table, lent.message, lent.reply);
         let word = reference::answer_word(table, message, reply);
@@ -149,6 +152,10 @@ impl Both {
         self.judged(Call::answering(message), found, word, place)?;
         self.met.count_compared((word >> 16) as usize);
         let number = word & 0xff;
+        let is_checked = number == 0 && message[0] == 1 && rows_in(table) != rows_before;
+        if is_checked && is_prepared(table, number_of_8(reply, 16)) {
+            self.met.count_at_prepared(Call::Answer(1));
+        }
         if let Some((table_before, reply_before)) = before {
             let lent = self.lend(dice, &table_before, message, &reply_before);
             let found = (calls.answer)(lent.table, lent.message, lent.reply);
@@ -180,6 +187,9 @@ impl Both {
         let found = (self.calls.merge)(lent_run, view, lent_out);
         let number = reference::merge(run, view, out);
         let place = differs("output", lent_out, out);
+        if number == 0 && is_checked_to_prepared(run, out) {
+            self.met.count_at_prepared(Call::Merge);
+        }
         self.judged(Call::Merge, found.into(), number.into(), place)
     }
 
@@ -198,6 +208,48 @@ impl Both {
         let found = (self.calls.count_records)(n, records_in(lent));
         self.judged(Call::CountRecords, found, word, None)
     }
+}
+
+/// The bytes that say how many rows a table has, if it goes so far.
+fn rows_in(table: &[u8]) -> Option<[u8; 4]> {
+    table.get(4..8)?.try_into().ok()
+}
+
+fn number_of_8(bytes: &[u8], at: usize) -> u64 {
+    u64::from_be_bytes(bytes[at..at + 8].try_into().expect("eight bytes"))
+}
+
+/// Whether a row with this stamp is prepared in a table, to which message 1 has only added another one. No row has
+/// stamp 0, which is given with other results than RETRY.
+fn is_prepared(table: &[u8], stamp: u64) -> bool {
+    if stamp == 0 {
+        return false;
+    }
+    let (table, _) = Table::parse(table).expect("a table");
+    table.rows.get(&stamp).map_or(false, Row::is_prepared)
+}
+
+/// Whether a merge has a RETRY that none of its tables brought, so that it was checked, with the stamp of a row that is
+/// prepared in it.
+fn is_checked_to_prepared(run: &[u8], merged: &[u8]) -> bool {
+    let (merged, _) = Table::parse(merged).expect("a merged table");
+    let at_prepared = |row: &Row| {
+        let reader = merged.rows.get(&row.retry_stamp());
+        reader.map_or(false, Row::is_prepared)
+    };
+    let mut retries = merged
+        .rows
+        .iter()
+        .filter(|(_, row)| at_prepared(row))
+        .peekable();
+    if retries.peek().is_none() {
+        return false;
+    }
+    let tables = tables_of_run(VALLEY, run).expect("whole images");
+    retries.any(|(stamp, row)| {
+        let mut held = tables.iter().filter_map(|table| table.rows.get(stamp));
+        held.all(|held| held.retry_stamp() != row.retry_stamp())
+    })
 }
 
 fn either(dice: &mut Dice) -> Touching {

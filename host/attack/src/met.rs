@@ -1,5 +1,5 @@
-//! How often each call ended with each number, and how often an answer came with each count of compared rows, so that
-//! an attack without a difference is no empty one.
+//! How often each call ended with each number, how often an answer came with each count of compared rows, and how often
+//! a check said RETRY with a prepared row's stamp, so that an attack without a difference is no empty one.
 
 use samples::kinds::NUMBERS as NUMBERS_OF_KINDS;
 use std::fmt::{self, Display, Formatter};
@@ -43,6 +43,9 @@ const CALLS: [(Call, &str, &[u8]); 14] = [
     (Call::CountRecords, "count of records", &[0, 3, 6]),
 ];
 
+/// The calls that check, and what they leave.
+const CHECKS: [(Call, &str); 2] = [(Call::Answer(1), "answers"), (Call::Merge, "merges")];
+
 impl Call {
     /// The answer to these bytes.
     pub fn answering(message: &[u8]) -> Call {
@@ -57,6 +60,8 @@ impl Call {
 pub struct Met {
     numbers: [[u64; NUMBERS]; CALLS.len()],
     compared: [u64; COUNTS],
+    /// Calls whose check said RETRY with a prepared row's stamp.
+    at_prepared: [u64; CHECKS.len()],
 }
 
 impl Met {
@@ -70,10 +75,18 @@ impl Met {
         self.compared[rows] += 1;
     }
 
+    /// A call whose check said RETRY with the stamp of a row that is prepared.
+    pub fn count_at_prepared(&mut self, call: Call) {
+        let place = CHECKS.iter().position(|(other, _)| *other == call);
+        self.at_prepared[place.expect("a call that checks")] += 1;
+    }
+
     pub fn add(&mut self, other: &Met) {
         let here = self.numbers.iter_mut().flatten().chain(&mut self.compared);
         let there = other.numbers.iter().flatten().chain(&other.compared);
         here.zip(there).for_each(|(count, more)| *count += more);
+        let at_prepared = self.at_prepared.iter_mut().zip(&other.at_prepared);
+        at_prepared.for_each(|(count, more)| *count += more);
     }
 
     pub fn calls(&self) -> u64 {
@@ -99,11 +112,18 @@ impl Met {
                 missing.push(format!("{} rows compared: {} times", rows, count));
             }
         }
+        for ((_, left), count) in CHECKS.iter().zip(&self.at_prepared) {
+            if *count < least {
+                let what = "RETRY with a prepared row's stamp";
+                missing.push(format!("{}, {}: {} times", what, left, count));
+            }
+        }
         missing
     }
 }
 
-/// A line for each call, a column for each number; then the answers, with a column for each count.
+/// A line for each call, a column for each number; then the answers, with a column for each count; then the answers and
+/// the merges with RETRY at a prepared row's stamp.
 impl Display for Met {
     fn fmt(&self, f: &mut Formatter) -> fmt::Result {
         write!(f, "| call | calls |")?;
@@ -125,6 +145,12 @@ impl Display for Met {
         (0..COUNTS).try_for_each(|_| write!(f, "---|"))?;
         write!(f, "\n| answers |")?;
         let mut counts = self.compared.iter();
-        counts.try_for_each(|count| write!(f, " {} |", count))
+        counts.try_for_each(|count| write!(f, " {} |", count))?;
+        write!(
+            f,
+            "\n\n| RETRY with a prepared row's stamp | times |\n|---|---|"
+        )?;
+        let mut checks = CHECKS.iter().zip(&self.at_prepared);
+        checks.try_for_each(|((_, left), count)| write!(f, "\n| {} | {} |", left, count))
     }
 }

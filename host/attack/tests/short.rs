@@ -7,7 +7,7 @@ use samples::TABLE_BYTES;
 
 /// So many rounds, each kind in its turn.
 const ROUNDS: u64 = 1_200;
-/// So often at least each call ends with each number that it can end with.
+/// So often at least each call ends with each number that it can end with, and so often all else is met that is counted.
 const LEAST: u64 = 10;
 /// Within so many rounds a fault has to be found.
 const ROUNDS_FOR_A_FAULT: u64 = 240;
