@@ -46,6 +46,16 @@ impl Play {
         self.once_if(reordered, "deliveries behind a later message");
     }
 
+    /// A new transaction, as the box has checked it. All other rows are as they were then.
+    pub(crate) fn note_check(&mut self, answered: &Answered) {
+        if answered.reply.value > 0 {
+            let table = self.group.table_of(answered.by);
+            let reader = table.rows.get(&answered.reply.value);
+            let is_prepared = reader.map_or(false, Row::is_prepared);
+            self.once_if(is_prepared, "RETRY with a prepared reader's stamp");
+        }
+    }
+
     pub(crate) fn note_start(
         &mut self,
         answered: &Answered,
@@ -115,6 +125,24 @@ impl Play {
         self.once_if(open, "merges that settle an open row");
         self.once_if(older, "merges with a table of an older view");
         self.once_if(late, "merges after their view was started");
+    }
+
+    /// The image at this place among those merged, as it came of these boxes' tables. A row was checked if none of the
+    /// tables brought its result.
+    pub(crate) fn note_checks(&mut self, place: usize, boxes: &[usize]) {
+        let merged = &self.group.merged[place];
+        let promises = self.group.promises.get(&merged.view);
+        let had = |b: &usize| promises.and_then(|of| of.get(b));
+        let is_checked = |stamp: &u64, row: &Row| {
+            let held = boxes.iter().filter_map(had);
+            let mut rows = held.filter_map(|had| had.table.rows.get(stamp));
+            rows.all(|held| held.retry_stamp() != row.retry_stamp())
+        };
+        let all = &merged.table.rows;
+        let is_prepared = |stamp| all.get(&stamp).map_or(false, Row::is_prepared);
+        let mut rows = all.iter();
+        let met = rows.any(|(stamp, row)| is_prepared(row.retry_stamp()) && is_checked(stamp, row));
+        self.once_if(met, "merges that check to RETRY of a prepared reader");
     }
 
     pub(crate) fn note_merged(&mut self, merged: &Merged) {

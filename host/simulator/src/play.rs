@@ -61,11 +61,15 @@ impl Play {
     pub fn arrive(&mut self, place: usize) -> Answered {
         let to = self.group.sent[place].to;
         let views = self.group.views_of(to);
+        let rows = self.group.rows_of(to);
         self.note_arrival(place);
         let answered = self.group.answer(place);
         self.events
             .push(Event::Arrives(self.group.answers.len() - 1));
         match self.group.sent[place].message {
+            Message::ProposePrepare { .. } if self.group.rows_of(to) > rows => {
+                self.note_check(&answered);
+            }
             Message::ProposeOutcome { stamp, outcome, .. } if answered.number == 0 => {
                 let view = answered.reply.view;
                 self.accepts(Accepted::of(stamp, view, outcome));
@@ -178,19 +182,21 @@ impl Play {
     fn judge_merge(&mut self, view: u32, boxes: Vec<usize>, image: Vec<u8>) {
         self.once("merges judged");
         let mut before = self.group.merged.iter();
-        if before.any(|merged| merged.view == view && merged.image == image) {
-            return;
+        let same = before.position(|merged| merged.view == view && merged.image == image);
+        let place = same.unwrap_or(self.group.merged.len());
+        if same.is_none() {
+            let table = Table::parse(&image).expect("an image by the rules").0;
+            let merged = Merged {
+                view,
+                boxes: boxes.clone(),
+                image,
+                table,
+            };
+            self.note_merged(&merged);
+            self.violations.extend(watch::merge(&self.group, &merged));
+            self.group.merged.push(merged);
         }
-        let table = Table::parse(&image).expect("an image by the rules").0;
-        let merged = Merged {
-            view,
-            boxes,
-            image,
-            table,
-        };
-        self.note_merged(&merged);
-        self.violations.extend(watch::merge(&self.group, &merged));
-        self.group.merged.push(merged);
+        self.note_checks(place, &boxes);
     }
 
     /// The history so far, in words.

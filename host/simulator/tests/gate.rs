@@ -11,7 +11,8 @@ const HISTORIES: u64 = 18_000;
 const LEAST: u64 = 100;
 
 /// All that a run must meet.
-const ALL_KINDS: [&str; 48] = [
+const ALL_KINDS: [&str; 50] = [
+    "RETRY with a prepared reader's stamp",
     "abort proposed of a declared OK",
     "accepted by f+1 after a merge of a later view",
     "accepted by f+1: abort",
@@ -53,6 +54,7 @@ const ALL_KINDS: [&str; 48] = [
     "histories",
     "merges after their view was started",
     "merges judged",
+    "merges that check to RETRY of a prepared reader",
     "merges that settle an agreed row",
     "merges that settle an open row",
     "merges with a table of an older view",
