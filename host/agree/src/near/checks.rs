@@ -1,4 +1,5 @@
-//! "The check": each inequality at equality and one off it, who counts, and the order of A to D.
+//! "The check": each inequality at equality and one off it, who counts, the stamp of RETRY as document 02 mends it, and
+//! the order of A to D.
 
 use super::{holding, named, transaction};
 use crate::case::Case;
@@ -13,6 +14,9 @@ pub fn all() -> Vec<Named> {
     cases.extend(rule_b());
     cases.extend(who_counts());
     cases.extend(registers());
+    cases.extend(second_readers());
+    cases.extend(other_readers());
+    cases.extend(readers_in_line());
     cases.extend(in_this_order());
     cases
 }
@@ -108,6 +112,63 @@ fn registers() -> Vec<Named> {
         ("other registers written", &late, &[], &[(3, 0), (6, 0)]),
         ("written what was written", &late, &[], &[(2, 0)]),
         ("read under a later read", &late, &[(K, 0)], &[]),
+    ];
+    cases.into_iter().map(of).collect()
+}
+
+/// M7 with another row above its committed reader.
+fn m7_beside(name: String, other: Row) -> Named {
+    let name = format!("M7 beside {}", name);
+    checked(name, vec![committed(reader(30, 10)), other], writer(20))
+}
+
+/// "the greatest among committed and prepared readers that meet the same inequality": a second reader in every state
+/// that a row can have, and a prepared one of each version about the stamp. The companion of M7 is among them.
+fn second_readers() -> Vec<Named> {
+    let state = |(prepare, outcome)| {
+        let name = format!("a reader with prepare {} and outcome {}", prepare, outcome);
+        m7_beside(name, holding(reader(40, 10), prepare, outcome))
+    };
+    let version = |version| {
+        let name = format!("a prepared reader at {}", version);
+        m7_beside(name, prepared(reader(40, version)))
+    };
+    let states = (1..45).map(|state| (state / 5, state % 5)).map(state);
+    states.chain([0, 19, 20, 21, 39].map(version)).collect()
+}
+
+/// A second reader that is prepared and read another register, or is committed and read too late.
+fn other_readers() -> Vec<Named> {
+    let of_register = |register| prepared(transaction(40, &[(register, 10)], &[]));
+    let cases = [
+        ("a prepared reader of what is written too", of_register(8)),
+        ("a prepared reader of what is not written", of_register(6)),
+        ("a committed reader at 20", committed(reader(40, 20))),
+    ];
+    let of = |(name, other): (&str, Row)| m7_beside(name.into(), other);
+    cases.into_iter().map(of).collect()
+}
+
+/// A prepared reader below the committed one, or with none that counts; and one that only the next stamp meets.
+fn readers_in_line() -> Vec<Named> {
+    let of = |(name, stamp, rows): (&str, u64, &[Row])| {
+        checked(name.into(), rows.to_vec(), writer(stamp))
+    };
+    let (m7, companion) = (committed(reader(30, 10)), prepared(reader(40, 10)));
+    let (early, next) = (prepared(reader(25, 10)), prepared(reader(50, 35)));
+    let (late, too_late) = (committed(reader(40, 10)), committed(reader(30, 20)));
+    let below = [early, m7.clone()];
+    let twice = [m7.clone(), late];
+    let alone = [companion.clone()];
+    let none = [too_late, companion.clone()];
+    let all = [m7, companion, next];
+    let cases: [(&str, u64, &[Row]); 6] = [
+        ("a prepared reader below a committed one", 20, &below),
+        ("a committed reader above a committed one", 20, &twice),
+        ("a prepared reader alone", 20, &alone),
+        ("a committed reader that read too late", 20, &none),
+        ("a reader that read above the stamp", 20, &all),
+        ("the stamp behind that of RETRY", 41, &all),
     ];
     cases.into_iter().map(of).collect()
 }

@@ -13,6 +13,7 @@ pub fn all() -> Vec<Named> {
     cases.extend(checks());
     cases.extend(orders());
     cases.extend(turns());
+    cases.extend(retry_stamps());
     cases
 }
 
@@ -225,4 +226,30 @@ fn turns() -> Vec<Named> {
             gathered(3, vec![ends, all]),
         ),
     ]
+}
+
+/// A writer beside a committed reader and a prepared one above it, whose turn is before that of the writer or behind
+/// it: the writer and the prepared reader each stand in so many of the four tables of seven boxes, and three of them
+/// agree.
+fn retry_stamps() -> Vec<Named> {
+    let of = |(name, writers, readers, prepare): (&str, usize, usize, u8)| {
+        let held = |place| {
+            let all = [
+                (writer(10, 1, 0), place < writers),
+                (reader(20, 5, 3), place == 0),
+                (reader(30, prepare, 0), place + readers >= 4),
+            ];
+            let held = all.into_iter().filter(|(_, stands)| *stands);
+            held.map(|(row, _)| row).collect()
+        };
+        merged(name, gathered(7, (0..4).map(held).collect()))
+    };
+    let cases = [
+        ("RETRY of an open writer beside a final reader", 1, 1, 5),
+        ("RETRY of an agreed writer beside a final reader", 3, 1, 5),
+        ("RETRY of an open writer beside an agreed reader", 1, 3, 1),
+        ("RETRY of an agreed writer before an open reader", 3, 1, 1),
+        ("RETRY of an open writer before an open reader", 1, 1, 1),
+    ];
+    cases.into_iter().map(of).collect()
 }
