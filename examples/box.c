@@ -508,7 +508,9 @@ static void propose(struct transaction *t, uint8_t outcome)
 
 /*
  * What follows from the declared result; or once more what was proposed, for those that missed it. To try again after
- * an abort is another transaction, under a new stamp: after RETRY one above t->retry.
+ * an abort is another transaction, under a new stamp: after RETRY one above t->retry. That is the stamp of the latest
+ * one, committed or prepared, that has read what this one writes in a version before this one's stamp. One that read a
+ * newer version may lie above even that. Boxes may give different retry stamps; a slow answer has the greatest.
  */
 void conclude(struct transaction *t)
 {
