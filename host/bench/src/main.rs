@@ -1,7 +1,8 @@
 //! The proved library beside its twin in plain safe Rust and beside the second program, in one run: validity of an
-//! image, a box's answer to a message of each kind, also if it is RETRY, and with the rows that its search compared,
-//! the merge, the coordinator's count, a row added to a table, and a stamp searched in one. What matters are ratios:
-//! all sides are built for release and work on the same bytes on the same machine, in turns.
+//! image, a box's answer to a message of each kind, also if every row has to be looked through or the answer is RETRY, and
+//! with the rows that its search compared, the merge, the coordinator's count, a row added to a table, and a stamp
+//! searched in one. What matters are ratios: all sides are built for release and work on the same bytes on the same
+//! machine, in turns.
 //!
 //! `bench` measures times, has valgrind count instructions, looks how deep the library's calls go on the stack, and prints
 //! tables in Markdown. `bench WORK SIDE SIZE TIMES`, as `bench insert library 511 50`, only does that work so many times, on
@@ -16,6 +17,7 @@ mod gate;
 mod insert;
 mod instructions;
 mod merge;
+mod passing;
 mod retry;
 mod search;
 mod second;
@@ -30,6 +32,7 @@ use compared::Comparing;
 use count::Counting;
 use insert::Inserting;
 use merge::Merging;
+use passing::Passing;
 use retry::Retrying;
 use search::Searching;
 use std::path::Path;
@@ -209,6 +212,8 @@ const SECTIONS: [Section; 9] = [
             named::<Answering<5>>(),
             named::<Answering<6>>(),
             named::<Answering<7>>(),
+            named::<Passing<true>>(),
+            named::<Passing<false>>(),
             named::<Retrying>(),
         ],
     },

@@ -1,8 +1,9 @@
 //! A box's answer to a message 1 that ends in RETRY: the check finds later readers of what is written, row after row.
 
-use crate::answer::{committed, Answering};
+use crate::answer::Answering;
+use crate::passing::{apart, numbered, proposed, WRITTEN};
 use crate::{Side, Work};
-use samples::{message, Access, Table};
+use samples::{message, Table};
 
 /// What is answered is a message 1, in tables that hold nothing but later readers.
 pub struct Retrying {
@@ -14,10 +15,10 @@ impl Work for Retrying {
     const CALL: Option<&'static str> = Answering::<1>::CALL;
     const SIDES: &'static [Side] = Answering::<1>::SIDES;
     const ABOUT: &'static str = "\
-`sprondilu_answer` of the library answers a message 1 that ends in RETRY. The input is a table like that of answer1,
-but the message proposes the first row, and every other row has read the four registers that it writes, when nothing
-was written there. So each row is a committed reader with a later stamp, and the check finds that in its first read.
-All rows move.";
+`sprondilu_answer` of the library answers a message 1 that ends in RETRY. The input is a table like that of
+answer1-last, but the message proposes the first row, and every other row has read the four registers that it writes,
+when nothing was written there. So each row is a committed reader with a later stamp, and the check finds that in its
+first read. All rows move.";
 
     fn of(rows: usize) -> Retrying {
         let (table, message) = table_and_message(rows);
@@ -43,17 +44,13 @@ All rows move.";
     }
 }
 
-/// The first row taken out of a table and proposed, and what it writes read by all the others.
+/// The first row taken out of a table and proposed, and what it writes read by all the others. What it reads is written by
+/// none of them, so that no check ends in ABORT.
 fn table_and_message(rows: usize) -> (Table, Vec<u8>) {
-    let mut table = committed(1, rows);
-    let first = table.rows.remove(0);
-    table.start_rows = 0;
-    let read = |write: &Access| Access {
-        number: 0,
-        ..*write
-    };
+    let mut table = apart(rows);
+    let first = proposed(table.rows.remove(0).stamp);
     for row in &mut table.rows {
-        row.reads = first.writes.iter().map(read).collect();
+        row.reads = numbered(&WRITTEN, 0);
     }
     (table, message::propose_prepare(&first))
 }
