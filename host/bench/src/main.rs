@@ -1,8 +1,8 @@
 //! The proved library beside its twin in plain safe Rust and beside the second program, in one run: validity of an
-//! image, a box's answer to a message of each kind, also if every row has to be looked through or the answer is RETRY, and
-//! with the rows that its search compared, the merge, the coordinator's count, a row added to a table, and a stamp
-//! searched in one. What matters are ratios: all sides are built for release and work on the same bytes on the same
-//! machine, in turns.
+//! image, a box's answer to a message of each kind, also if every row has to be looked through, if it comes late, or if the
+//! answer is RETRY, and with the rows that its search compared, the merge, the coordinator's count, a row added to a
+//! table, and a stamp searched in one. What matters are ratios: all sides are built for release and work on the same
+//! bytes on the same machine, in turns.
 //!
 //! `bench` measures times, has valgrind count instructions, looks how deep the library's calls go on the stack, and prints
 //! tables in Markdown. `bench WORK SIDE SIZE TIMES`, as `bench insert library 511 50`, only does that work so many times, on
@@ -16,6 +16,7 @@ mod count;
 mod gate;
 mod insert;
 mod instructions;
+mod late;
 mod merge;
 mod passing;
 mod retry;
@@ -31,6 +32,7 @@ use answer::Answering;
 use compared::Comparing;
 use count::Counting;
 use insert::Inserting;
+use late::ComingLate;
 use merge::Merging;
 use passing::Passing;
 use retry::Retrying;
@@ -214,6 +216,7 @@ const SECTIONS: [Section; 9] = [
             named::<Answering<7>>(),
             named::<Passing<true>>(),
             named::<Passing<false>>(),
+            named::<ComingLate>(),
             named::<Retrying>(),
         ],
     },

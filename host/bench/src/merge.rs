@@ -139,7 +139,7 @@ fn serial(dice: &mut Dice, rows: usize) -> Vec<Row> {
 }
 
 /// Accesses of so many registers, rising, with the number that each register is given.
-fn accesses(dice: &mut Dice, count: usize, number: impl Fn(usize) -> u64) -> Vec<Access> {
+pub fn accesses(dice: &mut Dice, count: usize, number: impl Fn(usize) -> u64) -> Vec<Access> {
     let mut registers: Vec<u8> = (0..64).collect();
     dice.shuffle(&mut registers);
     registers.truncate(count);

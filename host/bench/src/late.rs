@@ -1,0 +1,89 @@
+//! A box's answer to a message 1 that comes late, among entries that ran one after the other.
+
+use crate::answer::{committed, Answering};
+use crate::merge::accesses;
+use crate::{Side, Work};
+use samples::{message, Dice, Table};
+
+/// What is answered is a message 1, in tables whose rows have read what was written last.
+pub struct ComingLate {
+    asked: Answering<1>,
+}
+
+impl Work for ComingLate {
+    const NAME: &'static str = "answer1-late";
+    const CALL: Option<&'static str> = Answering::<1>::CALL;
+    const SIDES: &'static [Side] = Answering::<1>::SIDES;
+    const ABOUT: &'static str = "\
+`sprondilu_answer` of the library answers a message 1 that comes late. The input is a table like that of answer1, but
+each row has read what was written last before it, of any registers, and the message proposes the row in the middle, as
+if all later ones had come before it. Half of the rows move.";
+
+    fn of(rows: usize) -> ComingLate {
+        let (table, message) = table_and_message(rows);
+        ComingLate {
+            asked: Answering::asked(&table, message),
+        }
+    }
+
+    fn bytes(&self) -> usize {
+        self.asked.bytes()
+    }
+
+    fn get_ready(&mut self, times: usize) {
+        self.asked.get_ready(times);
+    }
+
+    fn done_by(&mut self, side: Side, times: usize) {
+        self.asked.done_by(side, times);
+    }
+
+    fn assert_done(&self, side: Side) {
+        self.asked.assert_done(side);
+    }
+}
+
+/// Entries that ran one after the other, the one in the middle taken out and proposed.
+fn table_and_message(rows: usize) -> (Table, Vec<u8>) {
+    let mut dice = Dice::seeded(3);
+    let mut table = committed(1, rows);
+    table.start_rows = 0;
+    let mut newest = [0; 64];
+    for row in &mut table.rows {
+        let stamp = row.stamp;
+        row.reads = accesses(&mut dice, 4, |k| newest[k]);
+        row.writes = accesses(&mut dice, 4, |_| stamp);
+        for write in &row.writes {
+            newest[usize::from(write.register)] = stamp;
+        }
+    }
+    let late = table.rows.remove(rows / 2);
+    (table, message::propose_prepare(&late))
+}
+
+#[cfg(test)]
+mod tests {
+    use super::ComingLate;
+    use crate::Work;
+    use reference::{check, Message, PrepareResult, Rows, Table};
+
+    /// The entry would have been OK when it was due, and by the check of document 01 it still is.
+    #[test]
+    fn the_entry_comes_in_the_middle_of_entries_that_it_does_not_clash_with() {
+        for size in ComingLate::SIZES {
+            let asked = ComingLate::of(size).asked;
+            let table = Table::parse(&asked.before).expect("a table").0;
+            let (stamp, body) = match Message::parse(&asked.message) {
+                Some(Message::ProposePrepare { stamp, body }) => (stamp, body),
+                other => panic!("no message 1: {:?}", other),
+            };
+            let earlier = table.rows.range(..stamp);
+            let earlier: Rows = earlier.map(|(s, row)| (*s, row.clone())).collect();
+            assert_eq!(earlier.len(), size / 2);
+            assert_eq!(table.rows.len(), size - 1);
+            assert_eq!(check(&earlier, stamp, &body), PrepareResult::Ok);
+            assert_eq!(check(&table.rows, stamp, &body), PrepareResult::Ok);
+            assert_eq!(asked.reply[3], 1);
+        }
+    }
+}
