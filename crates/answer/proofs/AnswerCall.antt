@@ -17,11 +17,9 @@ use Rattle.rules.specs.Tables.{Model, Table, tableByRule}
 use Rattle.rules.specs.Numbers.{Number, Number.smallBuffer, Number.badTable, numberCode, Circumstance, applies, first, number}
 use Rattle.rules.specs.Messages.{Message, tableAfter}
 use Rattle.rules.specs.Circumstances.{tooSmall, replyTooSmall, belowLimit, messageByRule}
-use Rattle.rules.specs.Answers.{refusal, replyFrom, taken, refused, answerNumber, answer}
-use Rattle.rules.specs.Check.{check}
+use Rattle.rules.specs.Answers.{refusal, replyFrom, taken, refused, answerNumber, answer, proposalCheck}
 use Rattle.rules.proofs.Logic.{cases, same?, either-left, either-right}
-use Rattle.rules.proofs.Check.{check-by-rule}
-use Rattle.rules.proofs.Answers.{below-limit-fits, taken-by-rule, answer-by-rule, answer-same-box}
+use Rattle.rules.proofs.Answers.{below-limit-fits, taken-by-rule, answer-by-rule, answer-same-box, proposal-by-rule}
 use Rattle.rules.proofs.NumberExactly.{Wins, number-exactly, zero-exactly, small-first, table-first, message-first}
 use Rattle.table.specs.Images.{formatOne, imageLength}
 use Rattle.table.specs.Parse.{parse}
@@ -60,7 +58,7 @@ to-refusal k e (some T) none = refl
 to-refusal k e (some T) (some m) = rw e
 
 -- the table of an answer that is not refused
-answer-table : (M : Model) (T : Table) (m : Message) → answerNumber M belowLimit T m ≡ 0 → answer M belowLimit check T m .table ≡ tableAfter check T m
+answer-table : (M : Model) (T : Table) (m : Message) → answerNumber M belowLimit T m ≡ 0 → answer M belowLimit proposalCheck T m .table ≡ tableAfter proposalCheck T m
 unfolding answer taken
 answer-table M T m e = rw e
 
@@ -127,12 +125,12 @@ module _ (M : Model) (table message reply : List ℕ) where
     pub told : messageAt formatOne message ≡ some heard
     pub keepsRules : messageByRule M (before .n) heard ≡ true
     -- the buffer then begins with the table after the message, which is by the rules and of the same box and group
-    pub after : parse formatOne M (callTable M table message reply) ≡ some (tableAfter check before heard)
-    pub byRule : tableByRule M (tableAfter check before heard) ≡ true
-    pub box : tableAfter check before heard .box ≡ before .box
-    pub n : tableAfter check before heard .n ≡ before .n
+    pub after : parse formatOne M (callTable M table message reply) ≡ some (tableAfter proposalCheck before heard)
+    pub byRule : tableByRule M (tableAfter proposalCheck before heard) ≡ true
+    pub box : tableAfter proposalCheck before heard .box ≡ before .box
+    pub n : tableAfter proposalCheck before heard .n ≡ before .n
     -- and the reply is the one from that table
-    pub said : callReply M table message reply ≡ replaced reply 0 (replyBytes (replyAs (replyFrom (tableAfter check before heard) heard)))
+    pub said : callReply M table message reply ≡ replaced reply 0 (replyBytes (replyAs (replyFrom (tableAfter proposalCheck before heard) heard)))
 
   -- what was read, if a call is done
   taken-read : callNumber M table message reply ≡ 0 → (T : Table) × (m : Message) × (parse formatOne M table ≡ some T) × (messageAt formatOne message ≡ some m) × (answerNumber M belowLimit T m ≡ 0)
@@ -144,21 +142,21 @@ module _ (M : Model) (table message reply : List ℕ) where
       go (some T) (some m) a b d = (T, m, a, b, d)
 
   -- the two buffers after it
-  taken-table : (m : Message) → callNumber M table message reply ≡ 0 → messageAt formatOne message ≡ some m → callTable M table message reply ≡ edited formatOne (λ T. tableAfter check T m) table
+  taken-table : (m : Message) → callNumber M table message reply ≡ 0 → messageAt formatOne message ≡ some m → callTable M table message reply ≡ edited formatOne (λ T. tableAfter proposalCheck T m) table
   unfolding callTable
   taken-table m e b = rw (e, b)
 
-  taken-reply : (T : Table) (m : Message) → callNumber M table message reply ≡ 0 → parse formatOne M table ≡ some T → messageAt formatOne message ≡ some m → callReply M table message reply ≡ replaced reply 0 (replyBytes (replyAs (replyFrom (tableAfter check T m) m)))
+  taken-reply : (T : Table) (m : Message) → callNumber M table message reply ≡ 0 → parse formatOne M table ≡ some T → messageAt formatOne message ≡ some m → callReply M table message reply ≡ replaced reply 0 (replyBytes (replyAs (replyFrom (tableAfter proposalCheck T m) m)))
   unfolding callReply
   taken-reply T m e a b = rw (e, a, b)
 
   pub answer-taken : Sound formatOne M → callNumber M table message reply ≡ 0 → AnswerTaken
   answer-taken sound e =
       let (T, m, a, b, d) = taken-read e in
-      let same : answer M belowLimit check T m .table ≡ tableAfter check T m = answer-table M T m d in
+      let same : answer M belowLimit proposalCheck T m .table ≡ tableAfter proposalCheck T m = answer-table M T m d in
       let t = parse-by-rule formatOne M table T a in
-      let r : tableByRule M (tableAfter check T m) ≡ true = rw same at (answer-by-rule M belowLimit check below-limit-fits check-by-rule T m t) in
-      let (x, y) = answer-same-box M belowLimit check check-by-rule T m t in
+      let r : tableByRule M (tableAfter proposalCheck T m) ≡ true = rw same at (answer-by-rule M belowLimit proposalCheck below-limit-fits proposal-by-rule T m t) in
+      let (x, y) = answer-same-box M belowLimit proposalCheck proposal-by-rule T m t in
       let (i, h) = parse-reads formatOne M table T a in
       record {
         before = T;
@@ -166,7 +164,7 @@ module _ (M : Model) (table message reply : List ℕ) where
         read = a;
         told = b;
         keepsRules = taken-by-rule M belowLimit T m d;
-        after = rw (taken-table m e b) (edited-parses formatOne M (λ T. tableAfter check T m) table sound (rw i r) ∙ ap (λ U. some (tableAfter check U m)) i);
+        after = rw (taken-table m e b) (edited-parses formatOne M (λ T. tableAfter proposalCheck T m) table sound (rw i r) ∙ ap (λ U. some (tableAfter proposalCheck U m)) i);
         byRule = r;
         box = rw same at x;
         n = rw same at y;
@@ -179,7 +177,7 @@ module _ (M : Model) (table message reply : List ℕ) where
     number-by-rules : callNumber M table message reply ≡ answerNumber M belowLimit T m
     number-by-rules = not-small large .2 ∙ rw (a, b)
 
-    parses-taken : AnswerTaken → parse formatOne M (callTable M table message reply) ≡ some (tableAfter check T m)
+    parses-taken : AnswerTaken → parse formatOne M (callTable M table message reply) ≡ some (tableAfter proposalCheck T m)
     parses-taken w =
         let p : some (w .before) ≡ some T = sym (w .read) ∙ a in
         let q : some (w .heard) ≡ some m = sym (w .told) ∙ b in
@@ -189,13 +187,13 @@ module _ (M : Model) (table message reply : List ℕ) where
 
     -- number, table and reply
     pub answer-as-rules :
-        let said = answer M belowLimit check T m in
+        let said = answer M belowLimit proposalCheck T m in
         (callNumber M table message reply ≡ said .number) × (parse formatOne M (callTable M table message reply) ≡ some (said .table)) × (callReply M table message reply ≡ replaced reply 0 (replyBytes (replyAs (said .reply))))
     unfolding answer taken refused
     answer-as-rules = rw (← number-by-rules) (go (same? (callNumber M table message reply) 0))
       where
         go : (callNumber M table message reply ≡ 0) ⊎ (eqb (callNumber M table message reply) 0 ≡ false) →
-            let said = cond (eqb (callNumber M table message reply) 0) (taken (tableAfter check T m) m) (refused (callNumber M table message reply) T) in
+            let said = cond (eqb (callNumber M table message reply) 0) (taken (tableAfter proposalCheck T m) m) (refused (callNumber M table message reply) T) in
             (callNumber M table message reply ≡ said .number) × (parse formatOne M (callTable M table message reply) ≡ some (said .table)) × (callReply M table message reply ≡ replaced reply 0 (replyBytes (replyAs (said .reply))))
         go (inl e) = (rw e, rw e (parses-taken (answer-taken sound e)), rw e (taken-reply T m e a b))
         go (inr e) =
@@ -206,35 +204,35 @@ module _ (M : Model) (table message reply : List ℕ) where
   -- ---- bytes that stay
 
   -- the table after a message that is taken, where the buffer has room for any table by the rules
-  taken-fits : Sound formatOne M → 24 + 96 * M .rowLimit ≤ M .leastBuffer → (T : Table) (m : Message) → parse formatOne M table ≡ some T → messageAt formatOne message ≡ some m → callNumber M table message reply ≡ 0 → imageLength formatOne (tableAfter check T m) ≤ length table
+  taken-fits : Sound formatOne M → 24 + 96 * M .rowLimit ≤ M .leastBuffer → (T : Table) (m : Message) → parse formatOne M table ≡ some T → messageAt formatOne message ≡ some m → callNumber M table message reply ≡ 0 → imageLength formatOne (tableAfter proposalCheck T m) ≤ length table
   taken-fits sound room T m a b e = go (answer-taken sound e)
     where
-      go : AnswerTaken → imageLength formatOne (tableAfter check T m) ≤ length table
+      go : AnswerTaken → imageLength formatOne (tableAfter proposalCheck T m) ≤ length table
       go w =
           let p : some (w .before) ≡ some T = sym (w .read) ∙ a in
           let q : some (w .heard) ≡ some m = sym (w .told) ∙ b in
           let i : w .before ≡ T = cc in
           let j : w .heard ≡ m = cc in
-          let r : tableByRule M (tableAfter check T m) ≡ true = rw (i, j) at (w .byRule) in
-          let x = image-at-most formatOne M (tableAfter check T m) sound r in
-          let y = length-image formatOne (tableAfter check T m) (sound .starts) in
+          let r : tableByRule M (tableAfter proposalCheck T m) ≡ true = rw (i, j) at (w .byRule) in
+          let x = image-at-most formatOne M (tableAfter proposalCheck T m) sound r in
+          let y = length-image formatOne (tableAfter proposalCheck T m) (sound .starts) in
           let z = not-small (λ d. let z : _≡_ {A = ℕ} 0 1 = sym e ∙ d in absurd (omega arith)) .0 in
           omega arith
 
   module _ (sound : Sound formatOne M) (room : 24 + 96 * M .rowLimit ≤ M .leastBuffer) (T : Table) (m : Message) (a : parse formatOne M table ≡ some T) (b : messageAt formatOne message ≡ some m) (e : callNumber M table message reply ≡ 0) where
     -- "After a call, bytes past the longer of the old and new image are unchanged"
-    pub answer-past : (at : ℕ) → imageLength formatOne T ≤ at → imageLength formatOne (tableAfter check T m) ≤ at → drop at (callTable M table message reply) ≡ drop at table
+    pub answer-past : (at : ℕ) → imageLength formatOne T ≤ at → imageLength formatOne (tableAfter proposalCheck T m) ≤ at → drop at (callTable M table message reply) ≡ drop at table
     answer-past at x y =
         let (i, h) = parse-reads formatOne M table T a in
-        rw (taken-table m e b) (edited-past formatOne (λ U. tableAfter check U m) table (sound .starts) h (rw i (taken-fits sound room T m a b e)) at (rw i x) (rw i y))
+        rw (taken-table m e b) (edited-past formatOne (λ U. tableAfter proposalCheck U m) table (sound .starts) h (rw i (taken-fits sound room T m a b e)) at (rw i x) (rw i y))
 
     -- "if the image shrank, the bytes given up are zero"
     pub answer-given-up :
-        let gone = imageLength formatOne T - imageLength formatOne (tableAfter check T m) in
-        part (callTable M table message reply) (imageLength formatOne (tableAfter check T m)) gone ≡ replicate gone 0
+        let gone = imageLength formatOne T - imageLength formatOne (tableAfter proposalCheck T m) in
+        part (callTable M table message reply) (imageLength formatOne (tableAfter proposalCheck T m)) gone ≡ replicate gone 0
     answer-given-up =
         let (i, h) = parse-reads formatOne M table T a in
-        rw (taken-table m e b) (rw i at (edited-given-up formatOne (λ U. tableAfter check U m) table (sound .starts)))
+        rw (taken-table m e b) (rw i at (edited-given-up formatOne (λ U. tableAfter proposalCheck U m) table (sound .starts)))
 
   -- the table buffer is as long as before
   pub answer-length : Sound formatOne M → 24 + 96 * M .rowLimit ≤ M .leastBuffer → length (callTable M table message reply) ≡ length table
@@ -244,7 +242,7 @@ module _ (M : Model) (table message reply : List ℕ) where
       go (inl e) =
           let (T, m, a, b, d) = taken-read e in
           let (i, h) = parse-reads formatOne M table T a in
-          rw (taken-table m e b) (edited-length formatOne (λ U. tableAfter check U m) table (sound .starts) h (rw i (taken-fits sound room T m a b e)))
+          rw (taken-table m e b) (edited-length formatOne (λ U. tableAfter proposalCheck U m) table (sound .starts) h (rw i (taken-fits sound room T m a b e)))
       go (inr e) = ap length (answer-refused (eqb-false (callNumber M table message reply) 0 e))
 
   -- "Bytes of a reply buffer past 24 never change."

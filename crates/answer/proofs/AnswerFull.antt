@@ -13,8 +13,7 @@ use Rattle.rules.specs.Tables.{Result, Verdict, Row, Model, Table}
 use Rattle.rules.specs.Numbers.{Number.full, applies}
 use Rattle.rules.specs.Messages.{Message, Message.proposePrepare, Message.finalisePrepare, Message.proposeOutcome, Message.finaliseOutcome, Message.changeView, Message.startView, Message.readRegister, held}
 use Rattle.rules.specs.Circumstances.{tooSmall, replyTooSmall, belowLimit, messageByRule, isChanging, heldWithOtherBody, heldOppositeOutcome, newButFull, furtherCircumstances, circumstances}
-use Rattle.rules.specs.Answers.{answerNumber, answer}
-use Rattle.rules.specs.Check.{check}
+use Rattle.rules.specs.Answers.{answerNumber, answer, proposalCheck}
 use Rattle.rules.proofs.Logic.{impossible, none-some, both-right, both-true, not-true-of, either-none}
 use Rattle.rules.proofs.Tables.{table-facts}
 use Rattle.rules.proofs.NumberExactly.{number-exactly}
@@ -134,6 +133,6 @@ same-number M N T m s r (prepareFinal _ v q) h = refl
 same-number M N T m s r (outcomeFinal _ v o) h = refl
 
 -- it is served in a full table as in one with room: the answer to messages 1 to 4 about it, number, table and reply, is the same for every number of rows that a box may hold
-pub held-served-when-full : (M N : Model) (T : Table) (m : Message) (s : ℕ) (r : Row) → About m s → held (T .rows) s ≡ some r → answer M belowLimit check T m ≡ answer N belowLimit check T m
+pub held-served-when-full : (M N : Model) (T : Table) (m : Message) (s : ℕ) (r : Row) → About m s → held (T .rows) s ≡ some r → answer M belowLimit proposalCheck T m ≡ answer N belowLimit proposalCheck T m
 unfolding answer
 held-served-when-full M N T m s r p h = rw (same-number M N T m s r p h)

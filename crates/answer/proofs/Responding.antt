@@ -15,8 +15,7 @@ use Rattle.rules.proofs.Groups.{group-bounds}
 use Rattle.rules.specs.Tables.{Model, Table, valley, tableByRule}
 use Rattle.rules.specs.Messages.{Message, tableAfter}
 use Rattle.rules.specs.Circumstances.{tooSmall, replyTooSmall, messageByRule}
-use Rattle.rules.specs.Answers.{Answer, refusal, refused, taken, replyFrom}
-use Rattle.rules.specs.Check.{check}
+use Rattle.rules.specs.Answers.{Answer, refusal, refused, taken, replyFrom, proposalCheck}
 use Rattle.rules.proofs.Logic.{cases}
 use Rattle.rules.proofs.Tables.{table-by}
 use Rattle.table.specs.declared.image.Found.the-variants.{Image, Nothing}
@@ -100,7 +99,7 @@ module _ (M : Model) (table message reply : List ℕ) where
   left-refused k other large is = rw (is, other, large, to-refusal k other (parse formatOne M table) (messageAt formatOne message)) (refl, refl, refl)
 
   left-taken : (T : Table) (m : Message) → parse formatOne M table ≡ some T → messageAt formatOne message ≡ some m → callNumber M table message reply ≡ 0 →
-      Left (replyAs (replyFrom (tableAfter check T m) m)) (edited formatOne (changeBy (some m)) table)
+      Left (replyAs (replyFrom (tableAfter proposalCheck T m) m)) (edited formatOne (changeBy (some m)) table)
   unfolding callTable callReply replyFrom
   left-taken T m parses reads is = rw (is, parses, reads) (refl, refl, refl)
 
@@ -154,9 +153,9 @@ module _ (M : Model) (table message reply : List ℕ) where
           unfolding served taken
           serves (inr e) = refuses (servedNumber M T m) e not-one given (heard-is ∙ rw e)
           serves (inl e) =
-              let is : heard M message T ≡ taken (tableAfter check T m) m = heard-is ∙ rw e in
+              let is : heard M message T ≡ taken (tableAfter proposalCheck T m) m = heard-is ∙ rw e in
               let after : heardBuffer M message table (some T) ≡ edited formatOne (changeBy (some m)) table =
-              edited-as formatOne (λ U. heard M message U .table) (changeBy (some m)) table (ap (λ U. heard M message U .table) read-off ∙ ap (λ (a : Answer). a .table) is ∙ ap (λ U. tableAfter check U m) (sym read-off)) in
+              edited-as formatOne (λ U. heard M message U .table) (changeBy (some m)) table (ap (λ U. heard M message U .table) read-off ∙ ap (λ (a : Answer). a .table) is ∙ ap (λ U. tableAfter proposalCheck U m) (sym read-off)) in
               rw (after, is) (left-taken T m parses reads (given ∙ eqb-true _ _ e))
 
       by-test : (m : Message) → messageAt formatOne message ≡ some m → (messageByRule M (T .n) m ≡ true) ⊎ (messageByRule M (T .n) m ≡ false) → Left (heardReply M message (some T)) (heardBuffer M message table (some T))

@@ -12,7 +12,6 @@ use Rattle.rules.specs.Numbers.{Number.smallBuffer, Number.badTable, Number.bad
 use Rattle.rules.specs.Messages.{Message, Message.proposePrepare, Message.finalisePrepare, Message.proposeOutcome, Message.finaliseOutcome, Message.changeView, Message.startView, Message.readRegister, tableAfter}
 use Rattle.rules.specs.Circumstances.{tooSmall, replyTooSmall, belowLimit, circumstances}
 use Rattle.rules.specs.Answers as rules
-use Rattle.rules.specs.Check.{check}
 use Rattle.rows.specs.Halving.{steps}
 use Rattle.table.specs.Images.{formatOne}
 use Rattle.table.specs.Parse.{parse}
@@ -37,7 +36,7 @@ callNumber M table message reply = number (callCircumstances M table message rep
 -- the table after a message that is taken
 abbrev pub changeBy : Option Message → Table → Table
 changeBy none T = T
-changeBy (some m) T = tableAfter check T m
+changeBy (some m) T = tableAfter rules.proposalCheck T m
 
 -- "Refusals keep the table"
 unfoldable pub callTable : Model → List ℕ → List ℕ → List ℕ → List ℕ
@@ -47,7 +46,7 @@ callTable M table message reply = cond (eqb (callNumber M table message reply) 0
 abbrev pub replyTo : ℕ → Option Table → Option Message → rules.Reply
 replyTo k none m = rules.refusal k
 replyTo k (some T) none = rules.refusal k
-replyTo k (some T) (some m) = cond (eqb k 0) (rules.replyFrom (tableAfter check T m) m) (rules.refusal k)
+replyTo k (some T) (some m) = cond (eqb k 0) (rules.replyFrom (tableAfter rules.proposalCheck T m) m) (rules.refusal k)
 
 -- "except number 1, which writes nothing. Bytes of a reply buffer past 24 never change."
 unfoldable pub callReply : Model → List ℕ → List ℕ → List ℕ → List ℕ

@@ -1,4 +1,4 @@
--- Beside the marked cases: the codes of a row, what a RETRY advises, merges, message 1 to the byte, and messages to one box, one after the other.
+-- Beside the marked cases: the codes of a row, what a RETRY advises, the day's order, merges, message 1 to the byte, and messages to one box, one after the other.
 use mathlib.Core.Bool.{cond}
 use mathlib.Core.List.{List, [], _∷_, _++_, map}
 use Prim.Native.Nat.{ℕ}
@@ -6,10 +6,9 @@ use lib.ListN.{replicate}
 use Rattle.rules.specs.Tables.{Result.OK, Result.ABORT, Result.ABSTAIN, Result.RETRY, Prepare, Prepare.noPrepare, Prepare.tentative, Prepare.final, Verdict.commit, Verdict.abort, Outcome, Outcome.noOutcome, Outcome.noted, Outcome.done, Row, Table, Model, normalMode, freshTable}
 use Rattle.rules.specs.Messages.{Message, Message.proposePrepare, Message.finalisePrepare, Message.proposeOutcome, Message.finaliseOutcome, Message.changeView, Message.startView, Message.readRegister}
 use Rattle.rules.specs.Circumstances.{belowLimit}
-use Rattle.rules.specs.Answers.{answer}
-use Rattle.rules.specs.Check.{check}
+use Rattle.rules.specs.Answers.{answer, proposalCheck}
 use Rattle.rules.specs.Stamps.{Body}
-use Rattle.cases.specs.Kinds.{Case, Case.checked, Case.merged, Case.imaged, Case.replied}
+use Rattle.cases.specs.Kinds.{Case, Case.checked, Case.proposed, Case.checkedInMerge, Case.merged, Case.imaged, Case.replied}
 use Rattle.cases.specs.Marked.{reads, writes, row, committed, prepared, changing}
 
 -- the nine prepare bytes and the five outcome bytes, in the order of their codes
@@ -51,6 +50,17 @@ readsOther version = record { reads = record { register = 6; number = version } 
 abbrev pub writesBoth : Body
 writesBoth = record { reads = []; writes = record { register = 5; number = 7 } ∷ record { register = 6; number = 7 } ∷ [] }
 
+abbrev pub readsThenWrites : ℕ → Body
+readsThenWrites version = record { reads = reads version .reads; writes = writes .writes }
+
+-- three of five tables: two of the four boxes that said OK to stamp 10, and one that holds a later entry alone
+abbrev pub declaredThenLater : List Table
+declaredThenLater =
+    changing 5 1 2 0 (prepared 10 writes ∷ [])
+    ∷ changing 5 1 3 0 (prepared 10 writes ∷ [])
+    ∷ changing 5 1 4 0 (committed 20 writes ∷ [])
+    ∷ []
+
 -- the readers of M7's companion, and above them one of a newer version
 abbrev pub companionAndNewer : List Row
 companionAndNewer = committed 30 (reads 10) ∷ prepared 40 (reads 10) ∷ prepared 50 (reads 35) ∷ []
@@ -88,16 +98,38 @@ beside =
     checked (prepared 40 (reads 10) ∷ []) 20 writes ABSTAIN
     -- "the greatest among committed and prepared readers"
     ∷ checked (prepared 25 (reads 10) ∷ committed 30 (reads 10) ∷ []) 20 writes (RETRY 30)
-    -- who "meet the same inequality": one that read at 20 does not, and an aborted one is neither
-    ∷ checked (committed 30 (reads 10) ∷ prepared 40 (reads 20) ∷ []) 20 writes (RETRY 30)
+    -- who "meet the same inequality": one that read at 20 does not, and an aborted one is neither; for messages 1 nothing is asked of what was read
+    ∷ checkedInMerge (committed 30 (reads 10) ∷ prepared 40 (reads 20) ∷ []) 20 writes (RETRY 30)
+    ∷ proposed (committed 30 (reads 10) ∷ prepared 40 (reads 20) ∷ []) 20 writes (RETRY 40)
     ∷ checked (committed 30 (reads 10) ∷ row 40 (reads 10) (final OK) (done abort) ∷ []) 20 writes (RETRY 30)
     -- of any register that is written, not only of the one on which B fired
     ∷ checked (committed 30 (reads 10) ∷ prepared 40 (readsOther 10) ∷ []) 20 writesBoth (RETRY 40)
-    -- the limit of the advice: whoever read at 35 is met above it
-    ∷ checked companionAndNewer 20 writes (RETRY 40)
-    ∷ checked companionAndNewer 41 writes ABSTAIN
+    -- the limit of the advice in a merge: whoever read at 35 is met above it. In messages 1 there is none
+    ∷ checkedInMerge companionAndNewer 20 writes (RETRY 40)
+    ∷ checkedInMerge companionAndNewer 41 writes ABSTAIN
+    ∷ proposed companionAndNewer 20 writes (RETRY 50)
+    ∷ proposed companionAndNewer 51 writes OK
     -- the merge's check has the same stamp
     ∷ merged 1 openWrite 20 (final (RETRY 40))
+    -- P13. "any committed read or write of k has a stamp above s": a write alone; of another register; "the greatest committed or prepared one"
+    ∷ proposed (committed 10 writes ∷ []) 9 writes (RETRY 10)
+    ∷ proposed (committed 30 (readsOther 10) ∷ []) 20 writes OK
+    ∷ proposed (committed 30 writes ∷ prepared 40 writes ∷ []) 20 writes (RETRY 40)
+    -- "C follows with prepared ones.": B's by a read and by a write, A's by a write above s
+    ∷ proposed (prepared 30 (reads 10) ∷ []) 20 writes ABSTAIN
+    ∷ proposed (prepared 30 writes ∷ []) 20 writes ABSTAIN
+    ∷ proposed (prepared 30 writes ∷ []) 20 (reads 10) ABSTAIN
+    -- a read may stand under a later read
+    ∷ proposed (committed 30 (reads 10) ∷ []) 20 (reads 10) OK
+    -- an aborted row counts for nothing; one whose abort is only noted is prepared
+    ∷ proposed (row 30 writes (final OK) (done abort) ∷ []) 20 writes OK
+    ∷ proposed (row 30 writes (tentative OK) (noted abort) ∷ []) 20 writes ABSTAIN
+    -- one row may meet both rules, and A comes before B over all rows
+    ∷ proposed (committed 30 writes ∷ []) 20 (readsThenWrites 10) ABORT
+    ∷ proposed (committed 10 writes ∷ committed 30 (reads 10) ∷ []) 20 (readsThenWrites 0) ABORT
+    -- "a result already declared final must not be lost when a later stamp came after it": a fast OK at 10 in four of five boxes, and a later entry in the fifth
+    ∷ proposed (committed 20 writes ∷ []) 10 writes (RETRY 20)
+    ∷ merged 1 declaredThenLater 10 (final OK)
     ∷ merged 2 older 20 (final OK)
     ∷ merged 2 older 30 noPrepare
     -- equal retry stamps are agreed; unequal ones are not, so the row is checked, and nothing is there that clashes
@@ -112,7 +144,7 @@ beside =
 -- the numbers that a box of this model answers, message after message
 unfoldable pub numbers : Model → Table → List Message → List ℕ
 numbers M T [] = []
-numbers M T (m ∷ ms) = let a = answer M belowLimit check T m in a .number ∷ numbers M (a .table) ms
+numbers M T (m ∷ ms) = let a = answer M belowLimit proposalCheck T m in a .number ∷ numbers M (a .table) ms
 
 -- a box that is full with two rows
 abbrev pub twoRows : Model

@@ -1,4 +1,5 @@
 pub mod Steps
 pub mod Registers
+pub mod Marks
 pub mod StateBytes
 pub mod Rounds

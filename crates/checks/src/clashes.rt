@@ -1,25 +1,17 @@
-// Whether two transactions clash: one read a register at a version, and the other writes it between that version and the reader's stamp.
+// Whether a read is stale, and whether two transactions clash: one read a register at a version, and the other writes it between that version and the reader's stamp.
 use crate::accesses;
 use crate::accesses::Write;
 ghost use mathlib.Core.Path.{_≡_};
-ghost use Prim.Native.Nat.{_+_, _*_, _≤_, _<_};
+ghost use Prim.Native.Nat.{_+_, _*_, _≤_};
 ghost use lib.ListN.{length};
-ghost use Rattle.rules.specs.Check.{overwrites};
+ghost use Rattle.rules.specs.DayOrder.{stale};
 ghost use Rattle.rules.specs.Inner.Clashes.{clash};
 ghost use Rattle.rows.specs.Read.{accessesAt, bodyAt};
 
-// Whether one of the reads of a body is of a version below `w` and of a register that a transaction at `w` writes; the reader's stamp `s` is above.
-fn overwrites(
-    w: u64,
-    writer: &[u8],
-    from: usize,
-    writes: usize,
-    s: u64,
-    reader: &[u8],
-    reads: usize,
-) -> bool
-    requires { ⌜ (9 * (from + writes) ≤ length (now writer)) × (9 * reads ≤ length (now reader)) × (w < s) ⌝ }
-    ensures { λ r. ⌜ r ≡ overwrites w (accessesAt (now (writer .entry)) (9 * from) writes) s (accessesAt (now (reader .entry)) 0 reads) ⌝ }
+// Whether one of the reads of a body is of a version below `w` and of a register that a transaction at `w` writes. Nothing is asked of the reader's own stamp.
+pub fn stale(w: u64, writer: &[u8], from: usize, writes: usize, reader: &[u8], reads: usize) -> bool
+    requires { ⌜ (9 * (from + writes) ≤ length (now writer)) × (9 * reads ≤ length (now reader)) ⌝ }
+    ensures { λ r. ⌜ r ≡ stale w (accessesAt (now (writer .entry)) (9 * from) writes) (accessesAt (now (reader .entry)) 0 reads) ⌝ }
 {
     let mut i: usize = 0;
     while i < reads {
@@ -49,10 +41,10 @@ pub fn clashes(
     ensures { λ r. ⌜ r ≡ clash stamp (bodyAt (now (body .entry)) 0 reads writes) other (bodyAt (now (held .entry)) 0 read wrote) ⌝ }
 {
     if other < stamp {
-        return overwrites(other, held, read, wrote, stamp, body, reads);
+        return stale(other, held, read, wrote, body, reads);
     }
     if stamp < other {
-        return overwrites(stamp, body, reads, writes, other, held, read);
+        return stale(stamp, body, reads, writes, held, read);
     }
     false
 }

@@ -1,4 +1,4 @@
-// The check: one pass over the rows of a lent image, from the last to the first, with four running answers.
+// The check: one pass over the rows of a lent image, from the last to the first, with four running answers. It is the merge's; that of messages 1 keeps the same answers (`day`).
 use crate::clashes;
 use rows::row;
 use rows::row::RowFields;
@@ -6,11 +6,11 @@ ghost use mathlib.Core.Path.{_≡_};
 ghost use Prim.Native.Nat.{_+_, _*_, _≤_};
 ghost use lib.Dec.{eqb};
 ghost use lib.ListN.{length};
-ghost use Rattle.rules.specs.Check.{check};
+ghost use Rattle.rules.specs.Check.{ruleA, ruleB, check};
 ghost use Rattle.rows.specs.Read.{rowOf, rowsAt, bodyAt};
 ghost use Rattle.rows.specs.Inner.Rows.{BodyInside, RowsInside};
 ghost use Rattle.checks.specs.Inner.Given.{checkedAs};
-ghost use Rattle.checks.specs.Inner.Passed.{acceptedBytes, raised, withClash, rowClashes, seenWith, answerOf};
+ghost use Rattle.checks.specs.Inner.Passed.{acceptedBytes, raised, withNamed, rowClashes, seenWith, answerOf};
 
 // The check's result as a row has it: its code and its retry stamp.
 pub struct Checked {
@@ -27,7 +27,7 @@ pub struct Seen {
 }
 
 // Whether a row is committed or prepared. Of the others no rule speaks, and their bodies aren't looked at.
-fn accepted(prepare: u8, outcome: u8) -> bool
+pub fn accepted(prepare: u8, outcome: u8) -> bool
     ensures { λ r. ⌜ r ≡ acceptedBytes prepare outcome ⌝ }
 {
     if outcome == 3 {
@@ -66,11 +66,11 @@ fn row_clashes(
     false
 }
 
-// The advice, which is the retry stamp if B fires, with one more accepted row that clashes. A row above the stamp has read too early what is written, and raises it. None that clashes lies at the stamp itself.
-fn raised(advice: u64, other: u64, stamp: u64) -> u64
-    ensures { λ r. ⌜ r ≡ raised advice other stamp ⌝ }
+// The advice, which is the retry stamp if B fires, with one more accepted row: one that B names raises it.
+fn raised(advice: u64, other: u64, named: bool) -> u64
+    ensures { λ r. ⌜ r ≡ raised advice other named ⌝ }
 {
-    if other <= stamp {
+    if !named {
         return advice;
     }
     if advice < other {
@@ -79,24 +79,28 @@ fn raised(advice: u64, other: u64, stamp: u64) -> u64
     advice
 }
 
-// One more accepted row clashes. A committed one below the stamp wrote what was read too early: A. One above read too early what is written: B. A prepared one is C's on either side.
-fn with_clash(mut seen: Seen, other: u64, outcome: u8, stamp: u64) -> Seen
-    ensures { λ r. ⌜ r ≡ withClash (eqb outcome 3) other stamp seen ⌝ }
+// One more accepted row, with what A and B say of it: both may hold. A committed one marks each by itself, so that A can win over all rows and not row by row. A prepared one is C's, whichever holds.
+pub fn with_named(seen: Seen, other: u64, outcome: u8, a: bool, b: bool) -> Seen
+    ensures { λ r. ⌜ r ≡ withNamed (eqb outcome 3) other a b seen ⌝ }
 {
-    seen.advice = raised(seen.advice, other, stamp);
+    let advice = raised(seen.advice, other, b);
     if outcome != 3 {
-        seen.abstain = true;
-        return seen;
+        return Seen {
+            advice,
+            abort: seen.abort,
+            retry: seen.retry,
+            abstain: a | b | seen.abstain,
+        };
     }
-    if other < stamp {
-        seen.abort = true;
-        return seen;
+    Seen {
+        advice,
+        abort: a | seen.abort,
+        retry: b | seen.retry,
+        abstain: seen.abstain,
     }
-    seen.retry = true;
-    seen
 }
 
-// One more row.
+// One more row. One that clashes below the stamp wrote what was read too early: A. One above read too early what is written: B.
 fn with_row(
     seen: Seen,
     image: &[u8],
@@ -107,16 +111,22 @@ fn with_row(
     writes: usize,
 ) -> Seen
     requires { ⌜ BodyInside (now image) row × (9 * (reads + writes) ≤ length (now body)) ⌝ }
-    ensures { λ r. ⌜ r ≡ seenWith stamp (bodyAt (now (body .entry)) 0 reads writes) (rowOf (now (image .entry)) row) seen ⌝ }
+    ensures { λ r. ⌜ r ≡ seenWith ruleA ruleB stamp (bodyAt (now (body .entry)) 0 reads writes) (rowOf (now (image .entry)) row) seen ⌝ }
 {
     if row_clashes(image, row, stamp, body, reads, writes) {
-        return with_clash(seen, row.stamp, row.outcome, stamp);
+        return with_named(
+            seen,
+            row.stamp,
+            row.outcome,
+            row.stamp < stamp,
+            stamp < row.stamp,
+        );
     }
     seen
 }
 
 // What all rows together say: A comes first, then B, then C.
-fn answer(seen: Seen) -> Checked
+pub fn answer(seen: Seen) -> Checked
     ensures { λ r. ⌜ r ≡ checkedAs (answerOf seen) ⌝ }
 {
     if seen.abort {

@@ -8,9 +8,7 @@ use lib.Dec.{eqb}
 use lib.ListN.{length}
 use borrow.Author.Tests.{ne-eqb, lt-ltb}
 use Rattle.rules.specs.Tables.{Table, Model, tableByRule}
-use Rattle.rules.specs.Circumstances.{belowLimit}
-use Rattle.rules.specs.Answers.{Answer, answer}
-use Rattle.rules.specs.Check.{check}
+use Rattle.rules.specs.Answers.{Answer}
 use Rattle.rules.proofs.Logic.{eqb-self, same?}
 use Rattle.table.specs.Images.{formatOne}
 use Rattle.table.specs.Parse.{tableAt, BeginsWithImage}
@@ -19,6 +17,7 @@ use Rattle.answer.specs.Calls.{callNumber, callTable, callReply}
 use Rattle.history.specs.Survival as history
 use Rattle.history.specs.Survival.{put}
 use Rattle.history.proofs.Follow.Follows.{and-last}
+use Rattle.history_cases.specs.Today.{answer}
 use Rattle.group.specs.Inner.StandIns.{said}
 use Rattle.group.specs.Said.{replyIn}
 use Rattle.group.specs.Acts.{Sent, GroupInBuffers, answering}
@@ -37,7 +36,7 @@ module _ (M : Model) (sound : Sound formatOne M) (room : 24 + 96 * M .rowLimit �
   before = tableAt formatOne buffer
 
   abbrev pub answerOf : Answer
-  answerOf = answer M belowLimit check before (said M (B .n) (x .message))
+  answerOf = answer M before (said M (B .n) (x .message))
 
   abbrev pub tableNow : List ℕ
   tableNow = callTable M buffer (x .message) reply

@@ -7,11 +7,9 @@ use native.Mathlib.Omega.{arith}
 use Rattle.rules.specs.Tests.{either, every}
 use Rattle.rules.specs.Groups.{isGroup}
 use Rattle.rules.specs.Tables.{valley}
-use Rattle.rules.specs.Circumstances.{belowLimit}
-use Rattle.rules.specs.Check.{check}
+use Rattle.history_cases.specs.Today.{after, Lawful}
 use Rattle.table.specs.Fresh.{freshNumber}
 use Rattle.table.proofs.Images.{valley-sound}
-use Rattle.history.specs.Survival.{after, Lawful}
 use Rattle.history_cases.specs.FiveBoxes.{fiveBoxes, afterFiveBoxes}
 use Rattle.history_cases.proofs.Computing.{computing}
 use Rattle.history_cases.proofs.FiveBoxes.{five-boxes-lawful}
@@ -30,6 +28,6 @@ unfolding isGroup either freshBoxes
 five-boxes-played buffers fresh =
     let is = fresh-read valley valley-sound (omega arith) 5 refl buffers fresh in
     let good = fresh-good valley valley-sound (omega arith) 5 refl buffers fresh in
-    let law : Lawful valley belowLimit check (reading valley (freshBoxes valley 5 buffers)) fiveBoxes = subst (λ G. Lawful valley belowLimit check G fiveBoxes) (sym is) five-boxes-lawful in
+    let law : Lawful valley (reading valley (freshBoxes valley 5 buffers)) fiveBoxes = subst (λ G. Lawful valley G fiveBoxes) (sym is) five-boxes-lawful in
     let (acts, may, same) = history-played valley valley-sound (omega arith) (freshBoxes valley 5 buffers) good fiveBoxes messages-by-rule law in
-    (acts, may, same ∙ ap (λ G. after valley belowLimit check G fiveBoxes) is)
+    (acts, may, same ∙ ap (λ G. after valley G fiveBoxes) is)

@@ -11,8 +11,6 @@ use lib.ListN.{length}
 use borrow.Author.Tests.{ltb-true, ltb-false}
 use Rattle.rules.specs.Tests.{both}
 use Rattle.rules.specs.Tables.{Model}
-use Rattle.rules.specs.Circumstances.{belowLimit}
-use Rattle.rules.specs.Check.{check}
 use Rattle.rules.proofs.Logic.{cases, same?, both-false}
 use Rattle.table.specs.Images.{formatOne}
 use Rattle.table.proofs.Images.{Sound}
@@ -20,8 +18,9 @@ use Rattle.answer.specs.Calls.{callNumber}
 use Rattle.answer.proofs.AnswerWays.{AnswerWay.small, way-exactly}
 use Rattle.merge.specs.Calls as merge
 use Rattle.merge.proofs.MergeCall as merges
-use Rattle.history.specs.Survival as history
-use Rattle.history.specs.Survival.{Group, Event, at, step, after, Lawful}
+use Rattle.history.specs.Survival.{Group, Event, at}
+use Rattle.history_cases.specs.Today as today
+use Rattle.history_cases.specs.Today.{step, after, Lawful}
 use Rattle.group.specs.Inner.StandIns.{said}
 use Rattle.group.specs.Acts.{Sent, GroupInBuffers, Act, Act.sends, Act.arrives, Act.declares, Act.merges, arriving, act, afterActs}
 use Rattle.group.specs.Rules.{MayAct, ByTheRules}
@@ -37,7 +36,7 @@ use Rattle.group.proofs.Merging.{merges-good, places, merges-read}
 module _ (M : Model) (sound : Sound formatOne M) (room : 24 + 96 * M .rowLimit ≤ M .leastBuffer) where
   -- the same group, one step on
   abbrev pub stepped : Group → Event → Group
-  stepped G e = step M belowLimit check G e
+  stepped G e = step M G e
 
   -- bytes that are sent
   pub sends-read : (B : GroupInBuffers) (b : ℕ) (bytes : List ℕ) → reading M (act M B (sends b bytes)) ≡ stepped (reading M B) (Event.sends b (said M (B .n) bytes))
@@ -57,13 +56,13 @@ module _ (M : Model) (sound : Sound formatOne M) (room : 24 + 96 * M .rowLimit �
     unfolding both
     arrives-read k reply long = rw (map-at (sentAs M (B .n)) (B .sent) k) (go (at (B .sent) k))
       where
-        by : (x : Sent) → (ltb (x .box) (B .n) ≡ true) ⊎ (ltb (x .box) (B .n) ≡ false) → (reading M (arriving M B reply (some x)) ≡ history.arriving M belowLimit check (reading M B) (some (sentAs M (B .n) x))) × Good M (arriving M B reply (some x))
+        by : (x : Sent) → (ltb (x .box) (B .n) ≡ true) ⊎ (ltb (x .box) (B .n) ≡ false) → (reading M (arriving M B reply (some x)) ≡ today.arriving M (reading M B) (some (sentAs M (B .n) x))) × Good M (arriving M B reply (some x))
         by x (inl t) =
             let l = ltb-true _ _ t in
             rw (t, not-small M sound room B good x l reply long) (answering-read M sound room B good x l reply long, answering-good M sound room B good x l reply long)
         by x (inr t) = rw t (refl, good)
 
-        go : (o : Option Sent) → (reading M (arriving M B reply o) ≡ history.arriving M belowLimit check (reading M B) (mapped (sentAs M (B .n)) o)) × Good M (arriving M B reply o)
+        go : (o : Option Sent) → (reading M (arriving M B reply o) ≡ today.arriving M (reading M B) (mapped (sentAs M (B .n)) o)) × Good M (arriving M B reply o)
         go none = (refl, good)
         go (some x) = by x (cases (ltb (x .box) (B .n)))
 
@@ -101,8 +100,8 @@ module _ (M : Model) (sound : Sound formatOne M) (room : 24 + 96 * M .rowLimit �
 
   pub record Followed (B C : GroupInBuffers) : Type 0 where
     pub events : List Event
-    pub lawful : Lawful M belowLimit check (reading M B) events
-    pub same : reading M C ≡ after M belowLimit check (reading M B) events
+    pub lawful : Lawful M (reading M B) events
+    pub same : reading M C ≡ after M (reading M B) events
 
   nothing-done : (B C : GroupInBuffers) → C ≡ B → Followed B C
   nothing-done B C e = record { events = []; lawful = tt; same = ap (reading M) e }
@@ -126,20 +125,20 @@ module _ (M : Model) (sound : Sound formatOne M) (room : 24 + 96 * M .rowLimit �
 
   -- ---- one after the other
 
-  after-both : (G : Group) (es fs : List Event) → after M belowLimit check G (es ++ fs) ≡ after M belowLimit check (after M belowLimit check G es) fs
+  after-both : (G : Group) (es fs : List Event) → after M G (es ++ fs) ≡ after M (after M G es) fs
   after-both G [] fs = refl
-  after-both G (e ∷ es) fs = after-both (step M belowLimit check G e) es fs
+  after-both G (e ∷ es) fs = after-both (step M G e) es fs
 
-  lawful-both : (G : Group) (es fs : List Event) → Lawful M belowLimit check G es → Lawful M belowLimit check (after M belowLimit check G es) fs → Lawful M belowLimit check G (es ++ fs)
+  lawful-both : (G : Group) (es fs : List Event) → Lawful M G es → Lawful M (after M G es) fs → Lawful M G (es ++ fs)
   lawful-both G [] fs law more = more
-  lawful-both G (e ∷ es) fs (may, law) more = (may, lawful-both (step M belowLimit check G e) es fs law more)
+  lawful-both G (e ∷ es) fs (may, law) more = (may, lawful-both (step M G e) es fs law more)
 
   then-followed : (B C D : GroupInBuffers) → Followed B C → Followed C D → Followed B D
   then-followed B C D one more =
       record {
         events = one .events ++ more .events;
-        lawful = lawful-both (reading M B) (one .events) (more .events) (one .lawful) (subst (λ G. Lawful M belowLimit check G (more .events)) (one .same) (more .lawful));
-        same = more .same ∙ ap (λ G. after M belowLimit check G (more .events)) (one .same) ∙ sym (after-both (reading M B) (one .events) (more .events));
+        lawful = lawful-both (reading M B) (one .events) (more .events) (one .lawful) (subst (λ G. Lawful M G (more .events)) (one .same) (more .lawful));
+        same = more .same ∙ ap (λ G. after M G (more .events)) (one .same) ∙ sym (after-both (reading M B) (one .events) (more .events));
       }
 
   pub acts-followed : (B : GroupInBuffers) → Good M B → (acts : List Act) → ByTheRules M B acts → Followed B (afterActs M B acts)

@@ -9,7 +9,6 @@ use lib.Dec.{eqb}
 use lib.ListN.{length}
 use Rattle.rules.specs.Tests.{allOf}
 use Rattle.rules.specs.Tables.{Table, Model, tableByRule}
-use Rattle.rules.specs.Circumstances.{belowLimit}
 use Rattle.rules.specs.Check.{check}
 use Rattle.rules.specs.Merge as rules
 use Rattle.rules.proofs.Logic.{same?}
@@ -20,9 +19,10 @@ use Rattle.image_run.specs.Runs.{images}
 use Rattle.image_run.proofs.RunTurns.{images-laid}
 use Rattle.merge.specs.Calls as merge
 use Rattle.merge.proofs.MergeCall.{merge-done}
-use Rattle.history.specs.Survival as history
-use Rattle.history.specs.Survival.{_∈_, Event, at, step}
+use Rattle.history.specs.Survival.{_∈_, Event, at}
 use Rattle.history.proofs.Follow.Follows.{and-last}
+use Rattle.history_cases.specs.Today as today
+use Rattle.history_cases.specs.Today.{step}
 use Rattle.group.specs.Acts.{Merged, GroupInBuffers, Act.merges, merging, mergingBy, act}
 use Rattle.group.specs.Rules.{OfBoxes}
 use Rattle.group.specs.Inner.HeldGroups.{Leaves}
@@ -60,17 +60,17 @@ module _ (M : Model) (sound : Sound formatOne M) (room : 24 + 96 * M .rowLimit �
     run-is = ap (images M) (of .1 ∙ images-in M (of .0) sound (λ s i. good .had s (of .2 s i))) ∙ images-laid M sound tables by-rules
 
     -- what is made of a merge of `rules`, or of none
-    merged-as : (ks : List ℕ) → allOf (at (reading M B .had)) ks ≡ tables → (o : Option Table) → rules.merge M check v tables ≡ o → step M belowLimit check (reading M B) (Event.merges v ks) ≡ history.mergingAs M belowLimit check (reading M B) v o
-    merged-as ks is o e = ap (λ Ts. history.mergingAs M belowLimit check (reading M B) v (rules.merge M check v Ts)) is ∙ ap (history.mergingAs M belowLimit check (reading M B) v) e
+    merged-as : (ks : List ℕ) → allOf (at (reading M B .had)) ks ≡ tables → (o : Option Table) → rules.merge M check v tables ≡ o → step M (reading M B) (Event.merges v ks) ≡ today.mergingAs M (reading M B) v o
+    merged-as ks is o e = ap (λ Ts. today.mergingAs M (reading M B) v (rules.merge M check v Ts)) is ∙ ap (today.mergingAs M (reading M B) v) e
 
     abbrev mergedNow : Merged
     mergedNow = record { view = v; output = merge.callOutput M run v out; sentByThen = B .sent }
 
     -- at whatever places the tables stand among those that boxes have had
-    pub merges-read : (ks : List ℕ) → allOf (at (reading M B .had)) ks ≡ tables → reading M (act M B (merges v run out)) ≡ step M belowLimit check (reading M B) (Event.merges v ks)
+    pub merges-read : (ks : List ℕ) → allOf (at (reading M B .had)) ks ≡ tables → reading M (act M B (merges v run out)) ≡ step M (reading M B) (Event.merges v ks)
     merges-read ks is = go (rules.merge M check v tables) refl (merge-laid M run v out sound room tables run-is large)
       where
-        done : (U : Table) → parse formatOne M (mergedNow .output) ≡ some U → reading M (merging B mergedNow) ≡ history.mergingAs M belowLimit check (reading M B) v (some U)
+        done : (U : Table) → parse formatOne M (mergedNow .output) ≡ some U → reading M (merging B mergedNow) ≡ today.mergingAs M (reading M B) v (some U)
         done U p = λ i. record {
           n = B .n;
           table = reading M B .table;
@@ -81,7 +81,7 @@ module _ (M : Model) (sound : Sound formatOne M) (room : 24 + 96 * M .rowLimit �
           merged = (map-last (mergedAs M (B .n)) (B .merged) mergedNow ∙ ap (λ T. map (mergedAs M (B .n)) (B .merged) ++ (record { view = v; table = T; sentByThen = reading M B .sent } ∷ [])) (parse-reads formatOne M (mergedNow .output) U p .0)) i;
         }
 
-        go : (o : Option Table) → rules.merge M check v tables ≡ o → Leaves M out (merge.callNumber M run v out) (merge.callOutput M run v out) o → reading M (mergingBy M B v run out) ≡ step M belowLimit check (reading M B) (Event.merges v ks)
+        go : (o : Option Table) → rules.merge M check v tables ≡ o → Leaves M out (merge.callNumber M run v out) (merge.callOutput M run v out) o → reading M (mergingBy M B v run out) ≡ step M (reading M B) (Event.merges v ks)
         go none e (n, stays) = ap (λ b. reading M (cond b (merging B mergedNow) B)) n ∙ sym (merged-as ks is none e)
         go (some U) e (n, wrote, p) = ap (λ k. reading M (cond (eqb k 0) (merging B mergedNow) B)) n ∙ done U p ∙ sym (merged-as ks is (some U) e)
 

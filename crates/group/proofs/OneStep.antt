@@ -11,8 +11,7 @@ use borrow.Author.Tests.{lt-ltb}
 use Rattle.wire.specs.Parts.{replaced}
 use Rattle.rules.specs.Tests.{allOf}
 use Rattle.rules.specs.Tables.{Table, Model, tableByRule}
-use Rattle.rules.specs.Circumstances.{belowLimit}
-use Rattle.rules.specs.Answers.{Answer, answer}
+use Rattle.rules.specs.Answers.{Answer}
 use Rattle.rules.specs.Check.{check}
 use Rattle.rules.specs.Merge as rules
 use Rattle.rules.proofs.Logic.{eqb-self, same?}
@@ -26,7 +25,9 @@ use Rattle.transact.specs.Replies.{replyAs, replyBytes}
 use Rattle.answer.specs.Calls.{callNumber, callTable, callReply}
 use Rattle.merge.specs.Calls as merge
 use Rattle.history.specs.Survival as history
-use Rattle.history.specs.Survival.{_∈_, Group, Sent, Event.arrives, Event.merges, at, put, step}
+use Rattle.history.specs.Survival.{_∈_, Group, Sent, Event.arrives, Event.merges, at, put}
+use Rattle.history_cases.specs.Today as today
+use Rattle.history_cases.specs.Today.{answer, step}
 use Rattle.group.specs.Inner.StandIns.{said}
 use Rattle.group.specs.Inner.HeldGroups.{Holds, afterMessage, answerTo, Leaves}
 use Rattle.group.proofs.Listed.{at-last, places-of, each-mapped}
@@ -39,7 +40,7 @@ module _ (M : Model) (sound : Sound formatOne M) (room : 24 + 96 * M .rowLimit �
   module _ (x : Sent) (inside : x .box < G .n) (message reply : List ℕ) (says : said M (G .n) message ≡ x .message) (long : 24 ≤ length reply) where
     -- the answer that the step adds
     abbrev pub theAnswer : Answer
-    theAnswer = answer M belowLimit check (G .table (x .box)) (x .message)
+    theAnswer = answer M (G .table (x .box)) (x .message)
 
     abbrev pub tableThen : List ℕ
     tableThen = callTable M (buffers (x .box)) message reply
@@ -68,14 +69,14 @@ module _ (M : Model) (sound : Sound formatOne M) (room : 24 + 96 * M .rowLimit �
         }
 
     -- the message at a place among those sent arrives
-    pub arrives-steps : (k : ℕ) → at (G .sent) k ≡ some x → step M belowLimit check G (arrives k) ≡ history.answering G x theAnswer
+    pub arrives-steps : (k : ℕ) → at (G .sent) k ≡ some x → step M G (arrives k) ≡ history.answering G x theAnswer
     arrives-steps k e = rw (e, lt-ltb (x .box) (G .n) inside)
 
   -- ---- a merge
 
   -- of tables that boxes have now: the places where the group has had them
-  pub merges-steps : (v : ℕ) (boxes : List ℕ) → ((b : ℕ) → b ∈ boxes → b < G .n) → (ks : List ℕ) × (step M belowLimit check G (merges v ks) ≡ history.mergingAs M belowLimit check G v (rules.merge M check v (map (G .table) boxes)))
-  merges-steps v boxes inside = (found .0, ap (λ Ts. history.mergingAs M belowLimit check G v (rules.merge M check v Ts)) (found .1))
+  pub merges-steps : (v : ℕ) (boxes : List ℕ) → ((b : ℕ) → b ∈ boxes → b < G .n) → (ks : List ℕ) × (step M G (merges v ks) ≡ today.mergingAs M G v (rules.merge M check v (map (G .table) boxes)))
+  merges-steps v boxes inside = (found .0, ap (λ Ts. today.mergingAs M G v (rules.merge M check v Ts)) (found .1))
     where
       found : (ks : List ℕ) × (allOf (at (G .had)) ks ≡ map (G .table) boxes)
       found = places-of (G .had) (map (G .table) boxes) (each-mapped (λ T. T ∈ G .had) (G .table) boxes (λ b i. holds .had b (inside b i)))

@@ -10,8 +10,7 @@ use lib.ListN.{replicate, length-replicate}
 use Rattle.rules.specs.Tests.{every, andAlso, allOf}
 use Rattle.rules.specs.Tables.{Table, Model}
 use Rattle.rules.specs.Messages.{Message}
-use Rattle.rules.specs.Circumstances.{belowLimit, messageByRule}
-use Rattle.rules.specs.Answers.{answer}
+use Rattle.rules.specs.Circumstances.{messageByRule}
 use Rattle.rules.specs.Check.{check}
 use Rattle.rules.specs.Merge.{merge}
 use Rattle.rules.proofs.Logic.{both-left, both-right}
@@ -21,8 +20,10 @@ use Rattle.table.proofs.Images.{Sound}
 use Rattle.message.specs.Inner.MessageBytes.{messageBytes}
 use Rattle.message.proofs.Forms.{message-read}
 use Rattle.history.specs.Survival as history
-use Rattle.history.specs.Survival.{Group, Event, at, step, after, May, Lawful}
+use Rattle.history.specs.Survival.{Group, Event, at, May}
 use Rattle.history.proofs.Follow.Arrivals.{chosen-in}
+use Rattle.history_cases.specs.Today as today
+use Rattle.history_cases.specs.Today.{answer, step, after, Lawful}
 use Rattle.group.specs.Said.{messageIn, laidImages}
 use Rattle.group.specs.Inner.StandIns.{orNoMessage}
 use Rattle.group.specs.Acts.{GroupInBuffers, Act, Act.sends, Act.arrives, Act.declares, Act.merges, act, afterActs}
@@ -47,21 +48,21 @@ module _ (M : Model) (sound : Sound formatOne M) (room : 24 + 96 * M .rowLimit �
   written-is n m r = message-is M n (messageBytes formatOne m) m (message-read formatOne M n m sound r) r
 
   -- a step leaves the group's size
-  step-n : (G : Group) (e : Event) → step M belowLimit check G e .n ≡ G .n
+  step-n : (G : Group) (e : Event) → step M G e .n ≡ G .n
   step-n G (Event.sends b m) = refl
   step-n G (Event.arrives k) = go (at (G .sent) k)
     where
-      go : (o : Option history.Sent) → history.arriving M belowLimit check G o .n ≡ G .n
+      go : (o : Option history.Sent) → today.arriving M G o .n ≡ G .n
       go none = refl
       go (some x) = by (ltb (x .box) (G .n))
         where
-          by : (b : Bool) → cond b (history.answering G x (answer M belowLimit check (G .table (x .box)) (x .message))) G .n ≡ G .n
+          by : (b : Bool) → cond b (history.answering G x (answer M (G .table (x .box)) (x .message))) G .n ≡ G .n
           by true = refl
           by false = refl
   step-n G (Event.declares s v r) = refl
   step-n G (Event.merges v ks) = go (merge M check v (allOf (at (G .had)) ks))
     where
-      go : (o : Option Table) → history.mergingAs M belowLimit check G v o .n ≡ G .n
+      go : (o : Option Table) → today.mergingAs M G v o .n ≡ G .n
       go none = refl
       go (some T) = refl
 
@@ -79,7 +80,7 @@ module _ (M : Model) (sound : Sound formatOne M) (room : 24 + 96 * M .rowLimit �
   pub record PlayedAs (B : GroupInBuffers) (e : Event) : Type 0 where
     pub played : Act
     pub may : MayAct M B played
-    pub same : reading M (act M B played) ≡ step M belowLimit check (reading M B) e
+    pub same : reading M (act M B played) ≡ step M (reading M B) e
     pub good : Good M (act M B played)
 
   play : (B : GroupInBuffers) → Good M B → (e : Event) → eventByRule M (B .n) e ≡ true → May (reading M B) e → PlayedAs B e
@@ -88,7 +89,7 @@ module _ (M : Model) (sound : Sound formatOne M) (room : 24 + 96 * M .rowLimit �
       record {
         played = sends b (messageBytes formatOne m);
         may = subst (MaySend M B b) (sym is) (may-send-back M B good b m may);
-        same = sends-read M sound room B b (messageBytes formatOne m) ∙ ap (λ o. step M belowLimit check (reading M B) (Event.sends b (orNoMessage o))) is;
+        same = sends-read M sound room B b (messageBytes formatOne m) ∙ ap (λ o. step M (reading M B) (Event.sends b (orNoMessage o))) is;
         good = sending-good M B _ good;
       }
   play B good (Event.arrives k) r may =
@@ -113,12 +114,12 @@ module _ (M : Model) (sound : Sound formatOne M) (room : 24 + 96 * M .rowLimit �
         good = merges-good M sound room B good v (laidImages ss) (replicate (M .leastBuffer) 0);
       }
 
-  pub history-played : (B : GroupInBuffers) → Good M B → (es : List Event) → every (eventByRule M (B .n)) es ≡ true → Lawful M belowLimit check (reading M B) es → (acts : List Act) × ByTheRules M B acts × (reading M (afterActs M B acts) ≡ after M belowLimit check (reading M B) es)
+  pub history-played : (B : GroupInBuffers) → Good M B → (es : List Event) → every (eventByRule M (B .n)) es ≡ true → Lawful M (reading M B) es → (acts : List Act) × ByTheRules M B acts × (reading M (afterActs M B acts) ≡ after M (reading M B) es)
   unfolding every
   history-played B good [] r law = ([], tt, refl)
   history-played B good (e ∷ es) r (may, law) =
       let p = play B good e (both-left _ _ r) may in
       let C : GroupInBuffers = act M B (p .played) in
       let n : C .n ≡ B .n = ap (λ G. G .n) (p .same) ∙ step-n (reading M B) e in
-      let (acts, rest, is) = history-played C (p .good) es (rw n (both-right _ _ r)) (subst (λ G. Lawful M belowLimit check G es) (sym (p .same)) law) in
-      (p .played ∷ acts, (p .may, rest), is ∙ ap (λ G. after M belowLimit check G es) (p .same))
+      let (acts, rest, is) = history-played C (p .good) es (rw n (both-right _ _ r)) (subst (λ G. Lawful M G es) (sym (p .same)) law) in
+      (p .played ∷ acts, (p .may, rest), is ∙ ap (λ G. after M G es) (p .same))

@@ -14,7 +14,7 @@ use Rattle.wire.proofs.Parts.{length-part}
 use Rattle.rules.specs.Tests.{both}
 use Rattle.rules.specs.Groups.{isGroup}
 use Rattle.rules.specs.Tables.{Table, Model, freshTable}
-use Rattle.rules.specs.Circumstances.{tooSmall, badGroup, belowLimit}
+use Rattle.rules.specs.Circumstances.{tooSmall, badGroup}
 use Rattle.rules.specs.Check.{check}
 use Rattle.rules.specs.Merge as rules
 use Rattle.rules.proofs.Logic.{cases, eqb-self, same?}
@@ -29,8 +29,9 @@ use Rattle.image_run.specs.Inner.WholeRuns.{laidOut}
 use Rattle.merge.specs.Calls as merge
 use Rattle.boxes.specs.Inner.OneBuffer.{freshFirst, bufferOf, withBuffer, tablesNamed, runNamed, noRunRoom, mergeBoxesNumber, mergeBoxesOutput, startNumber, startTables}
 use Rattle.boxes.proofs.LentTables.{ends-before, fresh-each, start-small, start-bad, start-done, buffer-same, buffer-other, length-with}
-use Rattle.history.specs.Survival as history
-use Rattle.history.specs.Survival.{_∈_, boxesBelow, Group, freshGroup, Event.merges, put, step}
+use Rattle.history.specs.Survival.{_∈_, boxesBelow, Group, freshGroup, Event.merges, put}
+use Rattle.history_cases.specs.Today as today
+use Rattle.history_cases.specs.Today.{step}
 use Rattle.group.specs.Inner.StandIns.{said}
 use Rattle.group.specs.Inner.HeldGroups.{Holds, HoldsLent, afterMessage, answerTo, Leaves}
 use Rattle.group.proofs.OneStep.{then-is, sent-and-answered, merges-steps, merge-is-merge}
@@ -99,7 +100,7 @@ module _ (M : Model) (sound : Sound formatOne M) (room : 24 + 96 * M .rowLimit �
     run-is = rw (named boxes inside) refl
 
     -- the group after the merge: the lent buffer holds it still
-    merged-held : (o : Option Table) → HoldsLent M (history.mergingAs M belowLimit check G v o) tables
+    merged-held : (o : Option Table) → HoldsLent M (today.mergingAs M G v o) tables
     merged-held none = held
     merged-held (some T) = record { fits = held .fits; holds = record { large = held .holds .large; begins = held .holds .begins; group = held .holds .group; had = held .holds .had } }
 
@@ -112,7 +113,7 @@ module _ (M : Model) (sound : Sound formatOne M) (room : 24 + 96 * M .rowLimit �
       -- one step of the history, a merge of the tables that the boxes have now, is what `boxes::together::merge_boxes` does
       pub together-follows :
           let o = rules.merge M check v (map (G .table) boxes) in
-          (ks : List ℕ) × (step M belowLimit check G (merges v ks) ≡ history.mergingAs M belowLimit check G v o) × Leaves M out (mergeBoxesNumber M tables boxes v run out) (mergeBoxesOutput M tables boxes v run out) o × HoldsLent M (step M belowLimit check G (merges v ks)) tables
+          (ks : List ℕ) × (step M G (merges v ks) ≡ today.mergingAs M G v o) × Leaves M out (mergeBoxesNumber M tables boxes v run out) (mergeBoxesOutput M tables boxes v run out) o × HoldsLent M (step M G (merges v ks)) tables
       together-follows =
           let (ks, is) = merges-steps M sound room G (bufferOf M tables) (held .holds) v boxes inside in
           let made = merge-is-merge M sound room G (bufferOf M tables) (held .holds) v boxes out inside large in

@@ -10,15 +10,15 @@ use Rattle.rules.specs.Tables.{Verdict, Row, Model, valley}
 use Rattle.rules.specs.Messages.{Message.proposePrepare, Message.proposeOutcome}
 use Rattle.rules.specs.Merge.{holdsVerdict}
 use Rattle.rules.specs.Circumstances.{belowLimit}
-use Rattle.rules.specs.Check.{check}
 use Rattle.table.specs.Headers.{headerAt}
 use Rattle.table.specs.Images.{formatOne}
 use Rattle.table.specs.Parse.{tableAt, BeginsWithImage}
 use Rattle.table.specs.Fresh.{freshNumber}
 use Rattle.table.proofs.Images.{Sound, valley-sound}
 use Rattle.history.specs.Survival as history
-use Rattle.history.specs.Survival.{_∈_, Lawful, after, freshGroup}
+use Rattle.history.specs.Survival.{_∈_, freshGroup}
 use Rattle.history.proofs.Survival.{survival}
+use Rattle.history_cases.specs.Today.{after, Lawful}
 use Rattle.group.specs.Inner.StandIns.{said}
 use Rattle.group.specs.Acts.{Sent, Merged, GroupInBuffers, freshBoxes, Act, afterActs}
 use Rattle.group.specs.Rules.{Says, ByTheRules}
@@ -78,8 +78,8 @@ module _ (M : Model) (sound : Sound formatOne M) (room : 24 + 96 * M .rowLimit �
       let good = fresh-good M sound room n group buffers fresh in
       let f = acts-followed M sound room (freshBoxes M n buffers) good acts law in
       let is = fresh-read M sound room n group buffers fresh in
-      let lawful : Lawful M belowLimit check (freshGroup n) (f .events) = subst (λ G. Lawful M belowLimit check G (f .events)) is (f .lawful) in
-      let same = f .same ∙ ap (λ G. after M belowLimit check G (f .events)) is in
+      let lawful : Lawful M (freshGroup n) (f .events) = subst (λ G. Lawful M G (f .events)) is (f .lawful) in
+      let same = f .same ∙ ap (λ G. after M G (f .events)) is in
       survives M (afterActs M (freshBoxes M n buffers) acts) (acts-good M sound room (freshBoxes M n buffers) good acts) (subst history.Survival (sym same) (survival n group M belowLimit (f .events) lawful))
 
 -- valley boxes: in a group of 3, 5 or 7, each has called `sprondilu_fresh` on its table buffer, which answered 0; then, whatever bytes are sent, arrive, are lost, repeated or reordered, and whatever is declared and merged, if it is by the rules

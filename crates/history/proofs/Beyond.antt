@@ -11,23 +11,24 @@ use Rattle.rules.specs.Groups.{isGroup}
 use Rattle.rules.specs.Stamps.{sameBody}
 use Rattle.rules.specs.Tables.{sameResult, Prepare, Prepare.noPrepare, Prepare.tentative, Prepare.final, Verdict, Outcome, Outcome.noOutcome, Outcome.noted, Outcome.done, verdictCode, Row, Table, Model}
 use Rattle.rules.specs.Numbers.{applies, first, number}
-use Rattle.rules.specs.Messages.{held, prepareOf, outcomeOf}
+use Rattle.rules.specs.Messages.{Check, held, prepareOf, outcomeOf}
 use Rattle.rules.specs.Circumstances.{Room}
-use Rattle.rules.specs.Check.{check}
+use Rattle.rules.specs.Answers.{proposalCheck}
 use Rattle.rules.specs.Merge.{used, stamps, rowsOf, areWrong, unequalFinals, oppositeOutcomes, twoBodies, contradictory, mergeCircumstances, mergeNumber}
 use Rattle.rules.proofs.Logic.{cases, either-false, not-false-of, eqb-self}
 use Rattle.rules.proofs.Lists.{_∈_, none-any, none-pair, all-from}
 use Rattle.rules.proofs.Same.{body-same, result-same}
 use Rattle.rules.proofs.Rows.{held-from}
 use Rattle.rules.proofs.Used.{used-newest}
-use Rattle.rules.proofs.Check.{check-by-rule, check-clear}
+use Rattle.rules.proofs.Check.{CheckByRule}
+use Rattle.rules.proofs.Answers.{proposal-by-rule, proposal-clear}
 use Rattle.history.specs.Survival.{Group, Event, freshGroup, at, after, Lawful}
 use Rattle.history.specs.Beyond.{DoneOrNoMerge, GoesThrough}
 use Rattle.history.proofs.Group.Cells.{Holds}
 use Rattle.history.proofs.Group.Acts.{State, Sound}
 use Rattle.history.proofs.Group.Entries.{Fact.started}
 use Rattle.history.proofs.Group.Kept.{same-finals, same-outcomes}
-use Rattle.history.proofs.Follow.World.{World, setup, cellsIn}
+use Rattle.history.proofs.Follow.World.{Clear, World, setup, cellsIn}
 use Rattle.history.proofs.Follow.Gathered.{HadIs, handed-over}
 use Rattle.history.proofs.Follow.Follows.{Follows}
 use Rattle.history.proofs.Follow.Arrivals.{chosen-in}
@@ -116,9 +117,13 @@ merge-goes-through W G s k F M v places = number-left M v Ts (λ right t. (one-b
     had : (T : Table) → T ∈ Ts → T ∈ G .had
     had = chosen-in (G .had) places
 
--- under the premises of `survival` and no other
-pub goes-through : (n : ℕ) → isGroup n ≡ true → (M : Model) (room : Room) (es : List Event) → Lawful M room check (freshGroup n) es → GoesThrough M (after M room check (freshGroup n) es)
-goes-through n group M room es law =
-    let (s, k, F) = followed n group M room check check-clear es law in
-    let R = all-regular M room check check-by-rule n es (freshGroup n) law (fresh-regular M n group) in
-    record { merges = merge-goes-through (worldOf n group M room check check-clear (fromFresh n group M room check check-clear es .sent)) _ s k F M; starts = λ v I i. rw (R .size) (R .starts v I i) }
+-- under the premises of `survival` and no other, for any check of message 1 that is clear and by the rules
+pub goes-through-with : (n : ℕ) → isGroup n ≡ true → (M : Model) (room : Room) (proposals : Check) → Clear proposals → CheckByRule proposals → (es : List Event) → Lawful M room proposals (freshGroup n) es → GoesThrough M (after M room proposals (freshGroup n) es)
+goes-through-with n group M room proposals clear by-rule es law =
+    let (s, k, F) = followed n group M room proposals clear es law in
+    let R = all-regular M room proposals by-rule n es (freshGroup n) law (fresh-regular M n group) in
+    record { merges = merge-goes-through (worldOf n group M room proposals clear (fromFresh n group M room proposals clear es .sent)) _ s k F M; starts = λ v I i. rw (R .size) (R .starts v I i) }
+
+-- the one of boxes is
+pub goes-through : (n : ℕ) → isGroup n ≡ true → (M : Model) (room : Room) (es : List Event) → Lawful M room proposalCheck (freshGroup n) es → GoesThrough M (after M room proposalCheck (freshGroup n) es)
+goes-through n group M room = goes-through-with n group M room proposalCheck proposal-clear proposal-by-rule

@@ -9,11 +9,12 @@ use Rattle.rules.specs.Stamps.{Access, Body}
 use Rattle.rules.specs.Tables.{Verdict.commit, Model}
 use Rattle.rules.specs.Messages.{Message, Message.proposePrepare, Message.finalisePrepare, Message.proposeOutcome, Message.finaliseOutcome, Message.changeView, Message.startView, Message.readRegister, Check}
 use Rattle.rules.specs.Circumstances.{Room}
-use Rattle.rules.specs.Check.{check}
+use Rattle.rules.specs.Answers.{proposalCheck}
 use Rattle.rules.specs.Inner.Clashes.{clash}
 use Rattle.rules.proofs.Logic.{either-first, eqb-self}
 use Rattle.rules.proofs.Lists.{_∈_}
-use Rattle.rules.proofs.Check.{overwrites-if, check-clear}
+use Rattle.rules.proofs.Check.{overwrites-if}
+use Rattle.rules.proofs.Answers.{proposal-clear}
 use Rattle.history.specs.Survival.{Sent, Merged, Group, freshGroup, Event, after, WasSent, Lawful, Survival}
 use Rattle.history.proofs.Group.Acts.{State, Sound}
 use Rattle.history.proofs.Group.Kept.{KeptIn, any-merge, committed-apart}
@@ -99,6 +100,6 @@ module _ (n : ℕ) (group : isGroup n ≡ true) (M : Model) (room : Room) (propo
   pub survival-with : (es : List Event) → Lawful M room proposals (freshGroup n) es → Survival (fromFresh es)
   survival-with es law = let (s, k, F) = followed es law in survives (worldOf (fromFresh es .sent)) (fromFresh es) s k F
 
--- by the rules' own check, for every group, every row limit and every rule of room
-pub survival : (n : ℕ) → isGroup n ≡ true → (M : Model) (room : Room) (es : List Event) → Lawful M room check (freshGroup n) es → Survival (after M room check (freshGroup n) es)
-survival n group M room = survival-with n group M room check check-clear
+-- by the check that boxes answer message 1 by, for every group, every row limit and every rule of room
+pub survival : (n : ℕ) → isGroup n ≡ true → (M : Model) (room : Room) (es : List Event) → Lawful M room proposalCheck (freshGroup n) es → Survival (after M room proposalCheck (freshGroup n) es)
+survival n group M room = survival-with n group M room proposalCheck proposal-clear

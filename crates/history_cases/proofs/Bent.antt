@@ -10,6 +10,7 @@ use Rattle.rules.specs.Tests.{both, any}
 use Rattle.rules.specs.Tables.{Result.OK, Result.ABORT, Result.ABSTAIN, Prepare.noPrepare, Prepare.tentative, Prepare.final, Verdict.commit, Verdict.abort, Outcome.noOutcome, Outcome.noted, Outcome.done, Table, valley}
 use Rattle.rules.specs.Messages.{Message.proposeOutcome, Message.startView, held, prepareOf}
 use Rattle.rules.specs.Circumstances.{belowLimit}
+use Rattle.rules.specs.Answers.{proposalCheck}
 use Rattle.rules.specs.Check.{check}
 use Rattle.rules.specs.Inner.Clashes.{clash}
 use Rattle.rules.specs.Merge.{merge}
@@ -19,7 +20,7 @@ use Rattle.history.specs.Survival.{Declared, Merged, Group, freshGroup, WasSent
 use Rattle.history_cases.specs.Histories.{row, image, heldIn, heldInMerges}
 use Rattle.history_cases.specs.Bent.{writer, reader, Bent, until, since, atEnd, LawfulBut, Breaks, twoBodiesSent, twoResults, commitToOldView, bothOutcomes, twoAcceptances, finishedInOldView, bentCheck, abortFrees, afterAbortFrees, bentMerge, bothOK, agreedUnchecked, gathered, emptied}
 use Rattle.history_cases.proofs.SameTables.{samePrepare, prepare-same}
-use Rattle.history_cases.proofs.RuleTests.{one-body, commit-after-ok, never-both, before-outcome, on-fast-or-confirmed, one-table, accepted-it, on-acceptances, lawful, lawful-is}
+use Rattle.history_cases.proofs.RuleTests.{one-body, commit-after-ok, never-both, before-outcome, on-fast-or-confirmed, one-table, accepted-it, on-acceptances, lawful-is, passes, passes-is}
 use Rattle.history_cases.proofs.Computing.{computing}
 
 -- a merge of a later view does not hold a declared result
@@ -41,8 +42,8 @@ turned-breaks G h survival =
 clash-breaks : (G : Group) → WasSent G (proposeOutcome 20 commit reader) → WasSent G (proposeOutcome 10 commit writer) → Breaks G
 clash-breaks G read written survival = survival .noClash 20 10 reader writer read written _ _ (List·Memᴰ·head refl) (List·Memᴰ·head refl) refl (omega arith) (omega arith)
 
-lawful-but : (h : Bent) {others : Type 0} → lawful valley belowLimit check (freshGroup (h .n)) (h .before) ≡ true → lawful valley belowLimit check (since h) (h .rest) ≡ true → others → LawfulBut h others
-lawful-but h before rest others = (lawful-is valley belowLimit check (freshGroup (h .n)) (h .before) before, others, lawful-is valley belowLimit check (since h) (h .rest) rest)
+lawful-but : (h : Bent) {others : Type 0} → passes valley (freshGroup (h .n)) (h .before) ≡ true → passes valley (since h) (h .rest) ≡ true → others → LawfulBut h others
+lawful-but h before rest others = (passes-is valley (freshGroup (h .n)) (h .before) before, others, passes-is valley (since h) (h .rest) rest)
 
 -- ---- rule 1 bent
 
@@ -146,7 +147,7 @@ finished-in-old-view-lawful-but = lawful-but finishedInOldView refl refl (on-acc
 -- ---- the check bent
 
 -- what a box that has noted the abort of stamp 20 answers for stamp 10
-pub noted-abort : (bentCheck (row 20 reader (tentative OK) (noted abort) ∷ []) 10 writer ≡ OK) × (check (row 20 reader (tentative OK) (noted abort) ∷ []) 10 writer ≡ ABSTAIN)
+pub noted-abort : (bentCheck (row 20 reader (tentative OK) (noted abort) ∷ []) 10 writer ≡ OK) × (proposalCheck (row 20 reader (tentative OK) (noted abort) ∷ []) 10 writer ≡ ABSTAIN)
 unfolding computing
 noted-abort = (refl, refl)
 

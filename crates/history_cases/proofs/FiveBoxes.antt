@@ -8,17 +8,17 @@ use Rattle.rules.specs.Tests.{either, every}
 use Rattle.rules.specs.Groups.{isGroup}
 use Rattle.rules.specs.Tables.{Result.OK, Result.ABORT, Result.ABSTAIN, Prepare.noPrepare, Prepare.tentative, Prepare.final, Verdict.commit, Verdict.abort, Outcome.noOutcome, Outcome.noted, Outcome.done, valley}
 use Rattle.rules.specs.Circumstances.{belowLimit}
-use Rattle.rules.specs.Check.{check}
-use Rattle.history.specs.Survival.{freshGroup, QuorumOf, Accepted, Lawful, Survival}
+use Rattle.history.specs.Survival.{freshGroup, QuorumOf, Accepted, Survival}
+use Rattle.history_cases.specs.Today.{Lawful}
 use Rattle.history_cases.specs.Histories.{heldIn, heldInMerges}
 use Rattle.history_cases.specs.FiveBoxes.{fiveBoxes, afterFiveBoxes, transactions, gatheredForView1, gatheredForView2}
 use Rattle.history.proofs.Survival.{survival}
-use Rattle.history_cases.proofs.RuleTests.{on-acceptances, lawful-is}
+use Rattle.history_cases.proofs.RuleTests.{on-acceptances, passes-is}
 use Rattle.history_cases.proofs.Computing.{computing}
 
-pub five-boxes-lawful : Lawful valley belowLimit check (freshGroup 5) fiveBoxes
+pub five-boxes-lawful : Lawful valley (freshGroup 5) fiveBoxes
 unfolding computing
-five-boxes-lawful = lawful-is valley belowLimit check (freshGroup 5) fiveBoxes refl
+five-boxes-lawful = passes-is valley (freshGroup 5) fiveBoxes refl
 
 -- so the theorem speaks of it
 pub five-boxes-survive : Survival afterFiveBoxes

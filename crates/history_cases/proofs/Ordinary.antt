@@ -11,14 +11,14 @@ use Rattle.rules.specs.Stamps.{Access}
 use Rattle.rules.specs.Tables.{Result.OK, Result.ABORT, Result.ABSTAIN, Result.RETRY, Prepare.noPrepare, Prepare.tentative, Prepare.final, Verdict, Verdict.commit, Verdict.abort, Outcome.noOutcome, Outcome.noted, Outcome.done, valley}
 use Rattle.rules.specs.Messages.{Message.proposeOutcome}
 use Rattle.rules.specs.Circumstances.{belowLimit}
-use Rattle.rules.specs.Check.{check}
 use Rattle.rules.specs.Inner.Clashes.{clash}
 use Rattle.rules.proofs.Lists.{_∈_, places, every-one}
-use Rattle.history.specs.Survival.{Declared, Group, freshGroup, WasSent, QuorumOf, Accepted, Lawful, Survival}
+use Rattle.history.specs.Survival.{Declared, Group, freshGroup, WasSent, QuorumOf, Accepted, Survival}
+use Rattle.history_cases.specs.Today.{Lawful}
 use Rattle.history.proofs.Survival.{survival}
 use Rattle.history_cases.specs.Histories.{History, ending, refusals, tablesAt, heldIn, heldInMerges}
 use Rattle.history_cases.specs.Ordinary.{written, readIt, writtenThenRead, finalisedInNextView, clientDies, skippedAndLate, inTheOlder, inTheNewer, competingViews, retryKept, abortedAfterOK}
-use Rattle.history_cases.proofs.RuleTests.{onAcceptances, on-acceptances, lawful, lawful-is}
+use Rattle.history_cases.proofs.RuleTests.{onAcceptances, on-acceptances, passes, passes-is}
 use Rattle.history_cases.proofs.Computing.{computing}
 
 -- an outcome of a stamp that boxes may have accepted in a view
@@ -29,7 +29,7 @@ pub record AcceptedOutcome : Type 0 where
 
 -- it keeps every rule, and what was promised of such a history holds; these results were declared in it, and f+1 boxes have accepted each of these outcomes in its view
 pub record Ordinary (h : History) (declared : List Declared) (accepted : List AcceptedOutcome) : Type 0 where
-  pub keepsRules : Lawful valley belowLimit check (freshGroup (h .n)) (h .events)
+  pub keepsRules : Lawful valley (freshGroup (h .n)) (h .events)
   pub survives : Survival (ending h)
   pub wasDeclared : ending h .declared ≡ declared
   pub byQuorum : (a : AcceptedOutcome) → a ∈ accepted → QuorumOf (ending h) (Accepted (ending h) (a .stamp) (a .view) (a .outcome))
@@ -37,9 +37,9 @@ pub record Ordinary (h : History) (declared : List Declared) (accepted : List Ac
 abbrev acceptedByQuorum : Group → AcceptedOutcome → Bool
 acceptedByQuorum G a = onAcceptances G (a .stamp) (a .view) (a .outcome)
 
-ordinary : (h : History) (declared : List Declared) (accepted : List AcceptedOutcome) → isGroup (h .n) ≡ true → lawful valley belowLimit check (freshGroup (h .n)) (h .events) ≡ true → ending h .declared ≡ declared → every (acceptedByQuorum (ending h)) accepted ≡ true → Ordinary h declared accepted
+ordinary : (h : History) (declared : List Declared) (accepted : List AcceptedOutcome) → isGroup (h .n) ≡ true → passes valley (freshGroup (h .n)) (h .events) ≡ true → ending h .declared ≡ declared → every (acceptedByQuorum (ending h)) accepted ≡ true → Ordinary h declared accepted
 ordinary h declared accepted group passed same all =
-    let law = lawful-is valley belowLimit check (freshGroup (h .n)) (h .events) passed in
+    let law = passes-is valley (freshGroup (h .n)) (h .events) passed in
     record {
       keepsRules = law;
       survives = survival (h .n) group valley belowLimit (h .events) law;

@@ -12,14 +12,15 @@ use Rattle.rules.specs.Groups.{fOf, quorum}
 use Rattle.rules.specs.Stamps.{Body, sameBody}
 use Rattle.rules.specs.Tables.{Result, Result.OK, Result.ABORT, Result.ABSTAIN, Result.RETRY, Verdict, Verdict.commit, Verdict.abort, prepareCode, prepareRetry, verdictCode, sameResult, Table, Model}
 use Rattle.rules.specs.Messages.{Message, Message.proposePrepare, Message.finalisePrepare, Message.proposeOutcome, Message.finaliseOutcome, Message.changeView, Message.startView, Message.readRegister, Check}
-use Rattle.rules.specs.Circumstances.{Room}
-use Rattle.rules.specs.Answers.{Reply}
+use Rattle.rules.specs.Circumstances.{Room, belowLimit}
+use Rattle.rules.specs.Answers.{Reply, proposalCheck}
 use Rattle.rules.specs.Count.{Heard, Counted, Counted.fast, Counted.slow, Counted.wait, Counted.refused, counted}
 use Rattle.rules.proofs.Logic.{impossible, both-left, both-right, both-true, either-cases, eqb-self, not-false-of}
 use Rattle.rules.proofs.Lists.{_∈_, every-one, any-some, those-of, all-from, first-from, provided-some}
 use Rattle.rules.proofs.Same.{same-result, same-verdict, same-body}
 use Rattle.history.specs.Survival.{Answered, Declared, Group, boxesBelow, Event, Event.sends, Event.arrives, Event.declares, Event.merges, step, AsksPrepare, prepareHeard, WasSent, Gave, QuorumOf, Replied, Replies, Confirmed, Accepted, OneBody, OneResult, OnAnAnswer, OnFastOrConfirmed, CommitAfterOK, NeverBoth, OnAcceptances, BeforeOutcome, TheMerged, MaySend, May, Lawful}
 use Rattle.history.proofs.Group.Cells.{commit-abort}
+use Rattle.history_cases.specs.Today as today
 use Rattle.history_cases.proofs.SameTables.{sameTable, table-equal}
 
 -- ---- messages by their parts
@@ -403,3 +404,11 @@ module _ (M : Model) (room : Room) (proposals : Check) where
   unfolding lawful
   lawful-is G [] h = tt
   lawful-is G (e ∷ es) h = (may-do G e (both-left _ _ h), lawful-is (step M room proposals G e) es (both-right (may G e) _ h))
+
+-- ---- a history of today's boxes
+
+abbrev pub passes : Model → Group → List Event → Bool
+passes M = lawful M belowLimit proposalCheck
+
+pub passes-is : (M : Model) (G : Group) (es : List Event) → passes M G es ≡ true → today.Lawful M G es
+passes-is M = lawful-is M belowLimit proposalCheck

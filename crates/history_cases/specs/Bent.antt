@@ -9,9 +9,12 @@ use Rattle.rules.specs.Stamps.{Body}
 use Rattle.rules.specs.Tables.{Result, Result.OK, Result.ABORT, Result.ABSTAIN, Result.RETRY, Prepare.final, Verdict.commit, Verdict.abort, Outcome.noOutcome, prepareCode, outcomeCode, Row, Table, valley}
 use Rattle.rules.specs.Messages.{Message.proposePrepare, Message.finalisePrepare, Message.proposeOutcome, Message.finaliseOutcome, Message.changeView, Message.startView}
 use Rattle.rules.specs.Circumstances.{belowLimit}
-use Rattle.rules.specs.Check.{committed, ruleA, ruleB, retryStamp, check}
+use Rattle.rules.specs.Check.{committed, retryStamp, check}
+use Rattle.rules.specs.DayOrder.{dayA, dayB}
 use Rattle.rules.specs.Merge.{used, groupOf, amongAgreed, amongOpen, toCheck, uncheckedRows, checkedInTurn}
-use Rattle.history.specs.Survival.{Group, freshGroup, Event, Event.sends, Event.arrives, Event.declares, Event.merges, after, Lawful, Survival}
+use Rattle.history.specs.Survival.{Group, freshGroup, Event, Event.sends, Event.arrives, Event.declares, Event.merges, Survival}
+use Rattle.history.specs.Survival as history
+use Rattle.history_cases.specs.Today.{after, Lawful}
 use Rattle.history_cases.specs.FiveBoxes.{afterFiveBoxes}
 use Rattle.history_cases.specs.Histories.{reads, writes, row, image, told, tablesAt}
 
@@ -33,17 +36,17 @@ pub record Bent : Type 0 where
 
 -- the group when the rule is about to be bent, when it has been, and at the end
 abbrev pub until : Bent → Group
-until h = after valley belowLimit check (freshGroup (h .n)) (h .before)
+until h = after valley (freshGroup (h .n)) (h .before)
 
 abbrev pub since : Bent → Group
-since h = after valley belowLimit check (until h) (h .bent)
+since h = after valley (until h) (h .bent)
 
 abbrev pub atEnd : Bent → Group
-atEnd h = after valley belowLimit check (since h) (h .rest)
+atEnd h = after valley (since h) (h .rest)
 
 -- what comes before the bent events and after them keeps every rule; `others` is what the bent ones keep
 abbrev pub LawfulBut : Bent → Type 0 → Type 0
-LawfulBut h others = Lawful valley belowLimit check (freshGroup (h .n)) (h .before) × others × Lawful valley belowLimit check (since h) (h .rest)
+LawfulBut h others = Lawful valley (freshGroup (h .n)) (h .before) × others × Lawful valley (since h) (h .rest)
 
 abbrev pub Breaks : Group → Type 0
 Breaks G = Survival G → ⊥
@@ -188,19 +191,19 @@ finishedInOldView =
 unfoldable pub preparedUnlessNoted : Row → Bool
 preparedUnlessNoted r = both (either (eqb (prepareCode (r .prepare)) 1) (eqb (prepareCode (r .prepare)) 5)) (leb (outcomeCode (r .outcome)) 1)
 
--- the check with that for prepared
+-- the check of messages 1 with that for prepared
 unfoldable pub bentCheck : List Row → ℕ → Body → Result
 bentCheck rows s x =
-    cond (any (ruleA committed s x) rows) ABORT
-    (cond (any (ruleB committed s x) rows) (RETRY (retryStamp rows s x))
-    (cond (any (λ r. either (ruleA preparedUnlessNoted s x r) (ruleB preparedUnlessNoted s x r)) rows) ABSTAIN OK))
+    cond (any (dayA committed s x) rows) ABORT
+    (cond (any (dayB committed s x) rows) (RETRY (retryStamp dayB rows s x))
+    (cond (any (λ r. either (dayA preparedUnlessNoted s x r) (dayB preparedUnlessNoted s x r)) rows) ABSTAIN OK))
 
 unfoldable pub abortFrees : List Event
 abortFrees = declaredThenNoted ++ writerThenMerge 6 11
 
 -- boxes answer message 1 by the bent check
 abbrev pub afterAbortFrees : Group
-afterAbortFrees = after valley belowLimit bentCheck (freshGroup 5) abortFrees
+afterAbortFrees = history.after valley belowLimit bentCheck (freshGroup 5) abortFrees
 
 -- ---- the merge bent: "Keeping every agreed OK unchecked lets it clash with a slow final OK."
 

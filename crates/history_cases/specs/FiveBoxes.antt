@@ -4,9 +4,8 @@ use Prim.Native.Nat.{ℕ}
 use Rattle.rules.specs.Stamps.{Body}
 use Rattle.rules.specs.Tables.{Result.OK, Result.ABORT, Result.ABSTAIN, Prepare.final, Verdict.commit, Verdict.abort, Outcome.noOutcome, Outcome.done, Table, valley}
 use Rattle.rules.specs.Messages.{Message.proposePrepare, Message.finalisePrepare, Message.proposeOutcome, Message.finaliseOutcome, Message.changeView, Message.startView}
-use Rattle.rules.specs.Circumstances.{belowLimit}
-use Rattle.rules.specs.Check.{check}
-use Rattle.history.specs.Survival.{Group, freshGroup, Event, Event.sends, Event.arrives, Event.declares, Event.merges, after}
+use Rattle.history.specs.Survival.{Group, freshGroup, Event, Event.sends, Event.arrives, Event.declares, Event.merges}
+use Rattle.history_cases.specs.Today.{after}
 use Rattle.history_cases.specs.Histories.{reads, writes, row, image, told, tablesAt}
 
 -- ---- the four transactions
@@ -66,7 +65,7 @@ fiveBoxes =
     ++ (merges 2 (32 ∷ 33 ∷ 34 ∷ []) ∷ [])
 
 abbrev pub afterFiveBoxes : Group
-afterFiveBoxes = after valley belowLimit check (freshGroup 5) fiveBoxes
+afterFiveBoxes = after valley (freshGroup 5) fiveBoxes
 
 -- all that was proposed, by stamp and body
 abbrev pub transactions : List (ℕ × Body)

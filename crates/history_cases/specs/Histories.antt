@@ -7,9 +7,8 @@ use Rattle.rules.specs.Tests.{those, allOf}
 use Rattle.rules.specs.Stamps.{Body}
 use Rattle.rules.specs.Tables.{Prepare, Outcome, Row, Table, normalMode, valley}
 use Rattle.rules.specs.Messages.{Message, kind, held, prepareOf, outcomeOf}
-use Rattle.rules.specs.Circumstances.{belowLimit}
-use Rattle.rules.specs.Check.{check}
-use Rattle.history.specs.Survival.{Group, freshGroup, Event, Event.sends, Event.arrives, after, at}
+use Rattle.history.specs.Survival.{Group, freshGroup, Event, Event.sends, Event.arrives, at}
+use Rattle.history_cases.specs.Today.{after}
 
 -- ---- transactions and tables
 
@@ -43,7 +42,7 @@ pub record History : Type 0 where
   pub events : List Event
 
 abbrev pub ending : History → Group
-ending h = after valley belowLimit check (freshGroup (h .n)) (h .events)
+ending h = after valley (freshGroup (h .n)) (h .events)
 
 -- ---- what was refused
 

@@ -1,3 +1,4 @@
+pub mod Today
 pub mod Histories
 pub mod FiveBoxes
 pub mod Ordinary

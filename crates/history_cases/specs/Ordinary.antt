@@ -1,5 +1,5 @@
 -- Seven ordinary histories, from fresh boxes, in groups of 3, 5 and 7: each keeps every rule, and is about one thing that happens to a group in use.
--- Request P6 of document 02 has changed the check for what lies above the new stamp, and P13 will; every reply and merge here is the same before and after both. Wherever a box answers message 1, no committed or
+-- Requests P6 and P13 of document 02 have changed the check of message 1 for what lies above the new stamp; every reply and merge here is the same as before both. Wherever a box answers message 1, no committed or
 -- prepared transaction above the new stamp reads or writes a register of the new one, but in histories 3 and 6, which say why the reply is the same there; and no check of a merge gives RETRY.
 use mathlib.Core.List.{[], _∷_, _++_}
 use Rattle.rules.specs.Stamps.{Body}
@@ -92,7 +92,7 @@ clientDies =
       events =
           -- stamp 20 is heard of once
           told 0 (0 ∷ []) (proposePrepare 20 readsRegister0)
-          -- stamp 10 writes what stamp 20 read, and lies below it; stamp 20 is prepared in box 0. That box says ABSTAIN, as it will when B fires for any read or write above, since stamp 20 is only prepared; the others know nothing of stamp 20. Two OKs of three are slow OK
+          -- stamp 10 writes what stamp 20 read, and lies below it; stamp 20 is prepared in box 0. That box says ABSTAIN, and not RETRY, since stamp 20 is only prepared; the others know nothing of stamp 20. Two OKs of three are slow OK
           ++ told 1 (0 ∷ 1 ∷ 2 ∷ []) (proposePrepare 10 writesRegister0)
           ++ told 4 (1 ∷ 2 ∷ []) (finalisePrepare 10 0 OK)
           ++ (declares 10 0 OK ∷ [])
@@ -184,7 +184,7 @@ retryKept =
           ++ (declares 30 0 OK ∷ [])
           ++ told 6 (0 ∷ 1 ∷ 2 ∷ 3 ∷ 4 ∷ 5 ∷ []) (proposeOutcome 30 commit readsRegister0)
           ++ told 12 (0 ∷ 1 ∷ 2 ∷ 3 ∷ 4 ∷ 5 ∷ []) (finaliseOutcome 30 0 commit)
-          -- stamp 20 lies below a committed read of its register. Each of the six says RETRY 30, and will when P13 names the greatest committed or prepared access above, since there is no other. Six of one result are the fast count
+          -- stamp 20 lies below a committed read of its register. Each of the six says RETRY 30, the greatest committed or prepared access above, since there is no other. Six of one result are the fast count
           ++ told 18 (0 ∷ 1 ∷ 2 ∷ 3 ∷ 4 ∷ 5 ∷ []) (proposePrepare 20 writesRegister0)
           ++ (declares 20 0 (RETRY 30) ∷ [])
           -- view 1 from boxes 2, 3, 4 and 6: RETRY 30 in three tables is the agreement count

@@ -16,10 +16,13 @@ use Rattle.rules.specs.Tables.{Result.OK, Result.ABORT, Prepare, Prepare
 use Rattle.rules.specs.Numbers.{Number, Number.badMessage, Number.full, Number.oldView, order}
 use Rattle.rules.specs.Messages.{Message, Message.proposePrepare, Message.finalisePrepare, Message.proposeOutcome, Message.finaliseOutcome, Message.changeView, Message.startView, Message.readRegister, Check, held, changed, added, withPrepare, withOutcome, resultFor, answered, notedAs, prepareProposed, prepareFinalised, outcomeProposed, outcomeFinalised, withRows, promising, keepingBox, tableAfter}
 use Rattle.rules.specs.Circumstances.{Room, badGroup, belowLimit, messageByRule, startsView, newButFull, changesToOldView, furtherCircumstances, circumstances}
-use Rattle.rules.specs.Answers.{answerNumber, taken, refused, answer}
+use Rattle.rules.specs.Answers.{answerNumber, taken, refused, answer, proposalCheck}
+use Rattle.rules.specs.Check.{accepted}
+use Rattle.rules.specs.Inner.Clashes.{clash}
 use Rattle.rules.proofs.Logic.{impossible, cases, both-left, both-right, both-true, either-cases, either-second}
 use Rattle.rules.proofs.Lists.{_∈_, places, every-one, all-every}
 use Rattle.rules.proofs.Check.{CheckByRule}
+use Rattle.rules.proofs.DayOrder.{day-clear, day-by-rule}
 use Rattle.rules.proofs.Rows.{rising-added, rising-changed, length-added, length-changed, added-from, changed-from}
 use Rattle.rules.proofs.Numbers.{number-done}
 use Rattle.rules.proofs.Tables.{verdict-counts, result-counts, stamp-positive, RowByRule, row-facts, row-by, Regular, table-facts, table-by}
@@ -31,6 +34,15 @@ RoomFits room = (limit f start rows : ℕ) → room limit f start rows ≡ true 
 pub below-limit-fits : RoomFits belowLimit
 unfolding belowLimit
 below-limit-fits limit f start rows h = ltb-true rows limit h
+
+-- and of the check that boxes answer message 1 by: its results keep the rows' rule, and after OK no accepted row clashes
+pub proposal-by-rule : CheckByRule proposalCheck
+unfolding proposalCheck
+proposal-by-rule = day-by-rule
+
+pub proposal-clear : (rows : List Row) (s : ℕ) (x : Body) → proposalCheck rows s x ≡ OK → (r : Row) → r ∈ rows → accepted r ≡ true → clash s x (r .stamp) (r .body) ≡ false
+unfolding proposalCheck
+proposal-clear = day-clear
 
 pub fresh-by-rule : (M : Model) (n box : ℕ) → badGroup n box ≡ false → tableByRule M (freshTable n box) ≡ true
 unfolding badGroup freshTable isView modeByRule rising every both either

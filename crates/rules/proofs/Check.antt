@@ -1,7 +1,7 @@
 -- The check: its parts over `++`, the clash behind its rules, what each answer says of the rows, and what the stamp of a RETRY says.
 use mathlib.Core.Path.{_≡_, refl, sym, ap, _∙_}
 use mathlib.Core.Bool.{Bool, true, false, cond}
-use mathlib.Core.Logic.{_⊎_, inl, inr}
+use mathlib.Core.Logic.{_⊎_, inl, inr, ⊎-elim}
 use mathlib.Core.List.{List, [], _∷_, _++_, List·Memᴰ·not-nil}
 use Prim.Native.Nat.{ℕ, _≤_, _<_, max}
 use native.Mathlib.Omega.{arith}
@@ -9,21 +9,20 @@ use lib.Dec.{eqb, ltb}
 use borrow.Author.Tests.{ltb-true, ltb-false, lt-ltb}
 use Rattle.rules.specs.Tests.{both, either, any, every, those, greatest}
 use Rattle.rules.specs.Stamps.{Access, Body, isStamp}
-use Rattle.rules.specs.Tables.{Result, Result.OK, Result.ABORT, Result.ABSTAIN, Result.RETRY, Outcome.noOutcome, Outcome.noted, Verdict, Verdict.commit, Verdict.abort, resultByRule, Row, rowByRule}
+use Rattle.rules.specs.Tables.{Result, Result.OK, Result.ABORT, Result.ABSTAIN, Result.RETRY, Outcome.noOutcome, Outcome.noted, Verdict, Verdict.commit, Verdict.abort, resultRetry, resultByRule, Row, rowByRule}
 use Rattle.rules.specs.Messages.{Check, withOutcome}
-use Rattle.rules.specs.Check.{committed, prepared, accepted, overwrites, ruleA, ruleB, ruleC, retryStamp, check}
-use Rattle.rules.specs.Inner.Clashes.{clash}
-use Rattle.rules.specs.Inner.TwoRules.{Rule, retryBy, checkBy}
-use Rattle.rules.proofs.Logic.{impossible, cases, either-cases, both-left, both-right, both-true, either-first, either-second, either-false, either-comm}
-use Rattle.rules.proofs.Lists.{_∈_, any-append, those-append, greatest-append, any-none, any-some, some-any, every-one, all-every, those-of, those-those, any-those, in-those, greatest-above, greatest-below, greatest-is}
+use Rattle.rules.specs.Check.{committed, prepared, accepted, Rule, overwrites, ruleA, ruleB, retryStamp, checkBy, check}
+use Rattle.rules.specs.Inner.Clashes.{ruleC, clash}
+use Rattle.rules.proofs.Logic.{cases, so-neither, either-cases, both-left, both-right, both-true, either-first, either-second, either-false, either-left, either-right, either-comm}
+use Rattle.rules.proofs.Lists.{_∈_, any-append, those-append, greatest-append, any-none, none-any, any-some, some-any, every-one, all-every, those-of, those-those, any-those, in-those, greatest-above, greatest-below, greatest-is}
 
 -- ---- over ++: A and C are Lists.any-append at their rules, and the stamp of a RETRY is the greater one
 
 pub abort-append : (xs ys : List Row) (s : ℕ) (x : Body) → any (ruleA committed s x) (xs ++ ys) ≡ either (any (ruleA committed s x) xs) (any (ruleA committed s x) ys)
 abort-append xs ys s x = any-append (ruleA committed s x) xs ys
 
-pub advice-append : (B : Rule) (xs ys : List Row) (s : ℕ) (x : Body) → retryBy B (xs ++ ys) s x ≡ max (retryBy B xs s x) (retryBy B ys s x)
-unfolding retryBy
+pub advice-append : (B : Rule) (xs ys : List Row) (s : ℕ) (x : Body) → retryStamp B (xs ++ ys) s x ≡ max (retryStamp B xs s x) (retryStamp B ys s x)
+unfolding retryStamp
 advice-append B xs ys s x = ap (greatest (λ (r : Row). r .stamp)) (those-append _ xs ys) ∙ greatest-append _ _ _
 
 pub abstain-append : (xs ys : List Row) (s : ℕ) (x : Body) → any (ruleC s x) (xs ++ ys) ≡ either (any (ruleC s x) xs) (any (ruleC s x) ys)
@@ -105,61 +104,101 @@ pub b-counting : Counting ruleB
 unfolding ruleB both
 b-counting counts s x r = refl
 
-committed-accepted : (r : Row) → committed r ≡ true → accepted r ≡ true
+pub committed-accepted : (r : Row) → committed r ≡ true → accepted r ≡ true
 unfolding accepted
 committed-accepted r h = either-first _ _ h
 
-prepared-accepted : (r : Row) → prepared r ≡ true → accepted r ≡ true
+pub prepared-accepted : (r : Row) → prepared r ≡ true → accepted r ≡ true
 unfolding accepted
 prepared-accepted r h = either-second _ _ h
 
 module _ (R : Rule) (counting : Counting R) (counts : Row → Bool) (s : ℕ) (x : Body) (r : Row) where
-  counted : R counts s x r ≡ true → counts r ≡ true
+  pub counted : R counts s x r ≡ true → counts r ≡ true
   counted h = both-left _ _ (sym (counting counts s x r) ∙ h)
 
   -- it holds of a row also where other rows count, if this one does
-  counted-so : (others : Row → Bool) → others r ≡ true → R counts s x r ≡ true → R others s x r ≡ true
+  pub counted-so : (others : Row → Bool) → others r ≡ true → R counts s x r ≡ true → R others s x r ≡ true
   counted-so others o h = counting others s x r ∙ both-true o (both-right _ _ (sym (counting counts s x r) ∙ h))
 
 -- ---- what an answer says
 
--- the rule that gave an answer, with t for RETRY
-pub data Fired (A B : Rule) (t : ℕ) (rows : List Row) (s : ℕ) (x : Body) : Result → Type 0 where
-  by-A : any (A committed s x) rows ≡ true → Fired A B t rows s x ABORT
-  by-B : any (B committed s x) rows ≡ true → Fired A B t rows s x (RETRY t)
-  by-C : any (λ r. either (A prepared s x r) (B prepared s x r)) rows ≡ true → Fired A B t rows s x ABSTAIN
-  by-D : any (A committed s x) rows ≡ false → any (B committed s x) rows ≡ false → any (λ r. either (A prepared s x r) (B prepared s x r)) rows ≡ false → Fired A B t rows s x OK
+-- C of one row, by any two rules
+abbrev ruleCBy : Rule → Rule → ℕ → Body → Row → Bool
+ruleCBy A B s x r = either (A prepared s x r) (B prepared s x r)
 
-pub fired : (A B : Rule) (retry : List Row → ℕ → Body → ℕ) (rows : List Row) (s : ℕ) (x : Body) → Fired A B (retry rows s x) rows s x (checkBy A B retry rows s x)
-unfolding checkBy
-fired A B retry rows s x = go (any (A committed s x) rows) refl (any (B committed s x) rows) refl (any (λ r. either (A prepared s x r) (B prepared s x r)) rows) refl
+-- the rule that gave an answer; none before it fired
+pub data Fired (A B : Rule) (rows : List Row) (s : ℕ) (x : Body) : Result → Type 0 where
+  by-A : any (A committed s x) rows ≡ true → Fired A B rows s x ABORT
+  by-B : any (A committed s x) rows ≡ false → any (B committed s x) rows ≡ true → Fired A B rows s x (RETRY (retryStamp B rows s x))
+  by-C : any (A committed s x) rows ≡ false → any (B committed s x) rows ≡ false → any (ruleCBy A B s x) rows ≡ true → Fired A B rows s x ABSTAIN
+  by-D : any (A committed s x) rows ≡ false → any (B committed s x) rows ≡ false → any (ruleCBy A B s x) rows ≡ false → Fired A B rows s x OK
+
+module _ (A B : Rule) (rows : List Row) (s : ℕ) (x : Body) where
+  pub fired : Fired A B rows s x (checkBy A B rows s x)
+  unfolding checkBy
+  fired = go (any (A committed s x) rows) refl (any (B committed s x) rows) refl (any (ruleCBy A B s x) rows) refl
+    where
+      go : (a : Bool) → any (A committed s x) rows ≡ a → (b : Bool) → any (B committed s x) rows ≡ b → (c : Bool) → any (ruleCBy A B s x) rows ≡ c → Fired A B rows s x (cond a ABORT (cond b (RETRY (retryStamp B rows s x)) (cond c ABSTAIN OK)))
+      go true ea b eb c ec = by-A ea
+      go false ea true eb c ec = by-B ea eb
+      go false ea false eb true ec = by-C ea eb ec
+      go false ea false eb false ec = by-D ea eb ec
+
+-- RETRY, by any two rules: A did not fire, B did, and the stamp is its
+pub retry-says : (A B : Rule) (rows : List Row) (s : ℕ) (x : Body) (g : ℕ) → checkBy A B rows s x ≡ RETRY g → (any (A committed s x) rows ≡ false) × (any (B committed s x) rows ≡ true) × (retryStamp B rows s x ≡ g)
+retry-says A B rows s x g h = go (checkBy A B rows s x) (fired A B rows s x) h
   where
-    go : (a : Bool) → any (A committed s x) rows ≡ a → (b : Bool) → any (B committed s x) rows ≡ b → (c : Bool) → any (λ r. either (A prepared s x r) (B prepared s x r)) rows ≡ c → Fired A B (retry rows s x) rows s x (cond a ABORT (cond b (RETRY (retry rows s x)) (cond c ABSTAIN OK)))
-    go true ea b eb c ec = by-A ea
-    go false ea true eb c ec = by-B eb
-    go false ea false eb true ec = by-C ec
-    go false ea false eb false ec = by-D ea eb ec
+    go : (q : Result) → Fired A B rows s x q → q ≡ RETRY g → (any (A committed s x) rows ≡ false) × (any (B committed s x) rows ≡ true) × (retryStamp B rows s x ≡ g)
+    go q (by-A p) e = let z : _≡_ {A = ℕ} 0 1 = cc in absurd (omega arith)
+    go q (by-B p k) e = (p, k, ap resultRetry e)
+    go q (by-C p k t) e = let z : _≡_ {A = ℕ} 0 1 = cc in absurd (omega arith)
+    go q (by-D p k t) e = let z : _≡_ {A = ℕ} 0 1 = cc in absurd (omega arith)
+
+-- OK, by any two rules: neither holds of an accepted row
+module _ (A B : Rule) (a-counts : Counting A) (b-counts : Counting B) (rows : List Row) (s : ℕ) (x : Body) where
+  abbrev pub NoneNamed : Type 0
+  NoneNamed = (r : Row) → r ∈ rows → (A accepted s x r ≡ false) × (B accepted s x r ≡ false)
+
+  -- committed or prepared, since accepted
+  named-so : (R : Rule) → Counting R → (r : Row) → R accepted s x r ≡ true → either (R committed s x r) (R prepared s x r) ≡ true
+  unfolding accepted
+  named-so R counts r h =
+      ⊎-elim (λ c. either-first _ _ (counted-so R counts accepted s x r committed c h)) (λ p. either-second _ _ (counted-so R counts accepted s x r prepared p h)) (either-cases _ _ (counted R counts accepted s x r h))
+
+  not-named : (R : Rule) → Counting R → (r : Row) → R committed s x r ≡ false → R prepared s x r ≡ false → R accepted s x r ≡ false
+  not-named R counts r c p = so-neither _ _ (named-so R counts r) (either-false c p)
+
+  pub ok-none : checkBy A B rows s x ≡ OK → NoneNamed
+  ok-none h r m = go (checkBy A B rows s x) (fired A B rows s x) h
+    where
+      go : (q : Result) → Fired A B rows s x q → q ≡ OK → (A accepted s x r ≡ false) × (B accepted s x r ≡ false)
+      go q (by-A p) e = let z : _≡_ {A = ℕ} 0 1 = cc in absurd (omega arith)
+      go q (by-B p k) e = let z : _≡_ {A = ℕ} 0 1 = cc in absurd (omega arith)
+      go q (by-C p k t) e = let z : _≡_ {A = ℕ} 0 1 = cc in absurd (omega arith)
+      go q (by-D p k t) e =
+          let c = any-none _ rows t r m in
+          (not-named A a-counts r (any-none _ rows p r m) (either-left _ _ c), not-named B b-counts r (any-none _ rows k r m) (either-right _ _ c))
+
+  unnamed : (R : Rule) → Counting R → (counts : Row → Bool) → ((r : Row) → counts r ≡ true → accepted r ≡ true) → (r : Row) → R accepted s x r ≡ false → R counts s x r ≡ false
+  unnamed R counting counts so r n = so-neither _ _ (λ h. counted-so R counting counts s x r accepted (so r (counted R counting counts s x r h)) h) n
+
+  pub none-ok : NoneNamed → checkBy A B rows s x ≡ OK
+  unfolding checkBy
+  none-ok h =
+      let a = none-any (A committed s x) rows (λ r m. unnamed A a-counts committed committed-accepted r (h r m .0)) in
+      let b = none-any (B committed s x) rows (λ r m. unnamed B b-counts committed committed-accepted r (h r m .1)) in
+      let c = none-any (ruleCBy A B s x) rows (λ r m. either-false (unnamed A a-counts prepared prepared-accepted r (h r m .0)) (unnamed B b-counts prepared prepared-accepted r (h r m .1))) in
+      rw (a, b, c)
 
 module _ (rows : List Row) (s : ℕ) (x : Body) where
-  -- the check is the one by its rules A and B and its stamp, whatever that is
-  pub check-by : check rows s x ≡ checkBy ruleA ruleB retryStamp rows s x
-  unfolding check checkBy ruleC
-  check-by = refl
-
-  check-fired : Fired ruleA ruleB (retryStamp rows s x) rows s x (check rows s x)
-  check-fired = rw check-by (fired ruleA ruleB retryStamp rows s x)
+  check-fired : Fired ruleA ruleB rows s x (check rows s x)
+  unfolding check
+  check-fired = fired ruleA ruleB rows s x
 
   -- OK: no accepted row clashes
   pub check-clear : check rows s x ≡ OK → (r : Row) → r ∈ rows → accepted r ≡ true → clash s x (r .stamp) (r .body) ≡ false
-  unfolding ruleC
-  check-clear h r m a = go (check rows s x) check-fired h (cases (clash s x (r .stamp) (r .body)))
-    where
-      go : (q : Result) → Fired ruleA ruleB (retryStamp rows s x) rows s x q → q ≡ OK → (clash s x (r .stamp) (r .body) ≡ true) ⊎ (clash s x (r .stamp) (r .body) ≡ false) → clash s x (r .stamp) (r .body) ≡ false
-      go q f e (inr c) = c
-      go q (by-A p) e (inl c) = let z : _≡_ {A = ℕ} 0 1 = cc in absurd (omega arith)
-      go q (by-B p) e (inl c) = let z : _≡_ {A = ℕ} 0 1 = cc in absurd (omega arith)
-      go q (by-C p) e (inl c) = let z : _≡_ {A = ℕ} 0 1 = cc in absurd (omega arith)
-      go q (by-D p k t) e (inl c) = impossible (rules-clash s x r ∙ both-true a c) (either-false (any-none _ rows p r m) (either-false (any-none _ rows k r m) (any-none _ rows t r m)))
+  unfolding check ruleA ruleB clash both
+  check-clear h r m a = let (n, k) = ok-none ruleA ruleB a-counting b-counting rows s x h r m in either-false (rw a at n) (rw a at k)
 
   -- the accepted row that clashes
   abbrev pub Against : Type 0
@@ -173,28 +212,23 @@ module _ (rows : List Row) (s : ℕ) (x : Body) where
       found : (r : Row) → r ∈ rows → either (ruleA committed s x r) (either (ruleB committed s x r) (ruleC s x r)) ≡ true → Against
       found r m e = let k = sym (rules-clash s x r) ∙ e in (r, m, both-left _ _ k, both-right _ _ k)
 
-      go : (q : Result) → Fired ruleA ruleB (retryStamp rows s x) rows s x q → (q ≡ OK → ⊥) → Against
+      go : (q : Result) → Fired ruleA ruleB rows s x q → (q ≡ OK → ⊥) → Against
       go q (by-A p) n = let (r, m, e) = any-some _ rows p in found r m (either-first _ _ e)
-      go q (by-B p) n = let (r, m, e) = any-some _ rows p in found r m (either-second _ _ (either-first _ _ e))
-      go q (by-C p) n = let (r, m, e) = any-some _ rows p in found r m (either-second _ _ (either-second _ _ e))
+      go q (by-B p k) n = let (r, m, e) = any-some _ rows k in found r m (either-second _ _ (either-first _ _ e))
+      go q (by-C p k t) n = let (r, m, e) = any-some _ rows t in found r m (either-second _ _ (either-second _ _ e))
       go q (by-D p k t) n = absurd (n refl)
 
 -- ---- the stamp of a RETRY: what it advises
 
--- the check's is that of its rule B
-pub retry-by : (rows : List Row) (s : ℕ) (x : Body) → retryStamp rows s x ≡ retryBy ruleB rows s x
-unfolding retryStamp retryBy
-retry-by rows s x = refl
-
 module _ (B : Rule) (rows : List Row) (s : ℕ) (x : Body) where
   -- "the greatest": no accepted row that B names lies above it
-  pub advice-greatest : (r : Row) → r ∈ rows → B accepted s x r ≡ true → r .stamp ≤ retryBy B rows s x
-  unfolding retryBy
+  pub advice-greatest : (r : Row) → r ∈ rows → B accepted s x r ≡ true → r .stamp ≤ retryStamp B rows s x
+  unfolding retryStamp
   advice-greatest r m e = greatest-above (λ (q : Row). q .stamp) (those (B accepted s x) rows) r (in-those _ rows r m e)
 
   -- and it is the stamp of one of them, if there is one
-  pub advice-is : any (B accepted s x) rows ≡ true → (r : Row) × (r ∈ rows) × (B accepted s x r ≡ true) × (r .stamp ≡ retryBy B rows s x)
-  unfolding retryBy
+  pub advice-is : any (B accepted s x) rows ≡ true → (r : Row) × (r ∈ rows) × (B accepted s x r ≡ true) × (r .stamp ≡ retryStamp B rows s x)
+  unfolding retryStamp
   advice-is h =
       let (r, m, e) = any-some _ rows h in
       go (those (B accepted s x) rows) refl r (in-those _ rows r m e)
@@ -211,11 +245,11 @@ module _ (B : Rule) (rows : List Row) (s : ℕ) (x : Body) where
     named r b = counted-so B counting committed s x r accepted (committed-accepted r (counted B counting committed s x r b)) b
 
     -- where B fires, the stamp is that of an accepted row
-    pub fired-advice : any (B committed s x) rows ≡ true → (r : Row) × (r ∈ rows) × (B accepted s x r ≡ true) × (r .stamp ≡ retryBy B rows s x)
+    pub fired-advice : any (B committed s x) rows ≡ true → (r : Row) × (r ∈ rows) × (B accepted s x r ≡ true) × (r .stamp ≡ retryStamp B rows s x)
     fired-advice h = let (r, m, b) = any-some _ rows h in advice-is (some-any _ rows r m (named r b))
 
     -- no client is worse off than with the committed rows' stamp
-    pub advice-no-less : greatest (λ (r : Row). r .stamp) (those (B committed s x) rows) ≤ retryBy B rows s x
+    pub advice-no-less : greatest (λ (r : Row). r .stamp) (those (B committed s x) rows) ≤ retryStamp B rows s x
     advice-no-less = greatest-below (λ (r : Row). r .stamp) _ _ (λ r m. let (i, b) = those-of (B committed s x) rows r m in advice-greatest r i (named r b))
 
 -- whom a rule names lies above the stamp
@@ -228,11 +262,11 @@ b-above counts s x r b = overwrites-below s (x .writes) (r .stamp) (r .body .rea
 
 module _ (B : Rule) (above : Above B) (rows : List Row) (s : ℕ) (x : Body) where
   -- where B fires the advice is above s. Not the other way round: Examples.advice-alone
-  pub advice-fires : Counting B → any (B committed s x) rows ≡ true → s < retryBy B rows s x
+  pub advice-fires : Counting B → any (B committed s x) rows ≡ true → s < retryStamp B rows s x
   advice-fires counting h = let (r, m, b, e) = fired-advice B rows s x counting h in let l = above accepted s x r b in omega arith
 
   -- whom B named at s it does not name above the advice, whichever rows count
-  pub advice-clears : (t : ℕ) → retryBy B rows s x < t → (r : Row) → r ∈ rows → B accepted s x r ≡ true → (counts : Row → Bool) → B counts t x r ≡ false
+  pub advice-clears : (t : ℕ) → retryStamp B rows s x < t → (r : Row) → r ∈ rows → B accepted s x r ≡ true → (counts : Row → Bool) → B counts t x r ≡ false
   advice-clears t g r m b counts = go (cases (B counts t x r))
     where
       go : (B counts t x r ≡ true) ⊎ (B counts t x r ≡ false) → B counts t x r ≡ false
@@ -243,7 +277,7 @@ module _ (B : Rule) (above : Above B) (rows : List Row) (s : ℕ) (x : Body) whe
       go (inr h) = h
 
 -- whom B names above the advice, and above s, has read a register that x writes at a version of s or more
-pub advice-newer : (rows : List Row) (s : ℕ) (x : Body) (t : ℕ) → retryStamp rows s x < t → s < t → (r : Row) → r ∈ rows → ruleB accepted t x r ≡ true →
+pub advice-newer : (rows : List Row) (s : ℕ) (x : Body) (t : ℕ) → retryStamp ruleB rows s x < t → s < t → (r : Row) → r ∈ rows → ruleB accepted t x r ≡ true →
     (read : Access) × (read ∈ r .body .reads) × ((write : Access) × (write ∈ x .writes) × (eqb (read .register) (write .register) ≡ true) × (s ≤ read .number))
 unfolding ruleB
 advice-newer rows s x t g l r m b =
@@ -255,7 +289,6 @@ advice-newer rows s x t g l r m b =
     newer read write i j e h (inl o) =
         let named : ruleB accepted s x r ≡ true = both-true (both-left _ _ b) (overwrites-if s (x .writes) (r .stamp) (r .body .reads) read write i j (e, ltb-true _ _ o, omega arith)) in
         let k = advice-greatest ruleB rows s x r m named in
-        let a = retry-by rows s x in
         absurd (omega arith)
 
 -- ---- only accepted rows count
@@ -271,35 +304,36 @@ module _ (A B : Rule) (a-counts : Counting A) (b-counts : Counting B) (test : Ro
       go r (inl k) = h r (prepared-accepted r (counted A a-counts prepared s x r k))
       go r (inr k) = h r (prepared-accepted r (counted B b-counts prepared s x r k))
 
-  -- a check may pass over rows that are not accepted, if its stamp may
-  pub those-by : (retry : List Row → ℕ → Body → ℕ) → retry (those test rows) s x ≡ retry rows s x → checkBy A B retry (those test rows) s x ≡ checkBy A B retry rows s x
+  by-accepted : retryStamp B (those test rows) s x ≡ retryStamp B rows s x
+  unfolding retryStamp
+  by-accepted = rw (those-those (B accepted s x) test (λ r k. h r (counted B b-counts accepted s x r k)) rows)
+
+  -- a check may pass over rows that are not accepted
+  pub those-by : checkBy A B (those test rows) s x ≡ checkBy A B rows s x
   unfolding checkBy
-  those-by retry e = rw (by-committed A a-counts, by-committed B b-counts, e, by-prepared)
+  those-by = rw (by-committed A a-counts, by-committed B b-counts, by-accepted, by-prepared)
 
 -- so one that sees only settled rows may look at all
 pub check-those : (test : Row → Bool) → ((r : Row) → accepted r ≡ true → test r ≡ true) → (rows : List Row) (s : ℕ) (x : Body) → check (those test rows) s x ≡ check rows s x
-unfolding retryStamp
-check-those test h rows s x = check-by (those test rows) s x ∙ those-by ruleA ruleB a-counting b-counting test h rows s x retryStamp retry-those ∙ sym (check-by rows s x)
-  where
-    retry-those : retryStamp (those test rows) s x ≡ retryStamp rows s x
-    retry-those = rw (those-those (ruleB accepted s x) test (λ r k. h r (counted ruleB b-counting accepted s x r k)) rows)
+unfolding check
+check-those = those-by ruleA ruleB a-counting b-counting
 
 -- ---- results of a check keep the rows' rule
 
 -- the stamp of a RETRY is that of a row
-pub stamped-by : (A B : Rule) → Counting B → (rows : List Row) (s : ℕ) (x : Body) → every (λ r. isStamp (r .stamp)) rows ≡ true → resultByRule (checkBy A B (retryBy B) rows s x) ≡ true
+pub stamped-by : (A B : Rule) → Counting B → (rows : List Row) (s : ℕ) (x : Body) → every (λ r. isStamp (r .stamp)) rows ≡ true → resultByRule (checkBy A B rows s x) ≡ true
 unfolding resultByRule
-stamped-by A B counting rows s x h = go (checkBy A B (retryBy B) rows s x) (fired A B (retryBy B) rows s x)
+stamped-by A B counting rows s x h = go (checkBy A B rows s x) (fired A B rows s x)
   where
-    go : (q : Result) → Fired A B (retryBy B rows s x) rows s x q → resultByRule q ≡ true
+    go : (q : Result) → Fired A B rows s x q → resultByRule q ≡ true
     go q (by-A p) = refl
-    go q (by-B p) = let (r, m, b, e) = fired-advice B rows s x counting p in ap isStamp (sym e) ∙ every-one _ rows h r m
-    go q (by-C p) = refl
+    go q (by-B p k) = let (r, m, b, e) = fired-advice B rows s x counting k in ap isStamp (sym e) ∙ every-one _ rows h r m
+    go q (by-C p k t) = refl
     go q (by-D p k t) = refl
 
 pub check-stamped : (rows : List Row) (s : ℕ) (x : Body) → every (λ r. isStamp (r .stamp)) rows ≡ true → resultByRule (check rows s x) ≡ true
-unfolding retryStamp retryBy
-check-stamped rows s x h = ap resultByRule (check-by rows s x) ∙ stamped-by ruleA ruleB b-counting rows s x h
+unfolding check
+check-stamped = stamped-by ruleA ruleB b-counting
 
 row-stamp : (r : Row) → rowByRule r ≡ true → isStamp (r .stamp) ≡ true
 unfolding rowByRule
@@ -309,5 +343,10 @@ row-stamp r h = both-left _ _ h
 abbrev pub CheckByRule : Check → Type 0
 CheckByRule any-check = (rows : List Row) (s : ℕ) (x : Body) → every rowByRule rows ≡ true → resultByRule (any-check rows s x) ≡ true
 
+-- one by two rules is such a check
+pub by-rule-by : (A B : Rule) → Counting B → CheckByRule (checkBy A B)
+by-rule-by A B counting rows s x h = stamped-by A B counting rows s x (all-every _ rows (λ r m. row-stamp r (every-one rowByRule rows h r m)))
+
 pub check-by-rule : CheckByRule check
-check-by-rule rows s x h = check-stamped rows s x (all-every _ rows (λ r m. row-stamp r (every-one rowByRule rows h r m)))
+unfolding check
+check-by-rule = by-rule-by ruleA ruleB b-counting

@@ -1,4 +1,4 @@
--- Computed on the definitions: where each inequality of the check turns, the order of the numbers, one merge and the count case by case.
+-- Computed on the definitions: where each inequality of the checks turns, the order of the numbers, one merge and the count case by case.
 use mathlib.Core.Path.{_≡_, refl}
 use mathlib.Core.Bool.{true, false}
 use mathlib.Core.List.{List, [], _∷_, map}
@@ -10,7 +10,9 @@ use Rattle.rules.specs.Stamps.{Access, Body, isStamp, sameAccesses, same
 use Rattle.rules.specs.Tables.{Result, Result.OK, Result.ABORT, Result.ABSTAIN, Result.RETRY, Prepare, Prepare.noPrepare, Prepare.tentative, Prepare.final, Verdict.commit, Verdict.abort, Outcome, Outcome.noOutcome, Outcome.noted, Outcome.done, sameResult, resultByRule, somethingHeld, Row, Table, normalMode, changingMode, valley}
 use Rattle.rules.specs.Numbers.{Number.badMessage, Number.full, Number.unknown, Number.oldView, numberCode, order, applies, first, number}
 use Rattle.rules.specs.Messages.{held, changed}
-use Rattle.rules.specs.Check.{committed, prepared, accepted, overwrites, ruleA, ruleB, ruleC, retryStamp, check}
+use Rattle.rules.specs.Check.{committed, prepared, accepted, overwrites, ruleA, ruleB, retryStamp, checkBy, check}
+use Rattle.rules.specs.DayOrder.{stale, dayA, common, dayB, dayCheck}
+use Rattle.rules.specs.Answers.{proposalCheck}
 use Rattle.rules.specs.Merge.{used, withStamp, withStamps, stamps, rowsOf, mergedOutcome, finalOf, isAgreed, agreedOf, standing, uncheckedRow, uncheckedRows, toCheck, isSettled, checkedAt, checkedInTurn, mergedRows, mergedTable, areWrong, twoBodies, contradictory, mergeCircumstances, mergeNumber, merge}
 use Rattle.rules.specs.Count.{Heard, Counted.fast, Counted.slow, Counted.wait, Counted.refused, unequalViews, badReplies, agreeing, isFast, unequalFinalHeard, fastBesideFinal, countCircumstances, countNumber, fastOf, finalHeard, greatestRetry, slowResult, decided, counted}
 
@@ -35,22 +37,38 @@ row s x p o = record { stamp = s; body = x; prepare = p; outcome = o }
 
 -- two committed readers above the write: "RETRY with the greatest such s'"
 pub greatest-reader : check (row 30 (reading 5 10) (final OK) (done commit) ∷ row 40 (reading 5 10) noPrepare (done commit) ∷ []) 20 (writing 5) ≡ RETRY 40
-unfolding check retryStamp ruleA ruleB ruleC committed prepared accepted overwrites any those greatest both either
+unfolding check checkBy retryStamp ruleA ruleB committed prepared accepted overwrites any those greatest both either
 greatest-reader = refl
 
 -- a prepared reader alone has a stamp, and B does not fire on it: the converse of Check.advice-fires fails
 pub advice-alone :
     let prepared-reader = row 40 (reading 5 10) (tentative OK) noOutcome in
-    (retryStamp (prepared-reader ∷ []) 20 (writing 5) ≡ 40) × (any (ruleB committed 20 (writing 5)) (prepared-reader ∷ []) ≡ false) × (check (prepared-reader ∷ []) 20 (writing 5) ≡ ABSTAIN)
-unfolding check retryStamp ruleA ruleB ruleC committed prepared accepted overwrites any those greatest both either
+    (retryStamp ruleB (prepared-reader ∷ []) 20 (writing 5) ≡ 40) × (any (ruleB committed 20 (writing 5)) (prepared-reader ∷ []) ≡ false) × (check (prepared-reader ∷ []) 20 (writing 5) ≡ ABSTAIN)
+unfolding check checkBy retryStamp ruleA ruleB committed prepared accepted overwrites any those greatest both either
 advice-alone = (refl, refl, refl)
 
 -- above the advice a reader of a newer version is met: Check.advice-newer says whom, and no more is true
 pub advice-limit :
     let rows = row 30 (reading 5 10) (final OK) (done commit) ∷ row 50 (reading 5 35) (final OK) (done commit) ∷ [] in
     (check rows 20 (writing 5) ≡ RETRY 30) × (check rows 40 (writing 5) ≡ RETRY 50)
-unfolding check retryStamp ruleA ruleB ruleC committed prepared accepted overwrites any those greatest both either
+unfolding check checkBy retryStamp ruleA ruleB committed prepared accepted overwrites any those greatest both either
 advice-limit = (refl, refl)
+
+-- M6 and M9 of 01: an entry is slipped under a later one where a merge checks it, and not by message 1
+pub slipped-under :
+    let wrote = row 10 (writing 5) (final OK) (done commit) ∷ [] in
+    let read = row 30 (reading 5 10) (final OK) (done commit) ∷ [] in
+    (check wrote 8 (reading 5 0) ≡ OK) × (proposalCheck wrote 8 (reading 5 0) ≡ ABORT) × (check read 9 (writing 5) ≡ OK) × (proposalCheck read 9 (writing 5) ≡ RETRY 30)
+unfolding check proposalCheck dayCheck checkBy retryStamp ruleA ruleB dayA dayB stale common committed prepared accepted overwrites any those greatest both either
+slipped-under = (refl, refl, refl, refl)
+
+-- "also above s": A asks nothing of the stamp, so ABORT is as good at one stamp as at another. "any committed read or write of k": a register that T only reads is no k of B's
+pub day-rules :
+    let wrote = row 10 (writing 5) (final OK) (done commit) ∷ [] in
+    let read = row 30 (reading 5 10) (final OK) (done commit) ∷ [] in
+    (dayCheck wrote 20 (reading 5 9) ≡ ABORT) × (dayCheck wrote 20 (reading 5 10) ≡ OK) × (dayCheck wrote 9 (writing 5) ≡ RETRY 10) × (dayCheck wrote 11 (writing 5) ≡ OK) × (dayCheck wrote 9 (writing 4) ≡ OK) × (dayCheck read 20 (reading 5 10) ≡ OK)
+unfolding dayCheck checkBy retryStamp dayA dayB stale common committed prepared accepted any those greatest both either
+day-rules = (refl, refl, refl, refl, refl, refl)
 
 -- ---- the numbers
 
@@ -114,7 +132,7 @@ pub one-merge : merge valley check 7 gathered ≡ some (record {
       ∷ row 85 (reading 4 0) (final ABSTAIN) noOutcome
       ∷ [];
 })
-unfolding both either any count those greatest somePair twice firstOf allOf sameAccesses sameBody sameResult somethingHeld applies first number held changed committed prepared accepted overwrites ruleA ruleB ruleC retryStamp check used withStamp withStamps stamps rowsOf mergedOutcome finalOf isAgreed agreedOf standing uncheckedRow uncheckedRows toCheck isSettled checkedAt checkedInTurn mergedRows mergedTable areWrong twoBodies contradictory mergeCircumstances mergeNumber merge
+unfolding both either any count those greatest somePair twice firstOf allOf sameAccesses sameBody sameResult somethingHeld applies first number held changed committed prepared accepted overwrites ruleA ruleB checkBy retryStamp check used withStamp withStamps stamps rowsOf mergedOutcome finalOf isAgreed agreedOf standing uncheckedRow uncheckedRows toCheck isSettled checkedAt checkedInTurn mergedRows mergedTable areWrong twoBodies contradictory mergeCircumstances mergeNumber merge
 one-merge = refl
 
 -- ---- the count in a group of three

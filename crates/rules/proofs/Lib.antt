@@ -7,6 +7,7 @@ pub mod Groups
 pub mod Numbers
 pub mod NumberExactly
 pub mod Check
+pub mod DayOrder
 pub mod Rows
 pub mod Tables
 pub mod Answers

@@ -114,6 +114,11 @@ same-test true false f g = sym (f refl)
 same-test false true f g = g refl
 same-test false false f g = refl
 
+-- what would have to hold besides does not, so neither does this
+pub so-neither : (a b : Bool) → (a ≡ true → b ≡ true) → b ≡ false → a ≡ false
+so-neither true b h n = impossible (h refl) n
+so-neither false b h n = refl
+
 pub not-false-of : (b : Bool) → b ≡ true → not b ≡ false
 not-false-of b p = rw p refl
 

@@ -6,6 +6,7 @@ use Rattle.rules.specs.Tables.{prepareCode, prepareRetry, outcomeCode, M
 use Rattle.rules.specs.Numbers.{number}
 use Rattle.rules.specs.Messages.{Message, Message.proposePrepare, Message.finalisePrepare, Message.proposeOutcome, Message.finaliseOutcome, Message.changeView, Message.startView, Message.readRegister, kind, Check, held, prepareOf, outcomeOf, tableAfter, found}
 use Rattle.rules.specs.Circumstances.{Room, circumstances}
+use Rattle.rules.specs.DayOrder.{dayCheck}
 
 -- "Reply, 24 bytes: number 0, kind, box, state byte .., last normal view after the call 4, stamp 8, value 8."
 pub record Reply : Type 0 where
@@ -73,3 +74,7 @@ answerNumber M room T m = number (circumstances M room T m)
 -- a box's answer to one message; the check is the one for message 1
 unfoldable pub answer : Model → Room → Check → Table → Message → Answer
 answer M room check T m = cond (eqb (answerNumber M room T m) 0) (taken (tableAfter check T m) m) (refused (answerNumber M room T m) T)
+
+-- the check that boxes answer message 1 by. "The merge keeps the older A and B"
+unfoldable pub proposalCheck : Check
+proposalCheck = dayCheck

@@ -19,6 +19,10 @@ prepared r = both (either (eqb (prepareCode (r .prepare)) 1) (eqb (prepareCode (
 unfoldable pub accepted : Row → Bool
 accepted r = either (committed r) (prepared r)
 
+-- a rule as A and B are: told which rows count, and T's stamp and body, it holds of a row or not
+abbrev pub Rule : Type 0
+Rule = (Row → Bool) → ℕ → Body → Row → Bool
+
 -- a transaction at s read a register k at version v, another at w writes k, and "v < w < s"
 unfoldable pub overwrites : ℕ → List Access → ℕ → List Access → Bool
 overwrites w writes s reads = any (λ read. any (λ write. both (eqb (read .register) (write .register)) (both (ltb (read .number) w) (ltb w s))) writes) reads
@@ -31,17 +35,17 @@ ruleA counts s x r = both (counts r) (overwrites (r .stamp) (r .body .writes) s 
 unfoldable pub ruleB : (Row → Bool) → ℕ → Body → Row → Bool
 ruleB counts s x r = both (counts r) (overwrites s (x .writes) (r .stamp) (r .body .reads))
 
--- "the greatest such s'", mended by 02: "it still fires only on a committed reader, but the stamp returned is the greatest among committed and prepared readers that meet the same inequality"
-unfoldable pub retryStamp : List Row → ℕ → Body → ℕ
-retryStamp rows s x = greatest (λ r. r .stamp) (those (ruleB accepted s x) rows)
+-- of a rule B "the greatest such s'", mended by 02: "it still fires only on a committed reader, but the stamp returned is the greatest among committed and prepared readers that meet the same inequality"
+unfoldable pub retryStamp : Rule → List Row → ℕ → Body → ℕ
+retryStamp B rows s x = greatest (λ r. r .stamp) (those (B accepted s x) rows)
 
--- "C. A or B holds with prepared for committed", of one row
-unfoldable pub ruleC : ℕ → Body → Row → Bool
-ruleC s x r = either (ruleA prepared s x r) (ruleB prepared s x r)
+-- "For transaction T at stamp s, in this order": A "ABORT", B "RETRY with the greatest such s'", "C. A or B holds with prepared for committed: ABSTAIN.", "D. Otherwise OK.", by any two rules A and B
+unfoldable pub checkBy : Rule → Rule → List Row → ℕ → Body → Result
+checkBy A B rows s x =
+    cond (any (A committed s x) rows) ABORT
+    (cond (any (B committed s x) rows) (RETRY (retryStamp B rows s x)) (cond (any (λ r. either (A prepared s x r) (B prepared s x r)) rows) ABSTAIN OK))
 
--- "For transaction T at stamp s, in this order": A "ABORT", B "RETRY with the greatest such s'", C "ABSTAIN", "D. Otherwise OK."
+-- the check by its rules A and B, which is the merge's
 -- "Document 001 also refuses writes under later accepted writes; its footnote allows the relaxation taken here."
 unfoldable pub check : List Row → ℕ → Body → Result
-check rows s x =
-    cond (any (ruleA committed s x) rows) ABORT
-    (cond (any (ruleB committed s x) rows) (RETRY (retryStamp rows s x)) (cond (any (ruleC s x) rows) ABSTAIN OK))
+check = checkBy ruleA ruleB

@@ -13,8 +13,9 @@ pub mod Circumstances
 -- 'Messages to a box': the seven messages and the table after each; then the answer whole, with its reply
 pub mod Messages
 pub mod Answers
--- 'The check'
+-- 'The check'; then 02's for messages 1
 pub mod Check
+pub mod DayOrder
 -- 'The merge for view v'
 pub mod Merge
 -- 'The coordinator's count'

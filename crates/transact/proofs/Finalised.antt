@@ -12,8 +12,7 @@ use Rattle.wire.specs.Inner.ByteLists.{AllBytes}
 use Rattle.rules.specs.Tables.{Result, Prepare.final, Verdict, Outcome.done, resultCode, verdictCode, Model, Table}
 use Rattle.rules.specs.Messages.{Message, Message.finalisePrepare, Message.finaliseOutcome, held, withPrepare, withOutcome, withRows, prepareFinalised, outcomeFinalised, tableAfter}
 use Rattle.rules.specs.Circumstances.{isChanging, forOtherView, prepareNotHeld, outcomeNotHeld, heldUnequalFinal, heldOppositeOutcome, unequalFinal, oppositeOutcome}
-use Rattle.rules.specs.Answers.{refusal, replyFrom, stateByte, replyStamp, replyValue}
-use Rattle.rules.specs.Check.{check}
+use Rattle.rules.specs.Answers.{refusal, replyFrom, stateByte, replyStamp, replyValue, proposalCheck}
 use Rattle.rules.proofs.Logic.{cases}
 use Rattle.rows.specs.declared.row.RowFields.{RowFields}
 use Rattle.rows.specs.declared.lookup.Place.{Place}
@@ -148,11 +147,11 @@ module _ (M : Model) (s : List ℕ) (stamp v : ℕ) (bytes : AllBytes s) (has-im
     pub prepare-against : (here .prepare ≡ 0 → ⊥) → unequalFinal result (prepareNumbered (here .prepare) (here .retry)) ≡ true → Kept M finalising s (replyAs (refusal 6)) s
     prepare-against n e = against-refused M s stamp v has-image finalising (prepareNotHeld (tableAt formatOne s) stamp) (heldUnequalFinal (tableAt formatOne s) stamp result) (number-2 M (tableAt formatOne s) stamp v result) unheld-prepare i found (missing-is ∙ ne-eqb _ _ n) (against-is ∙ e)
 
-    after : tableAfter check (tableAt formatOne s) finalising ≡ onRow i (withPrepare (prepareNumbered (code + 4) retry)) (tableAt formatOne s)
+    after : tableAfter proposalCheck (tableAt formatOne s) finalising ≡ onRow i (withPrepare (prepareNumbered (code + 4) retry)) (tableAt formatOne s)
     unfolding tableAfter prepareFinalised
     after = ap (withRows (tableAt formatOne s)) (sym (changed-here M s stamp i bytes has-image place (withPrepare (final result)) (withPrepare (prepareNumbered (code + 4) retry)) (rw (final-numbered code retry byCode))))
 
-    reply : record { number = 0; kind = 2; boxnumber = headerAt s .boxnumber; state = code + 4; view = headerAt s .view; stamp = stamp; value = retry } ≡ replyAs (replyFrom (tableAfter check (tableAt formatOne s) finalising) finalising)
+    reply : record { number = 0; kind = 2; boxnumber = headerAt s .boxnumber; state = code + 4; view = headerAt s .view; stamp = stamp; value = retry } ≡ replyAs (replyFrom (tableAfter proposalCheck (tableAt formatOne s) finalising) finalising)
     unfolding replyFrom stateByte replyStamp replyValue tableAfter prepareFinalised tableAt
     reply =
         let (x, y) = result-numbered code retry byCode in
@@ -200,11 +199,11 @@ module _ (M : Model) (s : List ℕ) (stamp v : ℕ) (bytes : AllBytes s) (has-im
       pub outcome-against : oppositeOutcome verdict (outcomeNumbered (fieldsAt s (24 + 24 * i) .outcome)) ≡ true → Kept M concluding s (replyAs (refusal 6)) s
       outcome-against e = against-refused M s stamp v has-image concluding (outcomeNotHeld (tableAt formatOne s) stamp) (heldOppositeOutcome (tableAt formatOne s) stamp verdict) (number-4 M (tableAt formatOne s) stamp v verdict) unheld-outcome i found (outcome-missing-is ∙ ne-eqb _ _ some-held) (opposite-is ∙ e)
 
-      outcome-after : tableAfter check (tableAt formatOne s) concluding ≡ onRow i (withOutcome (outcomeNumbered (code + 2))) (tableAt formatOne s)
+      outcome-after : tableAfter proposalCheck (tableAt formatOne s) concluding ≡ onRow i (withOutcome (outcomeNumbered (code + 2))) (tableAt formatOne s)
       unfolding tableAfter outcomeFinalised
       outcome-after = ap (withRows (tableAt formatOne s)) (sym (changed-here M s stamp i bytes has-image place-of (withOutcome (done verdict)) (withOutcome (outcomeNumbered (code + 2))) (rw (done-numbered code byCode))))
 
-      outcome-reply : record { number = 0; kind = 4; boxnumber = headerAt s .boxnumber; state = code + 2; view = headerAt s .view; stamp = stamp; value = 0 } ≡ replyAs (replyFrom (tableAfter check (tableAt formatOne s) concluding) concluding)
+      outcome-reply : record { number = 0; kind = 4; boxnumber = headerAt s .boxnumber; state = code + 2; view = headerAt s .view; stamp = stamp; value = 0 } ≡ replyAs (replyFrom (tableAfter proposalCheck (tableAt formatOne s) concluding) concluding)
       unfolding replyFrom stateByte replyStamp replyValue tableAfter outcomeFinalised tableAt
       outcome-reply =
           let x = verdict-numbered code byCode in

@@ -10,9 +10,8 @@ use Rattle.rules.specs.Stamps.{Body}
 use Rattle.rules.specs.Tables.{Row, Result, Result.OK, Result.ABORT, Result.ABSTAIN, Result.RETRY, Prepare, Prepare.noPrepare, Prepare.tentative, Prepare.final, Verdict.commit, Verdict.abort, Outcome, Outcome.noOutcome, Outcome.noted, Outcome.done, Model, valley, resultCode, resultRetry, prepareCode, prepareRetry, outcomeCode, verdictCode, resultByRule, retryByRule, somethingHeld}
 use Rattle.rules.specs.Messages.{Message, Message.proposePrepare, Message.proposeOutcome, held, withPrepare, withOutcome, withRows, answered, notedAs, prepareProposed, outcomeProposed, tableAfter}
 use Rattle.rules.specs.Circumstances.{heldOppositeOutcome, oppositeOutcome}
-use Rattle.rules.specs.Answers.{refusal, replyFrom, stateByte, replyStamp, replyValue}
-use Rattle.rules.specs.Check.{check}
-use Rattle.rules.proofs.Check.{check-by-rule}
+use Rattle.rules.specs.Answers.{refusal, replyFrom, stateByte, replyStamp, replyValue, proposalCheck}
+use Rattle.rules.proofs.Answers.{proposal-by-rule}
 use Rattle.rules.proofs.Logic.{impossible}
 use Rattle.rules.proofs.Tables.{RowByRule, row-facts}
 use Rattle.rows.specs.declared.row.RowFields.{RowFields}
@@ -69,13 +68,13 @@ module _ (M : Model) (s : List ℕ) (stamp code : ℕ) (x : Body) (has-image : B
         (opposed-is ∙ e)
 
     module _ (byte : ℕ) (is : outcomeNumbered byte ≡ notedAs (verdictNumbered code) (outcomeNumbered (fieldsAt s (24 + 24 * i) .outcome))) (low : byte ≤ 4) where
-      noted-after : onRow i (withOutcome (outcomeNumbered byte)) (tableAt formatOne s) ≡ tableAfter check (tableAt formatOne s) concluding
+      noted-after : onRow i (withOutcome (outcomeNumbered byte)) (tableAt formatOne s) ≡ tableAfter proposalCheck (tableAt formatOne s) concluding
       unfolding tableAfter outcomeProposed rowOf
       noted-after =
           rw (held-here valley s stamp i bytes has-image place-of)
           (ap (withRows (tableAt formatOne s)) (changed-here valley s stamp i bytes has-image place-of (λ r. withOutcome (notedAs (verdictNumbered code) (r .outcome)) r) (withOutcome (outcomeNumbered byte)) (rw is)))
 
-      noted-reply : doneReply (headerAt s) 3 byte stamp 0 ≡ replyAs (replyFrom (tableAfter check (tableAt formatOne s) concluding) concluding)
+      noted-reply : doneReply (headerAt s) 3 byte stamp 0 ≡ replyAs (replyFrom (tableAfter proposalCheck (tableAt formatOne s) concluding) concluding)
       unfolding replyFrom stateByte replyStamp replyValue tableAfter outcomeProposed tableAt rowOf
       noted-reply =
           let t = held-then valley s stamp i bytes has-image place-of (λ r. withOutcome (notedAs (verdictNumbered code) (r .outcome)) r) (λ r. refl) in
@@ -97,11 +96,11 @@ module _ (M : Model) (s : List ℕ) (stamp code : ℕ) (x : Body) (has-image : B
     unheld-here : held (tableAt formatOne s .rows) stamp ≡ none
     unheld-here = absent-none (tableAt formatOne s .rows) stamp i (new-clear M (tableAt formatOne s) stamp x i found .1)
 
-    noted-new-after : adding (rowOf m g) (tableAt formatOne s) ≡ tableAfter check (tableAt formatOne s) concluding
+    noted-new-after : adding (rowOf m g) (tableAt formatOne s) ≡ tableAfter proposalCheck (tableAt formatOne s) concluding
     unfolding tableAfter outcomeProposed
     noted-new-after = rw (unheld-here, noted-row)
 
-    noted-new-reply : doneReply (headerAt s) 3 code stamp 0 ≡ replyAs (replyFrom (tableAfter check (tableAt formatOne s) concluding) concluding)
+    noted-new-reply : doneReply (headerAt s) 3 code stamp 0 ≡ replyAs (replyFrom (tableAfter proposalCheck (tableAt formatOne s) concluding) concluding)
     unfolding replyFrom stateByte replyStamp replyValue tableAfter outcomeProposed tableAt
     noted-new-reply =
         let t = held-new (record { stamp = stamp; body = x; prepare = noPrepare; outcome = noted (verdictNumbered code) }) (tableAt formatOne s .rows) unheld-here in
@@ -196,13 +195,13 @@ module _ (s : List ℕ) (stamp i : ℕ) (bytes : AllBytes s) (has-image : Begins
   answered-storable = (stored .low, stored .byCode)
 
   module _ (M : Model) (x : Body) (found : toPropose M (tableAt formatOne s) stamp x ≡ Held i) where
-    answered-after : onRow i (withPrepare (prepareNumbered byte (here .retry))) (tableAt formatOne s) ≡ tableAfter check (tableAt formatOne s) (proposePrepare stamp x)
+    answered-after : onRow i (withPrepare (prepareNumbered byte (here .retry))) (tableAt formatOne s) ≡ tableAfter proposalCheck (tableAt formatOne s) (proposePrepare stamp x)
     unfolding tableAfter prepareProposed
     answered-after =
         rw (held-here valley s stamp i bytes has-image held-at)
         (ap (withRows (tableAt formatOne s)) (changed-here valley s stamp i bytes has-image held-at (λ r. withPrepare (answered (r .prepare) (r .outcome)) r) (withPrepare (prepareNumbered byte (here .retry))) (ap (λ p. withPrepare p row) (sym (stored .numbered)))))
 
-    answered-reply : doneReply (headerAt s) 1 byte stamp (here .retry) ≡ replyAs (replyFrom (tableAfter check (tableAt formatOne s) (proposePrepare stamp x)) (proposePrepare stamp x))
+    answered-reply : doneReply (headerAt s) 1 byte stamp (here .retry) ≡ replyAs (replyFrom (tableAfter proposalCheck (tableAt formatOne s) (proposePrepare stamp x)) (proposePrepare stamp x))
     unfolding replyFrom stateByte replyStamp replyValue tableAfter prepareProposed tableAt
     answered-reply =
         let t = held-then valley s stamp i bytes has-image held-at (λ r. withPrepare (answered (r .prepare) (r .outcome)) r) (λ r. refl) in
@@ -219,30 +218,30 @@ module _ (M : Model) (s : List ℕ) (stamp : ℕ) (x : Body) (has-image : Begins
   prepare-proposal-refused k e = proposal-refused M s stamp x (image-holds valley s has-image) (proposePrepare stamp x) false (number-1 M (tableAt formatOne s) stamp x) (λ z. refl) k e
 
   abbrev result : Result
-  result = check (tableAt formatOne s .rows) stamp x
+  result = proposalCheck (tableAt formatOne s .rows) stamp x
 
-  pub checked-storable : (resultCode (check (tableAt formatOne s .rows) stamp x) ≤ 8) × (retryByCode (resultCode (check (tableAt formatOne s .rows) stamp x)) (resultRetry (check (tableAt formatOne s .rows) stamp x)) ≡ true)
+  pub checked-storable : (resultCode (proposalCheck (tableAt formatOne s .rows) stamp x) ≤ 8) × (retryByCode (resultCode (proposalCheck (tableAt formatOne s .rows) stamp x)) (resultRetry (proposalCheck (tableAt formatOne s .rows) stamp x)) ≡ true)
   unfolding retryByRule
   checked-storable =
-      (prepare-code-limit (tentative result), retry-of-code (tentative result) ∙ check-by-rule (tableAt formatOne s .rows) stamp x (image-regular valley s has-image .0 .rows))
+      (prepare-code-limit (tentative result), retry-of-code (tentative result) ∙ proposal-by-rule (tableAt formatOne s .rows) stamp x (image-regular valley s has-image .0 .rows))
 
   module _ (i : ℕ) (m : List ℕ) (g : RowFields) (found : toPropose M (tableAt formatOne s) stamp x ≡ New i)
-      (itsStamp : g .stamp ≡ stamp) (itsBody : bodyAt m (g .offset) (g .reads) (g .writes) ≡ x) (itsPrepare : g .prepare ≡ resultCode (check (tableAt formatOne s .rows) stamp x)) (itsRetry : g .retry ≡ resultRetry (check (tableAt formatOne s .rows) stamp x)) (itsOutcome : g .outcome ≡ 0) where
-    checked-row : rowOf m g ≡ record { stamp = stamp; body = x; prepare = tentative (check (tableAt formatOne s .rows) stamp x); outcome = noOutcome }
+      (itsStamp : g .stamp ≡ stamp) (itsBody : bodyAt m (g .offset) (g .reads) (g .writes) ≡ x) (itsPrepare : g .prepare ≡ resultCode (proposalCheck (tableAt formatOne s .rows) stamp x)) (itsRetry : g .retry ≡ resultRetry (proposalCheck (tableAt formatOne s .rows) stamp x)) (itsOutcome : g .outcome ≡ 0) where
+    checked-row : rowOf m g ≡ record { stamp = stamp; body = x; prepare = tentative (proposalCheck (tableAt formatOne s .rows) stamp x); outcome = noOutcome }
     unfolding rowOf outcomeNumbered
     checked-row = rw (itsStamp, itsBody, itsPrepare, itsRetry, itsOutcome, prepare-read (tentative result))
 
     unheld-new : held (tableAt formatOne s .rows) stamp ≡ none
     unheld-new = absent-none (tableAt formatOne s .rows) stamp i (new-clear M (tableAt formatOne s) stamp x i found .1)
 
-    checked-after : adding (rowOf m g) (tableAt formatOne s) ≡ tableAfter check (tableAt formatOne s) (proposePrepare stamp x)
+    checked-after : adding (rowOf m g) (tableAt formatOne s) ≡ tableAfter proposalCheck (tableAt formatOne s) (proposePrepare stamp x)
     unfolding tableAfter prepareProposed
     checked-after = rw (unheld-new, checked-row)
 
-    checked-reply : doneReply (headerAt s) 1 (g .prepare) stamp (g .retry) ≡ replyAs (replyFrom (tableAfter check (tableAt formatOne s) (proposePrepare stamp x)) (proposePrepare stamp x))
+    checked-reply : doneReply (headerAt s) 1 (g .prepare) stamp (g .retry) ≡ replyAs (replyFrom (tableAfter proposalCheck (tableAt formatOne s) (proposePrepare stamp x)) (proposePrepare stamp x))
     unfolding replyFrom stateByte replyStamp replyValue tableAfter prepareProposed tableAt
     checked-reply =
-        let t = held-new (record { stamp = stamp; body = x; prepare = tentative (check (tableAt formatOne s .rows) stamp x); outcome = noOutcome }) (tableAt formatOne s .rows) unheld-new in
+        let t = held-new (record { stamp = stamp; body = x; prepare = tentative (proposalCheck (tableAt formatOne s .rows) stamp x); outcome = noOutcome }) (tableAt formatOne s .rows) unheld-new in
         rw (unheld-new, t, itsPrepare, itsRetry)
 
     pub checked-taken : Kept M (proposePrepare stamp x) s (doneReply (headerAt s) 1 (g .prepare) stamp (g .retry)) (edited formatOne (adding (rowOf m g)) s)

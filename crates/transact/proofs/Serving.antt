@@ -10,8 +10,7 @@ use Rattle.rules.specs.Tables.{Result, Verdict, Model, Table}
 use Rattle.rules.specs.Numbers.{applies, first, number}
 use Rattle.rules.specs.Messages.{Message, Message.proposePrepare, Message.finalisePrepare, Message.proposeOutcome, Message.finaliseOutcome, Message.changeView, Message.startView, Message.readRegister, tableAfter}
 use Rattle.rules.specs.Circumstances.{belowLimit, furtherCircumstances, isChanging, heldWithOtherBody, heldUnequalFinal, heldOppositeOutcome, newButFull, prepareNotHeld, outcomeNotHeld, forOtherView, changesToOldView, startsOldView}
-use Rattle.rules.specs.Answers.{Answer, refusal, refused, taken, replyFrom}
-use Rattle.rules.specs.Check.{check}
+use Rattle.rules.specs.Answers.{Answer, refusal, refused, taken, replyFrom, proposalCheck}
 use Rattle.rules.proofs.Logic.{either-none}
 use Rattle.table.specs.Images.{formatOne}
 use Rattle.table.specs.Parse.{tableAt}
@@ -76,13 +75,13 @@ module _ (M : Model) (m : Message) (s : List ℕ) where
       let same = refused-is k other e in
       (ap (λ (a : Answer). replyAs (a .reply)) (sym same), sym (edited-same formatOne (λ T. served M T m .table) s holds (ap (λ (a : Answer). a .table) same)))
 
-  taken-is : servedNumber M (tableAt formatOne s) m ≡ 0 → served M (tableAt formatOne s) m ≡ taken (tableAfter check (tableAt formatOne s) m) m
+  taken-is : servedNumber M (tableAt formatOne s) m ≡ 0 → served M (tableAt formatOne s) m ≡ taken (tableAfter proposalCheck (tableAt formatOne s) m) m
   unfolding served
   taken-is e = rw e
 
   -- taken: the reply is that of the table after it, and so is the buffer
-  pub kept-taken : (change : Table → Table) → servedNumber M (tableAt formatOne s) m ≡ 0 → change (tableAt formatOne s) ≡ tableAfter check (tableAt formatOne s) m →
-      Kept M m s (replyAs (replyFrom (tableAfter check (tableAt formatOne s) m) m)) (edited formatOne change s)
+  pub kept-taken : (change : Table → Table) → servedNumber M (tableAt formatOne s) m ≡ 0 → change (tableAt formatOne s) ≡ tableAfter proposalCheck (tableAt formatOne s) m →
+      Kept M m s (replyAs (replyFrom (tableAfter proposalCheck (tableAt formatOne s) m) m)) (edited formatOne change s)
   unfolding taken
   kept-taken change e same =
       let is = taken-is e in

@@ -17,7 +17,7 @@ ghost use Rattle.rules.specs.Stamps.{Body, isStamp, countsByRule};
 ghost use Rattle.rules.specs.Tables.{Model, valley};
 ghost use Rattle.rules.specs.Messages.{Message.proposePrepare, Message.finalisePrepare};
 ghost use Rattle.rules.specs.Circumstances.{unequalFinal};
-ghost use Rattle.rules.specs.Check.{check};
+ghost use Rattle.rules.specs.Answers.{proposalCheck};
 ghost use Rattle.rows.specs.Bytes.{bodyLength};
 ghost use Rattle.rows.specs.Fields.{rowLength, resultNumbered, prepareNumbered, retryByCode};
 ghost use Rattle.rows.specs.Read.{bodyAt};
@@ -73,13 +73,13 @@ fn answer_held(table: &mut [u8], index: usize, stamp: u64) -> Reply
     }
 }
 
-// The check's result for a stamp that the table does not hold: its body lies in the message.
+// The result that message 1 gets for a stamp that the table does not hold: its body lies in the message.
 fn check_new(table: &[u8], message: &[u8], row: RowFields) -> Checked
     requires { ⌜ BeginsWithImage valley (now table) × BodyInside (now message) row ⌝ }
-    ensures { λ r. ⌜ r ≡ checkedAs (check (tableAt formatOne (now (table .entry)) .rows) (row .stamp) (bodyAt (now (message .entry)) (row .offset) (row .reads) (row .writes))) ⌝ }
+    ensures { λ r. ⌜ r ≡ checkedAs (proposalCheck (tableAt formatOne (now (table .entry)) .rows) (row .stamp) (bodyAt (now (message .entry)) (row .offset) (row .reads) (row .writes))) ⌝ }
 {
     let h = header::read(table);
-    checks::pass::check(
+    checks::day::check(
         table,
         header::LENGTH,
         h.rows as usize,

@@ -8,13 +8,12 @@ use lib.Dec.{eqb}
 use lib.ListN.{length}
 use Rattle.wire.specs.Parts.{replaced}
 use Rattle.rules.specs.Tables.{Table, Model}
-use Rattle.rules.specs.Circumstances.{belowLimit}
-use Rattle.rules.specs.Answers.{Answer, answer}
-use Rattle.rules.specs.Check.{check}
+use Rattle.rules.specs.Answers.{Answer}
 use Rattle.table.specs.Images.{formatOne, image}
 use Rattle.table.specs.Parse.{parse}
 use Rattle.boxes.specs.Inner.OneBuffer.{bufferOf}
-use Rattle.history.specs.Survival.{_∈_, Group, Event.sends, Event.arrives, step}
+use Rattle.history.specs.Survival.{_∈_, Group, Event.sends, Event.arrives}
+use Rattle.history_cases.specs.Today.{answer, step}
 use Rattle.group.specs.Inner.StandIns.{said}
 
 -- each box's buffer is long enough and begins with the image of its table in the group, which is a table of the group and one that boxes have had
@@ -33,11 +32,11 @@ pub record HoldsLent (M : Model) (G : Group) (tables : List ℕ) : Type 0 where
 
 -- bytes are sent to a box, and arrive at once: two steps of the history
 abbrev pub afterMessage : Model → Group → ℕ → List ℕ → Group
-afterMessage M G box bytes = step M belowLimit check (step M belowLimit check G (sends box (said M (G .n) bytes))) (arrives (length (G .sent)))
+afterMessage M G box bytes = step M (step M G (sends box (said M (G .n) bytes))) (arrives (length (G .sent)))
 
 -- what the box answers
 abbrev pub answerTo : Model → Group → ℕ → List ℕ → Answer
-answerTo M G box bytes = answer M belowLimit check (G .table box) (said M (G .n) bytes)
+answerTo M G box bytes = answer M (G .table box) (said M (G .n) bytes)
 
 -- a merge leaves this number and this output buffer, from one that held `out`: of a table, 0 and its image; of none, a refusal and what was there
 abbrev pub Leaves : Model → List ℕ → ℕ → List ℕ → Option Table → Type 0

@@ -8,8 +8,7 @@ use Rattle.rules.specs.Tables.{Model, Table}
 use Rattle.rules.specs.Numbers.{number}
 use Rattle.rules.specs.Messages.{Message, Message.proposePrepare, Message.finalisePrepare, Message.proposeOutcome, Message.finaliseOutcome, Message.changeView, Message.startView, Message.readRegister, tableAfter}
 use Rattle.rules.specs.Circumstances.{belowLimit, furtherCircumstances}
-use Rattle.rules.specs.Answers.{Answer, refused, taken}
-use Rattle.rules.specs.Check.{check}
+use Rattle.rules.specs.Answers.{Answer, refused, taken, proposalCheck}
 use Rattle.table.specs.Images.{formatOne}
 use Rattle.table.specs.Parse.{tableAt}
 use Rattle.edit.specs.Edited.{edited}
@@ -21,7 +20,7 @@ unfoldable pub servedNumber : Model → Table → Message → ℕ
 servedNumber M T m = number (furtherCircumstances M belowLimit T m)
 
 unfoldable pub served : Model → Table → Message → Answer
-served M T m = cond (eqb (servedNumber M T m) 0) (taken (tableAfter check T m) m) (refused (servedNumber M T m) T)
+served M T m = cond (eqb (servedNumber M T m) 0) (taken (tableAfter proposalCheck T m) m) (refused (servedNumber M T m) T)
 
 -- the reply, by the table that the buffer begins with
 abbrev pub servedReply : Model → Message → List ℕ → Reply

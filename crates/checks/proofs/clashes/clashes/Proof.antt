@@ -1,5 +1,4 @@
 use mathlib.Core.Path.{_≡_}
-use Prim.Native.Nat.{_≤_}
 use native.Mathlib.Nat.{zero-add}
 use native.Mathlib.Omega.{arith}
 use borrow.Author.Needs.{needs}
@@ -8,22 +7,20 @@ use Rattle.checks.proofs.Registers.{clash-below, clash-above, clash-lev
 use Rattle.checks.proofs.clashes.clashes.Statement.{statement}
 use Rattle.checks.proofs.clashes.clashes.Tie as tie
 
-overwrites-requires : tie.Need-overwrites-requires
-overwrites-requires c κs = search needs
+stale-requires : tie.Need-stale-requires
+stale-requires c κs = search needs
 
 returns : tie.Need-returns
 unfolding bodyAt
-returns c = rw (clash-below _ _ _ _ (c .before .if1 .taken), zero-add) (c .overwrites .ensures)
+returns c = rw (clash-below _ _ _ _ (c .before .if1 .taken), zero-add) (c .stale .ensures)
 
-overwrites-requires-2 : tie.Need-overwrites-requires-2
-overwrites-requires-2 c κs = search needs
+stale-requires-2 : tie.Need-stale-requires-2
+stale-requires-2 c κs = search needs
 
 returns-2 : tie.Need-returns-2
 unfolding bodyAt
 returns-2 c =
-    let a = c .before .before .before .before .before .args in
-    let l : a .stamp ≤ a .other = omega (arith, c .before .if2 .taken) in
-    rw (clash-above _ _ _ _ l, zero-add) (c .overwrites2 .ensures)
+    rw (clash-above _ _ _ _ (c .before .if2 .taken), zero-add) (c .stale2 .ensures)
 
 returns-3 : tie.Need-returns-3
 returns-3 c =
@@ -33,4 +30,4 @@ returns-3 c =
 
 pub clashes-spec : {M : Type 1} → statement M
 clashes-spec =
-    tie.close (tie.spec overwrites-requires returns overwrites-requires-2 returns-2 returns-3)
+    tie.close (tie.spec stale-requires returns stale-requires-2 returns-2 returns-3)

@@ -1,27 +1,23 @@
 -- The rows from i on were passed: the running answers are what they say.
-use mathlib.Core.Path.{_≡_, sym, ap, _∙_}
-use Prim.Native.Nat.{_+_, _-_, _*_, _≤_}
+use mathlib.Core.Path.{_∙_}
+use Prim.Native.Nat.{_-_, _≤_}
 use native.Mathlib.Omega.{arith}
 use denote.Ref.{now}
-use Rattle.rows.specs.Read.{bodyAt, rowsAt}
-use Rattle.checks.specs.declared.pass.Seen.{Seen}
-use Rattle.checks.specs.Inner.Given.{checkedAs}
-use Rattle.checks.specs.Inner.Passed.{seenOf, answerOf}
-use Rattle.checks.proofs.Steps.{rows-step, rows-none, rows-all}
-use Rattle.checks.proofs.Rounds.{seen-step, seen-none, answer-check}
+use Rattle.rules.specs.Check.{ruleA, ruleB, check}
+use Rattle.rules.proofs.Check.{a-counting, b-counting}
+use Rattle.rows.specs.Read.{bodyAt}
+use Rattle.checks.proofs.Rounds.{SeenFrom, pass-begins, pass-goes-on, pass-ends}
 use Rattle.checks.proofs.pass.check.Statement.{statement}
 use Rattle.checks.proofs.pass.check.Tie as tie
 
 abbrev Inv-loop : tie.InvT-loop
-Inv-loop image begin rows stamp body reads writes seen₀ i₀ seen i = (i ≤ rows) × (seen ≡ seenOf stamp (bodyAt body 0 reads writes) (rowsAt image (begin + 24 * i) (rows - i)))
+Inv-loop image begin rows stamp body reads writes seen₀ i₀ seen i = (i ≤ rows) × SeenFrom ruleA ruleB a-counting b-counting image begin rows stamp (bodyAt body 0 reads writes) i seen
 
 abbrev μ-loop : tie.MeasureT-loop
 μ-loop image begin rows stamp body reads writes seen₀ i₀ seen i = i
 
 loop-holds : tie.Need-loop-holds Inv-loop μ-loop
-loop-holds c =
-    let a = c .before .before .args in
-    (omega arith, sym (ap (seenOf _ _) (rows-none (now (a .image)) _ (a .rows)) ∙ seen-none _ _))
+loop-holds c = let a = c .before .before .args in (omega arith, pass-begins ruleA ruleB a-counting b-counting (now (a .image)) (a .begin) (a .rows) (a .stamp) (bodyAt (now (a .body)) 0 (a .reads) (a .writes)))
 
 sub-i : tie.Need-sub-i Inv-loop μ-loop
 sub-i c = omega arith
@@ -42,21 +38,18 @@ loop-again c =
     let l = c .before .before .before in
     let a = l .before .before .before .args in
     let x = bodyAt (now (a .body)) 0 (a .reads) (a .writes) in
-    let step = rows-step (now (a .image)) (a .begin) (a .rows) (l .loop .i) (c .before .before .loop-test .taken) (l .loop .inv .0) in
-    (omega arith, c .with-row .ensures ∙ rw (c .before .row-at .ensures, l .loop .inv .1) (sym (ap (seenOf (a .stamp) x) step ∙ seen-step (a .stamp) x _ _)))
+    (omega arith, c .with-row .ensures ∙ rw (c .before .row-at .ensures) (pass-goes-on ruleA ruleB a-counting b-counting (now (a .image)) (a .begin) (a .rows) (a .stamp) x (l .loop .i) (l .loop .seen) (c .before .before .loop-test .taken) (l .loop .inv .0) (l .loop .inv .1)))
 
 answer-requires : tie.Need-answer-requires Inv-loop μ-loop
 answer-requires c κs = tt
 
 returns : tie.Need-returns Inv-loop μ-loop
+unfolding check
 returns c =
     let l = c .before .before in
     let a = l .before .before .before .args in
     let x = bodyAt (now (a .body)) 0 (a .reads) (a .writes) in
-    let all = rows-all (now (a .image)) (a .begin) (a .rows) (l .loop .i) (omega arith) in
-    c .answer .ensures
-    ∙ ap (λ (seen : Seen). checkedAs (answerOf seen)) (l .loop .inv .1 ∙ ap (seenOf (a .stamp) x) all)
-    ∙ ap checkedAs (answer-check (a .stamp) x (rowsAt (now (a .image)) (a .begin) (a .rows)))
+    c .answer .ensures ∙ pass-ends ruleA ruleB a-counting b-counting (now (a .image)) (a .begin) (a .rows) (a .stamp) x (l .loop .i) (l .loop .seen) (omega arith) (l .loop .inv .1)
 
 pub check-spec : {M : Type 1} → statement M
 check-spec =

@@ -3,6 +3,7 @@ use native.Mathlib.Omega.{arith}
 use denote.Ref.{now}
 use borrow.Author.Needs.{needs}
 use Rattle.rules.specs.Tables.{valley}
+use Rattle.rules.specs.Answers.{proposalCheck}
 use Rattle.rows.proofs.Turns.{length-body-part, body-of-part}
 use Rattle.table.proofs.Images.{valley-sound}
 use Rattle.table.specs.Images.{formatOne}
@@ -33,6 +34,7 @@ check-requires c κs = let p = (c .before .before .before .before .before .befor
     rw ((c .before .before .before .before) .read .ensures, (c .before .before) .body-of .ensures) (rows-inside valley (now (p .args .table)) valley-sound (p .pre .0), omega (arith, l))
 
 returns : tie.Need-returns
+unfolding proposalCheck
 returns c = let p = (c .before .before .before .before .before .before .before .before) in
     rw (c .check .ensures, (c .before .before .before .before .before) .read .ensures, (c .before .before .before) .body-of .ensures, body-of-part (now (p .args .message)) (p .args .row) (p .pre .1), holds-rows-at formatOne (now (p .args .table)))
 

@@ -8,20 +8,20 @@ use native.Mathlib.Omega.{arith}
 use borrow.Author.Needs.{needs}
 use denote.Ref.{now}
 use Rattle.rules.specs.Tests.{either}
-use Rattle.rules.specs.Check.{overwrites}
+use Rattle.rules.specs.DayOrder.{stale}
 use Rattle.rows.specs.Read.{accessAt, accessOf, accessesAt}
 use Rattle.checks.proofs.Steps.{accesses-step, accesses-end}
-use Rattle.checks.proofs.Registers.{early, early-found, early-not, isThere, overwrites-step, overwrites-end}
-use Rattle.checks.proofs.clashes.overwrites.Statement.{statement}
-use Rattle.checks.proofs.clashes.overwrites.Tie as tie
+use Rattle.checks.proofs.Registers.{early, early-found, early-not, isThere, stale-step, stale-end}
+use Rattle.checks.proofs.clashes.stale.Statement.{statement}
+use Rattle.checks.proofs.clashes.stale.Tie as tie
 
 abbrev Inv-loop : tie.InvT-loop
-Inv-loop w writer from writes s reader reads i₀ i =
+Inv-loop w writer from writes reader reads i₀ i =
     let written = accessesAt writer (9 * from) writes in
-    (i ≤ reads) × (overwrites w written s (accessesAt reader 0 reads) ≡ overwrites w written s (accessesAt reader (9 * i) (reads - i)))
+    (i ≤ reads) × (stale w written (accessesAt reader 0 reads) ≡ stale w written (accessesAt reader (9 * i) (reads - i)))
 
 abbrev μ-loop : tie.MeasureT-loop
-μ-loop w writer from writes s reader reads i₀ i = reads - i
+μ-loop w writer from writes reader reads i₀ i = reads - i
 
 loop-holds : tie.Need-loop-holds Inv-loop μ-loop
 loop-holds c = (omega arith, rw sub-zero)
@@ -43,28 +43,28 @@ turn : (c : tie.In-loop Inv-loop μ-loop) →
     let l = c .before in
     let a = l .before .before .before .args in
     let written = accessesAt (now (a .writer)) (9 * a .from) (a .writes) in
-    overwrites (a .w) written (a .s) (accessesAt (now (a .reader)) 0 (a .reads))
-    ≡ either (early (a .w) written (a .s) (accessOf (accessAt (now (a .reader)) (9 * l .loop .i)))) (overwrites (a .w) written (a .s) (accessesAt (now (a .reader)) (9 * (l .loop .i + 1)) (a .reads - (l .loop .i + 1))))
+    stale (a .w) written (accessesAt (now (a .reader)) 0 (a .reads))
+    ≡ either (early (a .w) written (accessOf (accessAt (now (a .reader)) (9 * l .loop .i)))) (stale (a .w) written (accessesAt (now (a .reader)) (9 * (l .loop .i + 1)) (a .reads - (l .loop .i + 1))))
 turn c =
     let l = c .before in
     let a = l .before .before .before .args in
     let written = accessesAt (now (a .writer)) (9 * a .from) (a .writes) in
     l .loop .inv .1
-    ∙ ap (overwrites (a .w) written (a .s)) (accesses-step (now (a .reader)) (9 * l .loop .i) (9 * (l .loop .i + 1)) (a .reads) (l .loop .i) (c .loop-test .taken) (omega arith))
-    ∙ overwrites-step (a .w) written (a .s) _ _
+    ∙ ap (stale (a .w) written) (accesses-step (now (a .reader)) (9 * l .loop .i) (9 * (l .loop .i + 1)) (a .reads) (l .loop .i) (c .loop-test .taken) (omega arith))
+    ∙ stale-step (a .w) written _ _
 
 -- whether the read at hand was too early, where its version is below
 sought : (c : tie.After-write-to Inv-loop μ-loop) →
     let l = c .before .before .before .before .before in
     let a = l .before .before .before .args in
-    early (a .w) (accessesAt (now (a .writer)) (9 * a .from) (a .writes)) (a .s) (accessOf (accessAt (now (a .reader)) (9 * l .loop .i))) ≡ isThere (c .write-to .result)
+    early (a .w) (accessesAt (now (a .writer)) (9 * a .from) (a .writes)) (accessOf (accessAt (now (a .reader)) (9 * l .loop .i))) ≡ isThere (c .write-to .result)
 sought c =
     let l = c .before .before .before .before .before in
     let p = l .before .before .before in
     let a = p .args in
     let read = c .before .before .before .access-at in
     rw (← read .ensures)
-    (early-found (a .w) (accessesAt (now (a .writer)) (9 * a .from) (a .writes)) (a .s) (accessOf (read .result)) (c .before .if1 .taken) (p .pre .2) ∙ ap isThere (sym (c .write-to .ensures)))
+    (early-found (a .w) (accessesAt (now (a .writer)) (9 * a .from) (a .writes)) (accessOf (read .result)) (c .before .if1 .taken) ∙ ap isThere (sym (c .write-to .ensures)))
 
 returns : tie.Need-returns Inv-loop μ-loop
 unfolding either
@@ -82,12 +82,12 @@ loop-less c = omega arith
 not-early : (c : tie.Joined1 Inv-loop μ-loop) →
     let l = c .before .before .before .before in
     let a = l .before .before .before .args in
-    early (a .w) (accessesAt (now (a .writer)) (9 * a .from) (a .writes)) (a .s) (accessOf (accessAt (now (a .reader)) (9 * l .loop .i))) ≡ false
+    early (a .w) (accessesAt (now (a .writer)) (9 * a .from) (a .writes)) (accessOf (accessAt (now (a .reader)) (9 * l .loop .i))) ≡ false
 not-early c =
     let a = c .before .before .before .before .before .before .before .args in
     let read = c .before .before .access-at in
     ⊎-elim (λ w. sought (record { before = record { before = c .before; if1 = w .0 }; write-to = w .1 }) ∙ ap isThere (w .3 .given .1))
-    (λ w. rw (← read .ensures) (early-not (a .w) (accessesAt (now (a .writer)) (9 * a .from) (a .writes)) (a .s) (accessOf (read .result)) (w .left)))
+    (λ w. rw (← read .ensures) (early-not (a .w) (accessesAt (now (a .writer)) (9 * a .from) (a .writes)) (accessOf (read .result)) (w .left)))
     (c .if1 .came)
 
 loop-again : tie.Need-loop-again Inv-loop μ-loop
@@ -101,11 +101,11 @@ returns-2 c =
     let written = accessesAt (now (a .writer)) (9 * a .from) (a .writes) in
     sym
     (l .loop .inv .1
-    ∙ ap (overwrites (a .w) written (a .s)) (accesses-end (now (a .reader)) (9 * l .loop .i) (a .reads - l .loop .i) (omega arith))
-    ∙ overwrites-end (a .w) written (a .s))
+    ∙ ap (stale (a .w) written) (accesses-end (now (a .reader)) (9 * l .loop .i) (a .reads - l .loop .i) (omega arith))
+    ∙ stale-end (a .w) written)
 
-pub overwrites-spec : {M : Type 1} → statement M
-overwrites-spec =
+pub stale-spec : {M : Type 1} → statement M
+stale-spec =
     tie.close
     (tie.spec
     Inv-loop

@@ -1,0 +1,78 @@
+-- The rows from i on were passed: the running answers are what they say.
+use mathlib.Core.Path.{_∙_}
+use Prim.Native.Nat.{_-_, _≤_}
+use native.Mathlib.Omega.{arith}
+use denote.Ref.{now}
+use Rattle.rules.specs.DayOrder.{dayA, dayB, dayCheck}
+use Rattle.rules.proofs.DayOrder.{day-a-counting, day-b-counting}
+use Rattle.rows.specs.Read.{bodyAt}
+use Rattle.checks.proofs.Rounds.{SeenFrom, pass-begins, pass-goes-on, pass-ends}
+use Rattle.checks.proofs.day.check.Statement.{statement}
+use Rattle.checks.proofs.day.check.Tie as tie
+
+abbrev Inv-loop : tie.InvT-loop
+Inv-loop image begin rows stamp body reads writes readmarks writtenmarks seen₀ i₀ seen i = (i ≤ rows) × SeenFrom dayA dayB day-a-counting day-b-counting image begin rows stamp (bodyAt body 0 reads writes) i seen
+
+abbrev μ-loop : tie.MeasureT-loop
+μ-loop image begin rows stamp body reads writes readmarks writtenmarks seen₀ i₀ seen i = i
+
+marks-of-requires : tie.Need-marks-of-requires Inv-loop μ-loop
+marks-of-requires c κs = omega (arith, c .before .before .pre .1)
+
+marks-of-requires-2 : tie.Need-marks-of-requires-2 Inv-loop μ-loop
+marks-of-requires-2 c κs = c .before .before .before .pre .1
+
+loop-holds : tie.Need-loop-holds Inv-loop μ-loop
+loop-holds c =
+    let a = c .before .before .before .before .args in
+    let x = bodyAt (now (a .body)) 0 (a .reads) (a .writes) in
+    (omega arith, pass-begins dayA dayB day-a-counting day-b-counting (now (a .image)) (a .begin) (a .rows) (a .stamp) x)
+
+sub-i : tie.Need-sub-i Inv-loop μ-loop
+sub-i c = omega arith
+
+row-at-requires : tie.Need-row-at-requires Inv-loop μ-loop
+row-at-requires c κs = omega (arith, c .before .before .before .before .before .before .pre .0 .0)
+
+with-row-requires : tie.Need-with-row-requires Inv-loop μ-loop
+with-row-requires c κs =
+    let p = c .before .before .before .before .before .before .before .before .before in
+    (rw (c .before .before .row-at .ensures) (p .pre .0 .1 (c .before .before .before .before .loop .i - 1) (omega arith)), p .pre .1)
+
+loop-less : tie.Need-loop-less Inv-loop μ-loop
+loop-less c = omega arith
+
+loop-again : tie.Need-loop-again Inv-loop μ-loop
+loop-again c =
+    let l = c .before .before .before .before .before in
+    let a = l .before .before .before .before .before .args in
+    let x = bodyAt (now (a .body)) 0 (a .reads) (a .writes) in
+    (omega arith, c .with-row .ensures (l .before .before .marks-of .ensures) (l .before .marks-of2 .ensures) ∙ rw (c .before .before .before .row-at .ensures) (pass-goes-on dayA dayB day-a-counting day-b-counting (now (a .image)) (a .begin) (a .rows) (a .stamp) x (l .loop .i) (l .loop .seen) (c .before .before .before .before .loop-test .taken) (l .loop .inv .0) (l .loop .inv .1)))
+
+answer-requires : tie.Need-answer-requires Inv-loop μ-loop
+answer-requires c κs = tt
+
+returns : tie.Need-returns Inv-loop μ-loop
+unfolding dayCheck
+returns c =
+    let l = c .before .before in
+    let a = l .before .before .before .before .before .args in
+    let x = bodyAt (now (a .body)) 0 (a .reads) (a .writes) in
+    c .answer .ensures ∙ pass-ends dayA dayB day-a-counting day-b-counting (now (a .image)) (a .begin) (a .rows) (a .stamp) x (l .loop .i) (l .loop .seen) (omega arith) (l .loop .inv .1)
+
+pub check-spec : {M : Type 1} → statement M
+check-spec =
+    tie.close
+    (tie.spec
+    Inv-loop
+    μ-loop
+    marks-of-requires
+    marks-of-requires-2
+    loop-holds
+    sub-i
+    row-at-requires
+    with-row-requires
+    loop-less
+    loop-again
+    answer-requires
+    returns)

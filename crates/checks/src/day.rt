@@ -1,0 +1,136 @@
+// The check of messages 1, by which entries follow the day's order: one pass over the rows of a lent image, from the last to the first.
+use crate::accesses;
+use crate::clashes;
+use crate::pass;
+use crate::pass::Checked;
+use crate::pass::Seen;
+use rows::row;
+use rows::row::RowFields;
+ghost use mathlib.Core.Path.{_≡_};
+ghost use Prim.Native.Nat.{_+_, _*_, _≤_};
+ghost use lib.Dec.{ltb};
+ghost use lib.ListN.{length};
+ghost use Rattle.rules.specs.Tests.{both};
+ghost use Rattle.rules.specs.DayOrder.{stale, dayA, common, dayB, dayCheck};
+ghost use Rattle.rows.specs.Read.{accessesAt, rowOf, rowsAt, bodyAt};
+ghost use Rattle.rows.specs.Inner.Rows.{BodyInside, RowsInside};
+ghost use Rattle.checks.specs.Inner.Given.{checkedAs};
+ghost use Rattle.checks.specs.Inner.RegisterWrites.{Marked};
+ghost use Rattle.checks.specs.Inner.Passed.{seenWith};
+
+// Whether a read is stale by the writes of a row. They are looked up among the marks of what is read, and compared only where one is marked.
+fn stale(
+    w: u64,
+    held: &[u8],
+    read: usize,
+    wrote: usize,
+    body: &[u8],
+    reads: usize,
+    marks: &[bool; 64],
+) -> bool
+    requires { ⌜ (9 * (read + wrote) ≤ length (now held)) × (9 * reads ≤ length (now body)) ⌝ }
+    ensures { λ r. ⌜ (Marked (now (marks .entry)) (accessesAt (now (body .entry)) 0 reads) → r ≡ stale w (accessesAt (now (held .entry)) (9 * read) wrote) (accessesAt (now (body .entry)) 0 reads)) ⌝ }
+{
+    if accesses::any_marked(held, read, wrote, marks) {
+        return clashes::stale(w, held, read, wrote, body, reads);
+    }
+    false
+}
+
+// Whether a transaction at `other` lies above the stamp and reads or writes a register that is written. Its reads and its writes stand one behind the other, and are looked up among the marks of what is written.
+fn later(
+    stamp: u64,
+    body: &[u8],
+    reads: usize,
+    writes: usize,
+    marks: &[bool; 64],
+    other: u64,
+    held: &[u8],
+    accesses: usize,
+) -> bool
+    requires { ⌜ (9 * (reads + writes) ≤ length (now body)) × (9 * accesses ≤ length (now held)) ⌝ }
+    ensures { λ r. ⌜ (Marked (now (marks .entry)) (accessesAt (now (body .entry)) (9 * reads) writes) → r ≡ both (ltb stamp other) (common (accessesAt (now (held .entry)) 0 accesses) (accessesAt (now (body .entry)) (9 * reads) writes))) ⌝ }
+{
+    if stamp < other {
+        return accesses::common(held, accesses, body, reads, writes, marks);
+    }
+    false
+}
+
+// One more row. If it is accepted, A and B are asked of it apart: a later write of a register that is read and written meets both.
+fn with_row(
+    seen: Seen,
+    image: &[u8],
+    row: RowFields,
+    stamp: u64,
+    body: &[u8],
+    reads: usize,
+    writes: usize,
+    readmarks: &[bool; 64],
+    writtenmarks: &[bool; 64],
+) -> Seen
+    requires { ⌜ BodyInside (now image) row × (9 * (reads + writes) ≤ length (now body)) ⌝ }
+    ensures { λ r. ⌜ (Marked (now (readmarks .entry)) (accessesAt (now (body .entry)) 0 reads) → Marked (now (writtenmarks .entry)) (accessesAt (now (body .entry)) (9 * reads) writes) → r ≡ seenWith dayA dayB stamp (bodyAt (now (body .entry)) 0 reads writes) (rowOf (now (image .entry)) row) seen) ⌝ }
+{
+    if !pass::accepted(row.prepare, row.outcome) {
+        return seen;
+    }
+    let held = row::body_of(image, row);
+    let read = row.reads as usize;
+    let wrote = row.writes as usize;
+    let a = stale(row.stamp, held, read, wrote, body, reads, readmarks);
+    let b = later(
+        stamp,
+        body,
+        reads,
+        writes,
+        writtenmarks,
+        row.stamp,
+        held,
+        read + wrote,
+    );
+    if a | b {
+        return pass::with_named(seen, row.stamp, row.outcome, a, b);
+    }
+    seen
+}
+
+// What the check of messages 1 says of a transaction at a stamp whose body is lent. The registers that it reads and those that it writes are marked once, so that most rows are passed without comparing their accesses with each of them.
+pub fn check(
+    image: &[u8],
+    begin: usize,
+    rows: usize,
+    stamp: u64,
+    body: &[u8],
+    reads: usize,
+    writes: usize,
+) -> Checked
+    requires { ⌜ RowsInside (now image) begin rows × (9 * (reads + writes) ≤ length (now body)) ⌝ }
+    ensures { λ r. ⌜ r ≡ checkedAs (dayCheck (rowsAt (now (image .entry)) begin rows) stamp (bodyAt (now (body .entry)) 0 reads writes)) ⌝ }
+{
+    let readmarks = accesses::marks_of(body, 0, reads);
+    let writtenmarks = accesses::marks_of(body, reads, writes);
+    let mut seen = Seen {
+        advice: 0,
+        abort: false,
+        retry: false,
+        abstain: false,
+    };
+    let mut i = rows;
+    while 0 < i {
+        i -= 1;
+        let row = row::row_at(image, begin, i);
+        seen = with_row(
+            seen,
+            image,
+            row,
+            stamp,
+            body,
+            reads,
+            writes,
+            &readmarks,
+            &writtenmarks,
+        );
+    }
+    pass::answer(seen)
+}
