@@ -2,7 +2,7 @@
 
 use crate::body::Body;
 use crate::bytes::put;
-use crate::check::check;
+use crate::day_order::proposal_check;
 use crate::halving::compared_for;
 use crate::message::Message;
 use crate::numbers::{first_that_applies, Number};
@@ -221,7 +221,7 @@ fn propose_prepare(table: &mut Table, stamp: u64, body: &Body) {
     let result = match held_outcome(table, stamp).map(|held| held.outcome) {
         Some(Outcome::Commit) => PrepareResult::Ok,
         Some(Outcome::Abort) => PrepareResult::Abort,
-        None => check(&table.rows, stamp, body),
+        None => proposal_check(&table.rows, stamp, body),
     };
     row_of(table, stamp, body).prepare = Some(HeldPrepare::tentative(result));
 }

@@ -1,4 +1,4 @@
-//! "The check", with rule B as document 02 mends it.
+//! "The check", with rule B as document 02 mends it. It is the merge's: messages 1 are checked by [`crate::day_order`].
 
 use crate::body::Body;
 use crate::row::{PrepareResult, Row, Rows};

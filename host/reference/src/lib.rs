@@ -11,6 +11,7 @@
 //! - [`numbers`]: "Numbers returned"
 //! - [`message`], [`answer`], [`reply`]: "Messages to a box"
 //! - [`check`], [`merge`], [`count`]: the chapters of these names; of the check, rule B as document 02 mends it
+//! - [`day_order`]: the check for messages 1, which document 02 asks for; the merge keeps the one of [`check`]
 //! - [`halving`]: the rows that the search for a stamp compares, which document 02 asks for
 
 pub mod answer;
@@ -18,6 +19,7 @@ pub mod body;
 pub mod bytes;
 pub mod check;
 pub mod count;
+pub mod day_order;
 pub mod group;
 pub mod halving;
 pub mod merge;
@@ -32,6 +34,7 @@ pub use answer::respond;
 pub use body::Body;
 pub use check::check;
 pub use count::{decide, Counted, Decision};
+pub use day_order::proposal_check;
 pub use group::Counts;
 pub use merge::merged;
 pub use message::Message;

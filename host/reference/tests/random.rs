@@ -3,30 +3,11 @@
 //! nothing, and each call to the bytes that it may write.
 
 mod common;
+use common::dice::Dice;
 use common::{
     change, finalise, finish, outcome, propose, read, row, start, RawRow, TestBox, BUFFER, DIRT,
 };
 use reference::{Message, Mode, Table};
-
-/// Marsaglia's xorshift, 64 bits wide.
-struct Dice(u64);
-
-impl Dice {
-    fn next(&mut self) -> u64 {
-        self.0 ^= self.0 << 13;
-        self.0 ^= self.0 >> 7;
-        self.0 ^= self.0 << 17;
-        self.0
-    }
-
-    fn below(&mut self, limit: u64) -> u64 {
-        (self.next() >> 11) % limit
-    }
-
-    fn in_a_hundred(&mut self, times: u64) -> bool {
-        self.below(100) < times
-    }
-}
 
 type Access = Vec<(u8, u64)>;
 

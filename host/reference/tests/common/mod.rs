@@ -1,6 +1,9 @@
 //! Bytes put together by hand, apart from the crate's own writing, and a box to send them to.
 #![allow(dead_code)] // each file of tests uses a part of this
 
+pub mod checks;
+pub mod dice;
+
 use reference::Table;
 
 pub const BUFFER: usize = 49_176;
