@@ -17,7 +17,7 @@ impl Work for ComingLate {
     const ABOUT: &'static str = "\
 `sprondilu_answer` of the library answers a message 1 that comes late. The input is a table like that of answer1, but
 each row has read what was written last before it, of any registers, and the message proposes the row in the middle, as
-if all later ones had come before it. Half of the rows move.";
+if all later ones had come before it. They have written what it read, so that it ends in ABORT. Half of the rows move.";
 
     fn of(rows: usize) -> ComingLate {
         let (table, message) = table_and_message(rows);
@@ -65,11 +65,11 @@ fn table_and_message(rows: usize) -> (Table, Vec<u8>) {
 mod tests {
     use super::ComingLate;
     use crate::Work;
-    use reference::{check, Message, PrepareResult, Rows, Table};
+    use reference::{check, proposal_check, Message, PrepareResult, Rows, Table};
 
     /// The entry would have been OK when it was due, and by the check of document 01 it still is.
     #[test]
-    fn the_entry_comes_in_the_middle_of_entries_that_it_does_not_clash_with() {
+    fn the_entry_is_refused_for_later_ones_alone() {
         for size in ComingLate::SIZES {
             let asked = ComingLate::of(size).asked;
             let table = Table::parse(&asked.before).expect("a table").0;
@@ -81,9 +81,9 @@ mod tests {
             let earlier: Rows = earlier.map(|(s, row)| (*s, row.clone())).collect();
             assert_eq!(earlier.len(), size / 2);
             assert_eq!(table.rows.len(), size - 1);
-            assert_eq!(check(&earlier, stamp, &body), PrepareResult::Ok);
+            assert_eq!(proposal_check(&earlier, stamp, &body), PrepareResult::Ok);
             assert_eq!(check(&table.rows, stamp, &body), PrepareResult::Ok);
-            assert_eq!(asked.reply[3], 1);
+            assert_eq!(asked.reply[3], 2);
         }
     }
 }

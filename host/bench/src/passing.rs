@@ -22,7 +22,7 @@ impl<const LAST: bool> Work for Passing<LAST> {
         "\
 `sprondilu_answer` of the library answers a message 1 that ends in OK. The input is a table like that of answer1, but
 the message proposes the last row, it has no register in common with any other row, and all reads are of version 0. So
-each write of each row is compared with each read of the message, and no search ends early. No row moves."
+each write of each row is looked at, and no search ends early. No row moves."
     } else {
         "\
 The same is done with the row in the middle proposed, so that half of the rows have a later stamp. Whatever the check
@@ -101,7 +101,7 @@ mod tests {
     use super::Passing;
     use crate::answer::Answering;
     use crate::Work;
-    use reference::{check, Body, Message, PrepareResult, Row, Table};
+    use reference::{check, proposal_check, Body, Message, PrepareResult, Row, Table};
 
     /// The table, and what is proposed.
     fn parsed(asked: &Answering<1>) -> (Table, u64, Body) {
@@ -134,7 +134,9 @@ mod tests {
             .rows
             .values()
             .for_each(|row| assert_looked_through(row, &body));
-        assert_eq!(check(&table.rows, stamp, &body), PrepareResult::Ok);
+        for check in [check, proposal_check] {
+            assert_eq!(check(&table.rows, stamp, &body), PrepareResult::Ok);
+        }
         assert_eq!(asked.reply[3], 1);
     }
 

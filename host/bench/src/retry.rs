@@ -59,9 +59,9 @@ fn table_and_message(rows: usize) -> (Table, Vec<u8>) {
 mod tests {
     use super::Retrying;
     use crate::Work;
-    use reference::{check, Message, PrepareResult, Rows, Table};
+    use reference::{check, proposal_check, Message, PrepareResult, Rows, Table};
 
-    /// Any row alone would be answered with its own stamp, and all of them are with that of the last.
+    /// Any row alone would be answered with its own stamp, and all of them are with that of the last, by either check.
     #[test]
     fn each_row_is_a_later_reader() {
         for size in Retrying::SIZES {
@@ -74,7 +74,9 @@ mod tests {
             for (reader, row) in &table.rows {
                 let alone = Rows::from([(*reader, row.clone())]);
                 let expected = PrepareResult::Retry(*reader);
-                assert_eq!(check(&alone, stamp, &body), expected);
+                for check in [check, proposal_check] {
+                    assert_eq!(check(&alone, stamp, &body), expected);
+                }
             }
             let greatest = table.rows.keys().max().expect("a row");
             assert_eq!(table.rows.len() + 1, size);

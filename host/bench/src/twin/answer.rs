@@ -1,6 +1,6 @@
 //! A box's answer to one message as the proved library gives it: everything is judged and changed where it lies.
 
-use super::check::{check, newest, Transaction};
+use super::check::{newest, proposal_check, Transaction};
 use super::insert::add;
 use super::message::{self, Message};
 use super::search::Search;
@@ -124,7 +124,7 @@ fn propose_prepare<S: Search>(table: &mut [u8], header: &Header, new: &Transacti
             (prepare, 0)
         }
         Err(index) => {
-            let (code, retry) = check(table, header.rows as usize, new);
+            let (code, retry) = proposal_check(table, header.rows as usize, new);
             add_row(table, index, new, (code, retry), 0);
             (code, retry)
         }
@@ -269,8 +269,8 @@ mod tests {
     type Answer = fn(&mut [u8], &[u8], &mut [u8]) -> u8;
 
     /// The number for a message to a table in a buffer, on which both twins and the second program have to agree, as on
-    /// every byte.
-    fn answered(table: &[u8], message: &[u8], reply_length: usize) -> u8 {
+    /// every byte; and the result of a check, if one was made.
+    fn answered(table: &[u8], message: &[u8], reply_length: usize) -> (u8, Option<u8>) {
         let lent = (table.to_vec(), vec![0xee; reply_length]);
         let mut by_second = lent.clone();
         let number = reference::answer(&mut by_second.0, message, &mut by_second.1);
@@ -281,7 +281,8 @@ mod tests {
             assert_eq!(found, number, "twin {}: {:02x?}", twin, message);
             assert!(by_twin == by_second, "twin {}: {:02x?}", twin, message);
         }
-        number
+        let is_checked = number == 0 && message[0] == 1 && by_second.0[4..8] != table[4..8];
+        (number, is_checked.then(|| by_second.1[3]))
     }
 
     /// A message of any kind about a row, to a table of this view.
@@ -340,7 +341,7 @@ mod tests {
     #[test]
     fn both_twins_answer_as_the_second_program() {
         let mut dice = Dice::seeded(1);
-        let mut met = [0; 11];
+        let (mut met, mut results) = ([0; 11], [0; 5]);
         for turn in 0..30_000 {
             let rows = match turn % 50 {
                 49 => dice.one_of(&[MOST_ROWS - 1, MOST_ROWS]),
@@ -348,10 +349,13 @@ mod tests {
             };
             let (buffer, message) = case(&mut dice, rows);
             let length = dice.one_of(&[23, 24, 25, 25, 25, 25]);
-            met[usize::from(answered(&buffer, &message, length))] += 1;
+            let (number, result) = answered(&buffer, &message, length);
+            met[usize::from(number)] += 1;
+            results[usize::from(result.unwrap_or(0))] += 1;
             let short = &buffer[..TABLE_BYTES - 1];
-            assert_eq!(answered(short, &message, 24), 1);
+            assert_eq!(answered(short, &message, 24), (1, None));
         }
         assert!(met.iter().all(|times| *times > 9), "{:?}", met);
+        assert!(results.iter().all(|times| *times > 9), "{:?}", results);
     }
 }
