@@ -6,7 +6,7 @@ use reference::count::count_bytes;
 use reference::halving::compared;
 use reference::merge::merge_for;
 use reference::numbers::first_that_applies;
-use reference::{check, Decision, Model, Number, PrepareResult, Rows, VALLEY};
+use reference::{check, proposal_check, Decision, Model, Number, PrepareResult, Rows, VALLEY};
 use samples::{replies, Record, Row, Table};
 
 /// A box that is soon full, so that this happens often.
@@ -15,13 +15,20 @@ pub const SMALL: Model = Model {
     buffer: VALLEY.buffer,
 };
 
+/// Document 02 has a check for messages 1 and leaves that of document 01 to the merge.
+#[derive(Clone, Copy)]
+pub enum WhoChecks {
+    ABox,
+    TheMerge,
+}
+
 pub enum Case {
     /// A box's answer to a message: the table after it and the 24 bytes of the reply, or the number of the refusal.
     Answer(Table, Sent, Result<(Table, Vec<u8>), Number>),
     Merge(u32, Vec<Table>, Result<Table, Number>),
     Count(u8, Vec<Record>, Result<Decision, Number>),
-    /// The check of a transaction over rows.
-    Check(Vec<Row>, Row, PrepareResult),
+    /// What one of the checks says of a transaction over rows.
+    Check(WhoChecks, Vec<Row>, Row, PrepareResult),
     /// Whether a table is one by the rules.
     Image(Table, bool),
     /// The fresh table of a box, unless there is none.
@@ -82,15 +89,19 @@ impl Case {
         Case::Count(n, replies, told)
     }
 
-    pub fn check(rows: Vec<Row>, asked: Row) -> Case {
+    pub fn check(who: WhoChecks, rows: Vec<Row>, asked: Row) -> Case {
         // The second program reads a transaction in a row, which holds something.
         let row = Row {
             outcome: 1,
             ..asked.clone()
         };
         let body = &taken(vec![row])[&asked.stamp].body;
+        let check = match who {
+            WhoChecks::ABox => proposal_check,
+            WhoChecks::TheMerge => check,
+        };
         let told = check(&taken(rows.clone()), asked.stamp, body);
-        Case::Check(rows, asked, told)
+        Case::Check(who, rows, asked, told)
     }
 
     pub fn image(table: Table) -> Case {

@@ -1,6 +1,6 @@
 //! Cases written as statements about the definitions.
 
-use crate::case::{Case, SMALL};
+use crate::case::{Case, WhoChecks, SMALL};
 use crate::plain::Sent;
 use reference::{Decision, Model, Number, PrepareResult, VALLEY};
 use samples::{Access, Record, Row, Table};
@@ -29,11 +29,7 @@ pub fn statement(case: &Case) -> String {
             let heard = list(replies.iter().map(heard));
             format!("counted {} {} ≡ {}", n, heard, counted(decision))
         }
-        Case::Check(rows, asked, result) => {
-            let rows = list(rows.iter().map(row));
-            let told = result_of(result.code(), result.retry_stamp());
-            format!("check {} {} {} ≡ {}", rows, asked.stamp, body(asked), told)
-        }
+        Case::Check(who, rows, asked, result) => checked(*who, rows, asked, *result),
         Case::Image(image, good) => format!("tableByRule small {} ≡ {}", table(image), good),
         Case::Fresh(n, box_number, told) => fresh(*n, *box_number, told),
         Case::Buffers(length, small, reply, reply_small) => format!(
@@ -86,6 +82,24 @@ fn merged(view: u32, tables: &[Table], result: &Result<Table, Number>) -> String
         Err(number) => format!("{} none", number.code()),
     };
     format!("merges {} {} {}", view, tables, told)
+}
+
+/// The check by the name of its role: what boxes check by is said once, in the definitions.
+fn checked(who: WhoChecks, rows: &[Row], asked: &Row, result: PrepareResult) -> String {
+    let check = match who {
+        WhoChecks::ABox => "proposalCheck",
+        WhoChecks::TheMerge => "check",
+    };
+    let rows = list(rows.iter().map(row));
+    let told = result_of(result.code(), result.retry_stamp());
+    format!(
+        "{} {} {} {} ≡ {}",
+        check,
+        rows,
+        asked.stamp,
+        body(asked),
+        told
+    )
 }
 
 fn fresh(n: u8, box_number: u8, told: &Option<Table>) -> String {

@@ -23,6 +23,7 @@ pub fn all() -> Vec<Named> {
     cases.extend(other_views());
     cases.extend(new_stamps());
     cases.extend(checked());
+    cases.extend(unchecked());
     cases.extend(reads());
     cases
 }
@@ -201,14 +202,10 @@ fn new_stamps() -> Vec<Named> {
     cases.iter().flat_map(ask).collect()
 }
 
-/// "add a row with the check's tentative result": a new stamp beside a committed write of register 1 and read of register 2, and
-/// beside a prepared write of register 3.
+/// "add a row with the check's tentative result": a new stamp beside a committed write of register 1 and a prepared one of
+/// register 3, and below a committed read of register 2, a prepared write of register 6 and a committed one of register 7.
 fn checked() -> Vec<Named> {
-    let held = normal(vec![
-        holding(transaction(10, &[], &[(1, 1)]), 5, 3),
-        holding(transaction(12, &[], &[(3, 1)]), 1, 0),
-        holding(transaction(30, &[(2, 0)], &[]), 5, 3),
-    ]);
+    let held = entries();
     let of = |(result, reads, writes): (&str, &[(u8, u64)], &[(u8, u64)])| {
         let sent = Sent::ProposePrepare(transaction(20, reads, writes));
         named(
@@ -216,13 +213,58 @@ fn checked() -> Vec<Named> {
             Case::answer(&held, sent),
         )
     };
-    let cases: [(&str, &[(u8, u64)], &[(u8, u64)]); 4] = [
+    let cases: [(&str, &[(u8, u64)], &[(u8, u64)]); 9] = [
         ("ABORT", &[(1, 0)], &[]),
         ("RETRY", &[], &[(2, 0)]),
         ("ABSTAIN", &[(3, 0)], &[]),
         ("OK", &[(2, 0)], &[(1, 0)]),
+        ("ABORT for a later write", &[(7, 19)], &[]),
+        ("RETRY for a later write", &[], &[(7, 0)]),
+        ("RETRY with a prepared write", &[], &[(2, 0), (6, 0)]),
+        ("ABSTAIN to a read", &[(6, 19)], &[]),
+        ("ABSTAIN to a write", &[], &[(6, 0)]),
     ];
     cases.into_iter().map(of).collect()
+}
+
+fn entries() -> Table {
+    normal(vec![
+        holding(transaction(10, &[], &[(1, 1)]), 5, 3),
+        holding(transaction(12, &[], &[(3, 1)]), 1, 0),
+        holding(transaction(30, &[(2, 0)], &[]), 5, 3),
+        holding(transaction(40, &[], &[(6, 1)]), 1, 0),
+        holding(transaction(50, &[], &[(7, 1)]), 5, 3),
+    ])
+}
+
+/// "For messages 1 only": an outcome is noted under a later entry, and a row that holds one, or a prepare, is not checked.
+fn unchecked() -> Vec<Named> {
+    let entry = transaction(20, &[(7, 0)], &[(7, 2)]);
+    let with = |prepare, outcome| {
+        let mut held = entries();
+        held.rows
+            .insert(2, holding(entry.clone(), prepare, outcome));
+        held
+    };
+    let prepare = || Sent::ProposePrepare(entry.clone());
+    let outcome = |verdict| Sent::ProposeOutcome(entry.clone(), verdict);
+    let cases = [
+        ("message 3 with commit", entries(), outcome(1)),
+        ("message 3 with abort", entries(), outcome(2)),
+        ("message 1 after commit", with(0, 1), prepare()),
+        ("message 1 after abort", with(0, 4), prepare()),
+        ("message 1 after OK", with(1, 0), prepare()),
+        ("message 2 after ABORT", with(2, 0), finalised_ok(20)),
+    ];
+    let of = |(name, held, sent): (&str, Table, Sent)| {
+        let name = format!("{} under a later entry", name);
+        named(name, Case::answer(&held, sent))
+    };
+    cases.into_iter().map(of).collect()
+}
+
+fn finalised_ok(stamp: u64) -> Sent {
+    Sent::FinalisePrepare(stamp, 4, (1, 0))
 }
 
 /// "Finds the greatest done-commit write of that register at or below the stamp."

@@ -7,6 +7,7 @@
 //! - [`messages`]: what a box that holds a row, in every state of it, answers to each message
 //! - [`views`]: messages 5 and 6
 //! - [`checks`]: the check, each inequality at equality and one off it
+//! - [`day_order`]: what document 02 adds to that for messages 1
 //! - [`merges`], [`settling`]: when a merge is refused, and how it settles each stamp
 //! - [`counts`]: the coordinator's count
 //! - [`halving`]: the rows that the search for a stamp compares, which document 02 asks for
@@ -14,6 +15,7 @@
 mod bodies;
 mod checks;
 mod counts;
+mod day_order;
 mod halving;
 mod merges;
 mod messages;
@@ -35,6 +37,7 @@ pub fn all() -> Vec<Named> {
         messages::all,
         views::all,
         checks::all,
+        day_order::all,
         merges::all,
         settling::all,
         counts::all,

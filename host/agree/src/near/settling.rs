@@ -14,6 +14,7 @@ pub fn all() -> Vec<Named> {
     cases.extend(orders());
     cases.extend(turns());
     cases.extend(retry_stamps());
+    cases.extend(under_later_entries());
     cases
 }
 
@@ -252,4 +253,23 @@ fn retry_stamps() -> Vec<Named> {
         ("RETRY of an open writer before an open reader", 1, 1, 1),
     ];
     cases.into_iter().map(of).collect()
+}
+
+/// "The merge keeps the older A and B": an entry under a committed one that it would be refused for by a box. M6 and M9
+/// are the first two. In the last a fast OK at 10 of a group of five meets a later commit in one table.
+fn under_later_entries() -> Vec<Named> {
+    let open =
+        |row: &Row, held: Row| gathered(3, vec![vec![row.clone(), held.clone()], vec![held]]);
+    let late_reader = holding(transaction(30, &[(K, 10)], &[]), 5, 3);
+    let both = holding(transaction(20, &[(K, 10)], &[(K, 2)]), 5, 3);
+    let (m6, m9) = (reader(8, 1, 0), writer(9, 1, 0));
+    let early = vec![writer(10, 1, 0)];
+    let fast = vec![early.clone(), early, vec![both.clone()]];
+    vec![
+        merged("M6", open(&m6, writer(10, 5, 3))),
+        merged("M9", open(&m9, late_reader)),
+        merged("a write under a later commit", open(&m9, writer(10, 5, 3))),
+        merged("a write under a later OK", open(&m9, writer(10, 5, 0))),
+        merged("a fast OK under a later commit", gathered(5, fast)),
+    ]
 }
