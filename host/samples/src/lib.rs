@@ -19,7 +19,9 @@
 //! - [`replies`]: the replies that a coordinator counts
 //! - [`parts`]: a test in parts that are worked out side by side
 //! - [`tally`]: how many samples of each kind were images
+//! - [`checked`]: what the check said to messages 1, by where their stamps lay
 
+pub mod checked;
 pub mod damage;
 pub mod dice;
 pub mod field;
@@ -36,6 +38,7 @@ pub mod table;
 pub mod tally;
 pub mod transactions;
 
+pub use checked::Checked;
 pub use dice::Dice;
 pub use parts::{side_by_side, together};
 pub use replies::Record;

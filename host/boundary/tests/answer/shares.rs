@@ -1,7 +1,9 @@
-//! How often each kind of message was answered with each number, so that no comparison holds for want of a case.
+//! How often each kind of message was answered with each number, and what the check said to messages 1, so that no
+//! comparison holds for want of a case.
 
 use reference::{Row, Table};
 use samples::kinds::NUMBERS as NUMBERS_OF_KINDS;
+use samples::Checked;
 use std::fmt::{self, Display, Formatter};
 
 /// The kinds, and the numbers that the paper has for each.
@@ -43,6 +45,8 @@ pub struct Shares {
     found: u64,
     /// Messages 1 that were checked to RETRY, with the stamp of a row that is prepared.
     at_prepared: u64,
+    /// Messages 1 that were checked.
+    checked: Checked,
 }
 
 fn kind_of(message: &[u8]) -> usize {
@@ -66,10 +70,15 @@ impl Shares {
     /// What message 1 was answered with, if it was checked, and the table with its new row. The other rows are as they
     /// were then.
     pub fn count_checked(&mut self, reply: &[u8], held: &[u8]) {
+        let stamp_at = |at: usize| {
+            let bytes = reply[at..at + 8].try_into().expect("eight bytes");
+            u64::from_be_bytes(bytes)
+        };
+        let (table, _) = Table::parse(held).expect("a table");
+        let stamps = table.rows.keys().copied();
+        self.checked.count(stamps, stamp_at(8), reply[3]);
         if reply[3] == RETRY {
-            let stamp = u64::from_be_bytes(reply[16..24].try_into().expect("eight bytes"));
-            let (table, _) = Table::parse(held).expect("a table");
-            let row = table.rows.get(&stamp);
+            let row = table.rows.get(&stamp_at(16));
             self.at_prepared += u64::from(row.map_or(false, Row::is_prepared));
         }
     }
@@ -81,6 +90,7 @@ impl Shares {
         states.for_each(|(here, there)| add_all(here, there));
         self.found += other.found;
         self.at_prepared += other.at_prepared;
+        self.checked.add(&other.checked);
     }
 
     pub fn calls(&self) -> u64 {
@@ -88,7 +98,7 @@ impl Shares {
     }
 
     /// That every number which a kind can be answered with was met at least so often, and no other was; likewise every
-    /// state byte, and RETRY with the stamp of a prepared row.
+    /// state byte, RETRY with the stamp of a prepared row, and each result of a check wherever the stamp lies.
     pub fn assert_all_met(&self, least: u64) {
         for (kind, (name, possible)) in POSSIBLE.iter().enumerate() {
             assert_met(name, "number", &self.numbers[kind], possible, least);
@@ -98,6 +108,8 @@ impl Shares {
         assert!(self.found >= least && missed >= least, "message 7");
         let times = self.at_prepared;
         assert!(times >= least, "a prepared row's stamp: {} times", times);
+        let missing = self.checked.missing(least);
+        assert!(missing.is_empty(), "{:?}", missing);
     }
 }
 
@@ -127,7 +139,7 @@ pub fn percents(counts: &[u64], which: usize) -> String {
     }
 }
 
-/// A column for each kind, a line for each number, then one for each state byte.
+/// A column for each kind, a line for each number, then one for each state byte; then what the check said.
 impl Display for Shares {
     fn fmt(&self, f: &mut Formatter) -> fmt::Result {
         write!(f, "kind     ")?;
@@ -146,10 +158,11 @@ impl Display for Shares {
         }
         write!(
             f,
-            "\n{} calls; message 7 found {}; message 1 was checked to RETRY with a prepared row's stamp {} times",
+            "\n{} calls; message 7 found {}; message 1 was checked to RETRY with a prepared row's stamp {} times\n{}",
             self.calls(),
             self.found,
-            self.at_prepared
+            self.at_prepared,
+            self.checked
         )
     }
 }

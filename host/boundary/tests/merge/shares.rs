@@ -1,7 +1,7 @@
 //! How often each number was given, and what the merges that were done did, so that no comparison holds for want of a
 //! case.
 
-use reference::{Row, Table};
+use reference::{proposal_check, PrepareResult, Row, Rows, Table};
 use std::collections::BTreeMap;
 use std::fmt::{self, Display, Formatter};
 
@@ -32,12 +32,13 @@ const OPEN_CHECKED: usize = 9;
 const TO_RETRY: usize = 3;
 
 /// Of merges, and not of rows.
-const MERGES: [&str; 5] = [
+const MERGES: [&str; 6] = [
     "of no rows",
     "of 512 rows",
     "with tables of older views",
     "with fewer used tables than the agreement count",
     "with a check to RETRY at a prepared row's stamp",
+    "with a check to OK where a box would refuse",
 ];
 
 #[derive(Default)]
@@ -120,14 +121,21 @@ fn way(held: &Held, agreement: usize, merged: &[u8]) -> usize {
     }
 }
 
-/// Whether one of these stamps is that of a row which is prepared in a merged image.
-fn some_are_prepared(stamps: &[u64], merged: &[u8]) -> bool {
-    if stamps.is_empty() {
-        return false;
-    }
-    let (table, _) = Table::parse(merged).expect("a merged table");
-    let mut rows = stamps.iter().filter_map(|stamp| table.rows.get(stamp));
+/// Whether one of these stamps is that of a row which is prepared in a merged table.
+fn some_are_prepared(stamps: &[u64], merged: &Rows) -> bool {
+    let mut rows = stamps.iter().filter_map(|stamp| merged.get(stamp));
     rows.any(Row::is_prepared)
+}
+
+/// Whether one of these stamps is that of a row which the check for messages 1 refuses for a committed one. Those are
+/// settled before any check of a merge.
+fn some_are_slipped_in(stamps: &[u64], merged: &Rows) -> bool {
+    let committed = merged.iter().filter(|(_, row)| row.is_committed());
+    let committed: Rows = committed
+        .map(|(stamp, row)| (*stamp, row.clone()))
+        .collect();
+    let mut entries = stamps.iter().map(|stamp| (*stamp, &merged[stamp].body));
+    entries.any(|(stamp, body)| proposal_check(&committed, stamp, body) != PrepareResult::Ok)
 }
 
 impl Shares {
@@ -146,20 +154,25 @@ impl Shares {
         // "Agreement count: f half, rounded up, plus one", and f+1 tables are there.
         let agreement = images.len() / 2 + 1;
         let stamps = held(&used);
-        let mut retries = Vec::new();
+        let (mut passed, mut retries) = (Vec::new(), Vec::new());
         for row in rows(merged) {
             let way = way(&stamps[&stamp_at(row, 0)], agreement, row);
             self.ways[way] += 1;
+            if [AGREED_CHECKED, OPEN_CHECKED].contains(&way) {
+                passed.push(stamp_at(row, 0));
+            }
             if [AGREED_CHECKED + TO_RETRY, OPEN_CHECKED + TO_RETRY].contains(&way) {
                 retries.push(stamp_at(row, 8));
             }
         }
+        let (table, _) = Table::parse(merged).expect("a merged table");
         let merges = [
             stamps.is_empty(),
             stamps.len() == 512,
             used.len() < images.len(),
             used.len() < agreement,
-            some_are_prepared(&retries, merged),
+            some_are_prepared(&retries, &table.rows),
+            some_are_slipped_in(&passed, &table.rows),
         ];
         for (count, is_such) in self.merges.iter_mut().zip(merges) {
             *count += u64::from(is_such);

@@ -1,6 +1,6 @@
 //! Merges whose numbers and rows follow from the paper by hand, apart from the second program.
 
-use samples::{Access, Row, Table, MOST_ROWS, TABLE_BYTES};
+use samples::{message, Access, Row, Table, MOST_ROWS, TABLE_BYTES};
 
 const VIEW: u32 = 9;
 /// The register that the transactions share.
@@ -178,6 +178,35 @@ fn an_open_write_below_a_committed_and_a_prepared_reader_has_the_stamp_of_the_la
     assert_merged(&tables(&prepared(FINAL_OK)), &settled(40));
     // An open reader is checked behind the write, which has the lower stamp.
     assert_merged(&tables(&prepared(OK)), &settled(30));
+}
+
+/// "The merge keeps the older A and B, because a result already declared final must not be lost when a later stamp came
+/// after it." A group of five has the fast count of four for 10, of which two are merged, and in the third table stands a
+/// later entry that is committed. A box with that table refuses 10.
+#[test]
+fn a_fast_ok_is_kept_below_a_later_committed_entry() {
+    let early = [writes(10, (OK, 0))];
+    let late = |codes| {
+        let mut late = reads_at(10, 20, codes);
+        late.writes = early[0].writes.clone();
+        late
+    };
+    let held = [late((OK, COMMIT_DONE))];
+    let tables = [
+        changing(0, 5, 0, &early),
+        changing(1, 5, 0, &early),
+        changing(4, 5, 0, &held),
+    ];
+    let settled = [writes(10, (FINAL_OK, 0)), late((FINAL_OK, COMMIT_DONE))];
+    assert_merged(&tables, &settled);
+    let mut before = tables[2].clone();
+    (before.mode, before.promised) = (0, 0);
+    let mut table = before.image();
+    table.resize(TABLE_BYTES, 0);
+    let mut reply = [0; 24];
+    let asked = message::propose_prepare(&early[0]);
+    assert_eq!(boundary::answer(&mut table, &asked, &mut reply), 0);
+    assert_eq!((reply[3], reply[23]), (4, 20));
 }
 
 /// The order of numbers holds over all stamps: 5 of a late one comes before 6 of an early one.
