@@ -152,9 +152,8 @@ impl Both {
         self.judged(Call::answering(message), found, word, place)?;
         self.met.count_compared((word >> 16) as usize);
         let number = word & 0xff;
-        let is_checked = number == 0 && message[0] == 1 && rows_in(table) != rows_before;
-        if is_checked && is_prepared(table, number_of_8(reply, 16)) {
-            self.met.count_at_prepared(Call::Answer(1));
+        if number == 0 && message[0] == 1 && rows_in(table) != rows_before {
+            self.count_checked(table, reply);
         }
         if let Some((table_before, reply_before)) = before {
             let lent = self.lend(dice, &table_before, message, &reply_before);
@@ -163,6 +162,20 @@ impl Both {
             self.judged(Call::NumberAlone, found.into(), number, place)?;
         }
         Ok(number)
+    }
+
+    /// Counts what message 1 was checked to, from the reply and the table with the new row. The other rows are as they
+    /// were then.
+    fn count_checked(&mut self, table: &[u8], reply: &[u8]) {
+        let (table, _) = Table::parse(table).expect("a table");
+        let stamps = table.rows.keys().copied();
+        let checked = &mut self.met.checked;
+        checked.count(stamps, number_of_8(reply, 8), reply[3]);
+        // No row has stamp 0, which is given with other results than RETRY.
+        let named = table.rows.get(&number_of_8(reply, 16));
+        if named.map_or(false, Row::is_prepared) {
+            self.met.count_at_prepared(Call::Answer(1));
+        }
     }
 
     /// The buffers of an answer, each at a fence.
@@ -217,16 +230,6 @@ fn rows_in(table: &[u8]) -> Option<[u8; 4]> {
 
 fn number_of_8(bytes: &[u8], at: usize) -> u64 {
     u64::from_be_bytes(bytes[at..at + 8].try_into().expect("eight bytes"))
-}
-
-/// Whether a row with this stamp is prepared in a table, to which message 1 has only added another one. No row has
-/// stamp 0, which is given with other results than RETRY.
-fn is_prepared(table: &[u8], stamp: u64) -> bool {
-    if stamp == 0 {
-        return false;
-    }
-    let (table, _) = Table::parse(table).expect("a table");
-    table.rows.get(&stamp).map_or(false, Row::is_prepared)
 }
 
 /// Whether a merge has a RETRY that none of its tables brought, so that it was checked, with the stamp of a row that is

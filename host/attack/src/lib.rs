@@ -7,8 +7,8 @@
 //! - [`fenced`]: memory with a fence on either side, which nobody may touch
 //! - [`calls`]: the seven calls of the library, or of whatever is put in its place
 //! - [`both`]: one call by both programs, and what differs
-//! - [`met`]: how often each call ended with each number, an answer with each count, and a check with RETRY at a
-//!   prepared row's stamp
+//! - [`met`]: how often each call ended with each number, an answer with each count, a check with RETRY at a prepared
+//!   row's stamp, and a check of message 1 with each result
 //! - [`inputs`]: what the calls are given
 //! - [`rounds`]: rounds one after the other, side by side
 

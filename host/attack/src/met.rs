@@ -1,7 +1,9 @@
-//! How often each call ended with each number, how often an answer came with each count of compared rows, and how often
-//! a check said RETRY with a prepared row's stamp, so that an attack without a difference is no empty one.
+//! How often each call ended with each number, how often an answer came with each count of compared rows, how often a
+//! check said RETRY with a prepared row's stamp, and what the check said to messages 1 wherever their stamps lay, so that
+//! an attack without a difference is no empty one.
 
 use samples::kinds::NUMBERS as NUMBERS_OF_KINDS;
+use samples::Checked;
 use std::fmt::{self, Display, Formatter};
 
 const NUMBERS: usize = 12;
@@ -62,6 +64,8 @@ pub struct Met {
     compared: [u64; COUNTS],
     /// Calls whose check said RETRY with a prepared row's stamp.
     at_prepared: [u64; CHECKS.len()],
+    /// Messages 1 that were checked.
+    pub checked: Checked,
 }
 
 impl Met {
@@ -87,6 +91,7 @@ impl Met {
         here.zip(there).for_each(|(count, more)| *count += more);
         let at_prepared = self.at_prepared.iter_mut().zip(&other.at_prepared);
         at_prepared.for_each(|(count, more)| *count += more);
+        self.checked.add(&other.checked);
     }
 
     pub fn calls(&self) -> u64 {
@@ -118,12 +123,13 @@ impl Met {
                 missing.push(format!("{}, {}: {} times", what, left, count));
             }
         }
+        missing.extend(self.checked.missing(least));
         missing
     }
 }
 
 /// A line for each call, a column for each number; then the answers, with a column for each count; then the answers and
-/// the merges with RETRY at a prepared row's stamp.
+/// the merges with RETRY at a prepared row's stamp; then what the check said to messages 1.
 impl Display for Met {
     fn fmt(&self, f: &mut Formatter) -> fmt::Result {
         write!(f, "| call | calls |")?;
@@ -151,6 +157,7 @@ impl Display for Met {
             "\n\n| RETRY with a prepared row's stamp | times |\n|---|---|"
         )?;
         let mut checks = CHECKS.iter().zip(&self.at_prepared);
-        checks.try_for_each(|((_, left), count)| write!(f, "\n| {} | {} |", left, count))
+        checks.try_for_each(|((_, left), count)| write!(f, "\n| {} | {} |", left, count))?;
+        write!(f, "\n\n{}", self.checked)
     }
 }

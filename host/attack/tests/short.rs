@@ -1,28 +1,16 @@
 //! A short attack for the gate, and that it has teeth: programs with one fault each, put in the place of the library.
 
+mod common;
 use attack::calls::LIBRARY;
-use attack::rounds::{attack, Found, Plan};
+use attack::rounds::{attack, Plan};
 use attack::{Calls, Memory};
+use common::{assert_found, found, plan};
 use samples::TABLE_BYTES;
 
 /// So many rounds, each kind in its turn.
 const ROUNDS: u64 = 1_200;
 /// So often at least each call ends with each number that it can end with, and so often all else is met that is counted.
 const LEAST: u64 = 10;
-/// Within so many rounds a fault has to be found.
-const ROUNDS_FOR_A_FAULT: u64 = 240;
-
-fn plan(calls: Calls, rounds: u64) -> Plan {
-    Plan {
-        calls,
-        memory: Memory::Fenced,
-        from: 1,
-        until: 1 + rounds,
-        most_time: None,
-        threads: 2,
-    }
-}
-
 #[test]
 fn a_short_attack_finds_no_difference_and_meets_every_number() {
     let result = attack(&plan(LIBRARY, ROUNDS), &|_| ());
@@ -48,18 +36,6 @@ fn a_round_is_the_same_whenever_and_wherever_it_is_played() {
     assert_eq!(fenced, again);
     assert_eq!(fenced, alone(Memory::Allocated));
     assert!(fenced.met.calls() > 1_000);
-}
-
-/// What the attack finds with this in the place of the library.
-fn found(calls: Calls) -> Option<Found> {
-    attack(&plan(calls, ROUNDS_FOR_A_FAULT), &|_| ()).found
-}
-
-/// That a fault is found, in the buffer that it is in, if it is in one.
-fn assert_found(fault: &str, calls: Calls, buffer: Option<&str>) {
-    let found = found(calls).unwrap_or_else(|| panic!("not found: {}", fault));
-    let place = found.difference.place.map(|(buffer, _)| buffer);
-    assert_eq!(place, buffer, "{}: {}", fault, found.difference);
 }
 
 /// Writes a byte behind the image that a buffer begins with, where there is one and a byte behind it.
