@@ -130,11 +130,6 @@ impl Group {
         (number_at(table, 8), number_at(table, 12))
     }
 
-    /// How many rows a box holds, as its header has it.
-    pub fn rows_of(&self, box_number: usize) -> u32 {
-        number_at(&self.tables[box_number], 4)
-    }
-
     /// The table of a box.
     pub fn table_of(&self, box_number: usize) -> Table {
         let parsed = Table::parse(&self.tables[box_number]);

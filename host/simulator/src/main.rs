@@ -1,6 +1,6 @@
 //! `simulator [--seed S] [--histories N | --minutes M] [--n 3|5|7]`: plays random lawful histories on the library and judges
-//! demand 3 in each. Ends with 0 if nothing was violated, with 1 and the history in words if something was, with 2 if it was
-//! asked wrongly.
+//! demand 3 in each, and the day's order in each box. Ends with 0 if nothing was violated, with 1 and the history in words
+//! if something was, with 2 if it was asked wrongly.
 
 use simulator::law::Law;
 use simulator::machine::LIBRARY;

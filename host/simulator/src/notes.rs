@@ -2,9 +2,10 @@
 
 use crate::group::{Accepted, Answered, Declared, Merged, Promise};
 use crate::law::confirmations;
+use crate::newly::by_days_order;
 use crate::play::Play;
 use crate::words::outcome_name;
-use reference::{Decision, HeldOutcome, Message, Outcome, PrepareResult, Row};
+use reference::{Body, Decision, HeldOutcome, Message, Outcome, PrepareResult, Row, Rows};
 
 impl Play {
     pub(crate) fn once(&mut self, what: &str) {
@@ -46,13 +47,14 @@ impl Play {
         self.once_if(reordered, "deliveries behind a later message");
     }
 
-    /// A new transaction, as the box has checked it. All other rows are as they were then.
-    pub(crate) fn note_check(&mut self, answered: &Answered) {
-        if answered.reply.value > 0 {
-            let table = self.group.table_of(answered.by);
-            let reader = table.rows.get(&answered.reply.value);
-            let is_prepared = reader.map_or(false, Row::is_prepared);
-            self.once_if(is_prepared, "RETRY with a prepared reader's stamp");
+    /// A transaction that was new to a box, as the box has checked it against the rows that it held.
+    pub(crate) fn note_check(&mut self, result: PrepareResult, new: (u64, &Body), before: &Rows) {
+        let latest = before.get(&result.retry_stamp());
+        let reads = |row: &Row| new.1.writes.keys().any(|k| row.body.reads.contains_key(k));
+        let is_reader = latest.map_or(false, |row| row.is_prepared() && reads(row));
+        self.once_if(is_reader, "RETRY with a prepared reader's stamp");
+        if let Some(what) = by_days_order(result, new, before) {
+            self.once(what);
         }
     }
 

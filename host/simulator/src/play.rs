@@ -1,13 +1,13 @@
 //! One history, event by event: nothing happens that the law forbids, every event is kept, and after each one demand 3 is
 //! judged.
 
-use crate::group::{Accepted, Answered, Counted, Declared, Group, Merged, Promise};
+use crate::group::{carried, Accepted, Answered, Counted, Declared, Group, Merged, Promise};
 use crate::law::{Law, Rule};
 use crate::machine::Machine;
 use crate::met::Met;
-use crate::watch::{self, Violation};
+use crate::watch::{self, Part, Violation};
 use crate::words;
-use reference::{Decision, Message, Table};
+use reference::{Decision, HeldPrepare, Message, PrepareResult, Rows, Table};
 
 /// What came to pass, by its place in the lists of the group.
 pub enum Event {
@@ -27,8 +27,10 @@ pub struct Play {
     pub law: Law,
     pub events: Vec<Event>,
     pub met: Met,
-    /// What did not hold, the first one first.
+    /// What did not hold of demand 3 or beyond it, the first one first. A history ends with it.
     pub violations: Vec<Violation>,
+    /// What boxes said OK to against the day's order. A history goes on, so that it is seen what becomes of it.
+    pub out_of_order: Vec<Violation>,
 }
 
 impl Play {
@@ -39,7 +41,22 @@ impl Play {
             events: Vec::new(),
             met: Met::default(),
             violations: Vec::new(),
+            out_of_order: Vec::new(),
         }
+    }
+
+    /// Whether all held that is judged.
+    pub fn held(&self) -> bool {
+        self.violations.is_empty() && self.out_of_order.is_empty()
+    }
+
+    /// What did not hold first, of demand 3 or of the day's order, if it is of this part.
+    pub fn first_of(&self, part: Part) -> Option<&Violation> {
+        let firsts = [self.violations.first(), self.out_of_order.first()];
+        firsts
+            .into_iter()
+            .flatten()
+            .find(|first| first.part == part)
     }
 
     /// "a message is sent to a box": its place among those sent, or the rule that forbids it.
@@ -61,15 +78,15 @@ impl Play {
     pub fn arrive(&mut self, place: usize) -> Answered {
         let to = self.group.sent[place].to;
         let views = self.group.views_of(to);
-        let rows = self.group.rows_of(to);
+        let before = self.rows_before_the_check(place);
         self.note_arrival(place);
         let answered = self.group.answer(place);
         self.events
             .push(Event::Arrives(self.group.answers.len() - 1));
+        if let Some(before) = before {
+            self.judge_check(&answered, &before);
+        }
         match self.group.sent[place].message {
-            Message::ProposePrepare { .. } if self.group.rows_of(to) > rows => {
-                self.note_check(&answered);
-            }
             Message::ProposeOutcome { stamp, outcome, .. } if answered.number == 0 => {
                 let view = answered.reply.view;
                 self.accepts(Accepted::of(stamp, view, outcome));
@@ -82,6 +99,33 @@ impl Play {
             _ => {}
         }
         answered
+    }
+
+    /// The rows of the box that a message 1 was sent to, if its stamp is none of theirs: then the box checks it, unless it
+    /// refuses it.
+    fn rows_before_the_check(&self, place: usize) -> Option<Rows> {
+        let sent = &self.group.sent[place];
+        let rows = |box_number| self.group.table_of(box_number).rows;
+        match sent.message {
+            Message::ProposePrepare { stamp, .. } => {
+                Some(rows(sent.to)).filter(|rows| !rows.contains_key(&stamp))
+            }
+            _ => None,
+        }
+    }
+
+    /// What a box said of a transaction that was new to it.
+    fn judge_check(&mut self, answered: &Answered, before: &Rows) {
+        let message = self.group.sent[answered.place].message.clone();
+        let reply = &answered.reply;
+        let held = HeldPrepare::from_byte(reply.state, reply.value).flatten();
+        if let (0, Some(new), Some(held)) = (answered.number, carried(&message), held) {
+            self.note_check(held.result, new, before);
+            if held.result == PrepareResult::Ok {
+                self.out_of_order
+                    .extend(watch::order(answered, new, before));
+            }
+        }
     }
 
     /// The message is sent to a box and arrives there at once.

@@ -54,7 +54,7 @@ impl Run {
             let found = self.history(played);
             met.add(&found.play.met);
             played += 1;
-            if !found.play.violations.is_empty() {
+            if !found.play.held() {
                 return Err(Box::new(found));
             }
         }
@@ -64,7 +64,7 @@ impl Run {
     /// The first of so many histories in which this part is what did not hold.
     pub fn find(&self, part: Part, within: u64) -> Option<Found> {
         let mut found = (0..within).map(|place| self.history(place));
-        found.find(|found| found.play.violations.first().map(|first| first.part) == Some(part))
+        found.find(|found| found.play.first_of(part).is_some())
     }
 }
 
@@ -76,13 +76,12 @@ impl Display for Found {
             self.n, self.play.group.machine.name
         )?;
         write!(f, "{}", self.play.words())?;
+        let events = self.play.events.len();
         for violation in &self.play.violations {
-            writeln!(
-                f,
-                "violated after {} events: {}",
-                self.play.events.len(),
-                violation
-            )?;
+            writeln!(f, "violated after {} events: {}", events, violation)?;
+        }
+        for violation in &self.play.out_of_order {
+            writeln!(f, "violated in {} events: {}", events, violation)?;
         }
         write!(
             f,

@@ -1,10 +1,10 @@
 //! Demand 3 from outside: the five parts of `Survival`, and two things beyond it that are proved too. Each is judged as soon as
 //! what it speaks of has come to pass: a new merge against all that was declared and accepted before, and what is declared
-//! or accepted now against all merges, "whichever came first".
+//! or accepted now against all merges, "whichever came first". Beside demand 3, of each box alone: the day's order.
 
 use crate::group::{carried, Accepted, Answered, Declared, Group, Merged};
 use crate::words::{boxes, outcome_name, outcome_words, prepare_words, result_words};
-use reference::{Body, HeldOutcome, HeldPrepare, Message, Number, Outcome, Row};
+use reference::{Body, HeldOutcome, HeldPrepare, Message, Number, Outcome, Row, Rows};
 use std::fmt::{self, Display, Formatter};
 
 /// What was promised and did not hold.
@@ -24,6 +24,8 @@ pub enum Part {
     MergeDone,
     /// Beyond demand 3: a box below a view that promised nothing above it takes the start-view message.
     StartTaken,
+    /// Beside demand 3: "no entry may be slipped under one already accepted", in the box that says OK to it.
+    DaysOrder,
 }
 
 /// Which part did not hold, and of what.
@@ -204,6 +206,46 @@ pub fn start(answered: &Answered, view: u32, (last, promised): (u32, u32)) -> Op
         answered.by, last, promised, view, answered.number
     );
     violation(Part::StartTaken, what)
+}
+
+/// A box said OK just now to a transaction that was new to it, and held these rows before. Each row that it had accepted,
+/// and that has a register in common with the transaction which one of the two writes, lies below the transaction; and none
+/// of them has written a register above the version that the transaction read of it.
+pub fn order(answered: &Answered, new: (u64, &Body), before: &Rows) -> Option<Violation> {
+    let (stamp, body) = new;
+    let mut accepted = before.iter().filter(|(_, row)| is_accepted(row));
+    let (other, row) = accepted.find(|(other, row)| {
+        let is_above =
+            **other > stamp && (writes_what(body, &row.body) || writes_what(&row.body, body));
+        is_above || is_newer((**other, &row.body), body)
+    })?;
+    let what = format!(
+        "box {} said OK to stamp {} and held stamp {} with {}, {}",
+        answered.by,
+        stamp,
+        other,
+        prepare_words(row.prepare),
+        outcome_words(row.outcome)
+    );
+    violation(Part::DaysOrder, what)
+}
+
+/// "Accepted means committed or prepared." "Committed: outcome 3. Prepared: prepare byte 1 or 5 and outcome 0, 1 or 2."
+fn is_accepted(row: &Row) -> bool {
+    row.outcome_byte() == 3 || matches!(row.prepare_byte(), 1 | 5) && row.outcome_byte() < 3
+}
+
+/// Whether the first writes a register that the second reads or writes.
+fn writes_what(writer: &Body, other: &Body) -> bool {
+    let mut written = writer.writes.keys();
+    written
+        .any(|register| other.reads.contains_key(register) || other.writes.contains_key(register))
+}
+
+/// Whether a write, at its stamp, is newer than the version that the reader has of that register.
+fn is_newer((stamp, writer): (u64, &Body), reader: &Body) -> bool {
+    let mut reads = reader.reads.iter();
+    reads.any(|(register, version)| writer.writes.contains_key(register) && stamp > *version)
 }
 
 fn named(merged: &Merged) -> String {

@@ -1,4 +1,5 @@
-//! Random lawful histories on the library: demand 3 holds in each, and each thing that makes a history hard was met often.
+//! Random lawful histories on the library: demand 3 holds in each, boxes keep the day's order, and each thing that makes a
+//! history hard was met often.
 
 use simulator::law::Law;
 use simulator::machine::{Machine, LIBRARY, SECOND};
@@ -11,7 +12,13 @@ const HISTORIES: u64 = 18_000;
 const LEAST: u64 = 100;
 
 /// All that a run must meet.
-const ALL_KINDS: [&str; 50] = [
+const ALL_KINDS: [&str; 56] = [
+    "ABORT by a write above the stamp",
+    "ABSTAIN by a later read of a newer version",
+    "ABSTAIN by a later write",
+    "ABSTAIN by a write above the stamp",
+    "RETRY by a later read of a newer version",
+    "RETRY by a later write",
     "RETRY with a prepared reader's stamp",
     "abort proposed of a declared OK",
     "accepted by f+1 after a merge of a later view",

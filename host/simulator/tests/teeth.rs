@@ -18,7 +18,7 @@ fn found(what: &str, machine: Machine, law: Law, n: u8, part: Part, within: u64)
     };
     let found = run.find(part, within);
     let found = found.unwrap_or_else(|| panic!("{}: not found in {} histories", what, within));
-    let first = &found.play.violations[0];
+    let first = found.play.first_of(part).expect("what was found");
     writeln!(
         io::stdout(),
         "{}: history {} of {} boxes: {}",
@@ -107,6 +107,15 @@ fn merges_that_invent_something_are_found() {
 #[test]
 fn a_result_of_another_view_is_found() {
     fault_found(faults::RESULT_OF_ANY_VIEW, 3, Part::Declared, 20_000);
+}
+
+/// "no entry may be slipped under one already accepted", and "a result already declared final must not be lost when a later
+/// stamp came after it".
+#[test]
+fn the_two_checks_in_the_wrong_places_are_found() {
+    fault_found(faults::OLDER_CHECK_IN_BOXES, 3, Part::DaysOrder, 10);
+    fault_found(faults::DAYS_ORDER_IN_MERGES, 3, Part::Declared, 2_000);
+    fault_found(faults::DAYS_ORDER_IN_MERGES, 5, Part::Declared, 2_000);
 }
 
 #[test]

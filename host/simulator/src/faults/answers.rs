@@ -4,7 +4,7 @@ use reference::bytes::put;
 use reference::reply::refusal_bytes;
 use reference::row::HeldOutcome;
 use reference::{
-    respond, HeldPrepare, Message, Number, Outcome, PrepareResult, Reply, Table, VALLEY,
+    respond, Body, HeldPrepare, Message, Number, Outcome, PrepareResult, Reply, Rows, Table, VALLEY,
 };
 
 type Answer = Result<(Table, Reply), Number>;
@@ -82,11 +82,25 @@ pub fn own_rows_kept(table: &Table, message: &Message) -> Answer {
 
 /// Every new transaction is tentatively OK, whatever the check says.
 pub fn ok_to_all(table: &Table, message: &Message) -> Answer {
+    checked_by(|_, _, _| PrepareResult::Ok, table, message)
+}
+
+/// Every new transaction is checked as a merge checks it.
+pub fn checked_as_in_a_merge(table: &Table, message: &Message) -> Answer {
+    checked_by(reference::check, table, message)
+}
+
+/// Every new transaction gets what another check says of it.
+fn checked_by(
+    check: fn(&Rows, u64, &Body) -> PrepareResult,
+    table: &Table,
+    message: &Message,
+) -> Answer {
     let (mut after, mut reply) = respond(VALLEY, table, message)?;
-    if let Message::ProposePrepare { stamp, .. } = message {
-        let ok = HeldPrepare::tentative(PrepareResult::Ok);
+    if let Message::ProposePrepare { stamp, body } = message {
         if let (false, Some(row)) = (table.rows.contains_key(stamp), after.rows.get_mut(stamp)) {
-            row.prepare = Some(ok);
+            let result = check(&table.rows, *stamp, body);
+            row.prepare = Some(HeldPrepare::tentative(result));
             reply = Reply::to(message, &after);
         }
     }

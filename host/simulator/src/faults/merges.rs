@@ -4,7 +4,7 @@
 use reference::bytes::put;
 use reference::merge::tables_of_run;
 use reference::row::{HeldOutcome, HeldPrepare};
-use reference::{merged, Counts, Outcome, PrepareResult, Row, Table, VALLEY};
+use reference::{merged, proposal_check, Counts, Outcome, PrepareResult, Row, Table, VALLEY};
 use samples::MOST_ROWS;
 use std::collections::BTreeSet;
 
@@ -72,6 +72,54 @@ pub fn agreed_made_final(tables: &mut [Table]) {
             }
         }
     }
+}
+
+/// What the merge checks, it checks by the day's order: the result is made final before the merge by the rules, which so
+/// has nothing left to check.
+pub fn checked_by_days_order(tables: &mut [Table]) {
+    let mut unsettled = checked_in_turn(tables);
+    while let Some(stamp) = unsettled.pop() {
+        let mut settled = tables.to_vec();
+        for table in &mut settled {
+            let is_settled = |other: &u64| *other != stamp && !unsettled.contains(other);
+            table.rows.retain(|other, _| is_settled(other));
+            table.start_rows = table.start_rows.min(table.rows.len());
+        }
+        let view = tables.first().map_or(0, Table::promised);
+        let settled = match merged(VALLEY, &settled, view) {
+            Ok(settled) => settled,
+            // Refused tables stay refused.
+            Err(_) => return,
+        };
+        for row in rows_of(tables, stamp) {
+            let result = proposal_check(&settled.rows, stamp, &row.body);
+            row.prepare = Some(HeldPrepare::finalised(result));
+        }
+    }
+}
+
+/// The stamps that the merge checks, the last one first: "then agreed rows in rising stamp order, then open rows in rising
+/// order".
+fn checked_in_turn(tables: &mut [Table]) -> Vec<u64> {
+    let agreement = agreement(tables);
+    let (mut agreed, mut open) = (Vec::new(), Vec::new());
+    for stamp in stamps(tables) {
+        let rows = rows_of(tables, stamp);
+        let held: Vec<HeldPrepare> = rows.iter().filter_map(|row| row.prepare).collect();
+        let times = |one: &HeldPrepare| held.iter().filter(|other| *other == one).count();
+        let is_settled = held.is_empty()
+            || held.iter().any(|held| held.is_final)
+            || rows.iter().any(|row| row.outcome.is_some());
+        match held.iter().find(|one| times(one) >= agreement) {
+            _ if is_settled => {}
+            Some(one) if one.result == PrepareResult::Ok => agreed.push(stamp),
+            Some(_) => {}
+            None => open.push(stamp),
+        }
+    }
+    agreed.extend(open);
+    agreed.reverse();
+    agreed
 }
 
 /// A result that is agreed with no table to spare loses one of its tables.

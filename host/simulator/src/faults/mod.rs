@@ -1,5 +1,5 @@
-//! The second program with one fault put in: what demand 3 must not let pass. Most are the "Shortcuts that look right" of
-//! document 01.
+//! The second program with one fault put in: what demand 3 must not let pass, or, of one of them, the day's order. Most are
+//! the "Shortcuts that look right" of document 01.
 
 mod answers;
 mod counts;
@@ -75,6 +75,23 @@ pub const FAST_WITH_ONE_LESS: Machine = Machine {
 pub const AGREED_BY_ONE_MORE: Machine = Machine {
     name: "an agreement count of one more",
     merge: |run, view, out| merges::merge(merges::barely_agreed_opened, run, view, out),
+    ..SECOND
+};
+
+/// "The merge keeps the older A and B, because a result already declared final must not be lost when a later stamp came
+/// after it." Here the merge checks as boxes do.
+pub const DAYS_ORDER_IN_MERGES: Machine = Machine {
+    name: "a merge that checks by the day's order",
+    merge: |run, view, out| merges::merge(merges::checked_by_days_order, run, view, out),
+    ..SECOND
+};
+
+/// "no entry may be slipped under one already accepted." Here boxes check messages 1 as the merge checks.
+pub const OLDER_CHECK_IN_BOXES: Machine = Machine {
+    name: "boxes that check by the older rules",
+    answer: |table, message, reply| {
+        answers::answer(answers::checked_as_in_a_merge, table, message, reply)
+    },
     ..SECOND
 };
 

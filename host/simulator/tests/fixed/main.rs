@@ -1,8 +1,9 @@
-//! Short histories that break demand 3 when a rule or a definition is bent, told step by step. With the fault each violates
-//! the part that is named; without it, on the library and on the second program, nothing is violated, and the step that
-//! makes the difference is shown.
+//! Short histories that break demand 3, or the day's order, when a rule or a definition is bent, told step by step. With the
+//! fault each violates the part that is named; without it, on the library and on the second program, nothing is violated,
+//! and the step that makes the difference is shown.
 
 mod confirmed;
+mod order;
 mod told;
 
 use reference::{Decision, Outcome};
@@ -20,12 +21,8 @@ fn holds(history: History, seen: &str) {
         let told = history(machine, Law::whole());
         let words = told.play.words();
         assert_eq!(told.seen, seen, "{}: {}", machine.name, words);
-        assert!(
-            told.play.violations.is_empty(),
-            "{:?} {}",
-            told.play.violations,
-            words
-        );
+        let (lost, slipped) = (&told.play.violations, &told.play.out_of_order);
+        assert!(told.play.held(), "{:?} {:?} {}", lost, slipped, words);
         assert!(!told.play.group.merged.is_empty() && !told.play.group.declared.is_empty());
     }
 }
@@ -35,8 +32,8 @@ fn breaks(history: History, machine: Machine, law: Law, seen: &str, part: Part, 
     let told = history(machine, law);
     let words = told.play.words();
     assert_eq!(told.seen, seen, "{}: {}", machine.name, words);
-    let first = told.play.violations.first().expect(&words);
-    assert_eq!((first.part, &first.what[..]), (part, what), "{}", words);
+    let first = told.play.first_of(part).expect(&words);
+    assert_eq!(first.what, what, "{}", words);
 }
 
 const T_TURNED: &str = "stamp 20 was declared OK in view 0, and the merge for view 1 of boxes";
@@ -341,7 +338,8 @@ fn a_stamp_has_one_outcome() {
     clash_without(Rule::NeverBoth, both_outcomes);
 }
 
-/// "Cutting a merge at 512 rows." The last of 601 stamps is declared OK.
+/// "Cutting a merge at 512 rows." The last of 601 stamps is declared OK. The others come after it to boxes 0 and 1, and get
+/// ABSTAIN there, with a row each all the same.
 fn more_than_512_stamps(machine: Machine, law: Law) -> Told {
     let mut told = Told::of(machine, law, 3);
     told.prepare(&apart(1_000), &[0, 1, 2]);

@@ -16,7 +16,7 @@ pub struct Told {
     pub seen: String,
 }
 
-const REGISTER_0: Access = Access {
+pub const REGISTER_0: Access = Access {
     register: 0,
     number: 0,
 };
