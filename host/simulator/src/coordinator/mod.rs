@@ -1,5 +1,6 @@
 //! The dice that choose the events of a history. They try what the law may forbid, and what it forbids does not happen.
 
+mod behind;
 mod carriage;
 mod outcomes;
 mod prepares;
@@ -94,7 +95,8 @@ impl Coordinator {
         match self.dice.below(100) {
             0..=44 => self.go_on(&row),
             45..=54 => self.prepare(&row),
-            55..=59 => self.split(),
+            55..=58 => self.split(),
+            59 => self.leave_behind(),
             60..=66 => self.count_and_finalise(&row),
             67..=70 => self.declare(row.stamp),
             71..=75 => self.propose_outcome(&row),

@@ -60,14 +60,18 @@ impl Coordinator {
         }
     }
 
-    /// A transaction that was declared is aborted at some boxes, and a newcomer that clashes with it takes its place there.
+    /// A transaction that was declared is aborted at some boxes, often at none that stays behind, and a newcomer that clashes
+    /// with it takes its place there.
     pub(super) fn overturn(&mut self, row: &Row) {
         let before = self.play.group.proposed(row.stamp).next();
         let declared = self.play.group.was_declared(row.stamp).next();
         if declared.is_none() || before == Some(Outcome::Commit) {
             return;
         }
-        let boxes = self.few_or_many_boxes();
+        let mut boxes = self.few_or_many_boxes();
+        if self.dice.in_a_hundred(50) {
+            boxes.retain(|b| !self.behind.contains(b));
+        }
         let abort = make::propose_outcome(row, Outcome::Abort.code());
         self.tell(&boxes, &abort);
         self.finalise_outcome(row.stamp);
@@ -76,16 +80,20 @@ impl Coordinator {
         (0..further).for_each(|_| self.go_on(&newcomer));
     }
 
-    /// A transaction that clashes with another one, best of all one that nobody has heard of.
+    /// A transaction that clashes with another one, best of all one that nobody has heard of but boxes that stay behind.
     pub(super) fn newcomer(&mut self, row: &Row) -> Row {
         let clashing: Vec<&Row> = self
             .rows
             .iter()
             .filter(|other| transactions::clash(row, other))
             .collect();
-        let unheard = clashing
-            .iter()
-            .find(|other| self.play.group.replies_for(other.stamp).is_empty());
+        let group = &self.play.group;
+        let unheard = clashing.iter().filter(|other| {
+            let replies = group.replies_for(other.stamp);
+            let behind = |place: &usize| self.behind.contains(&group.answers[*place].by);
+            replies.iter().all(behind)
+        });
+        let unheard = unheard.max_by_key(|other| group.replies_for(other.stamp).len());
         match (unheard, clashing.is_empty()) {
             (Some(row), _) => Row::clone(row),
             (None, true) => row.clone(),

@@ -10,19 +10,23 @@ impl Coordinator {
             return;
         }
         self.stay_behind();
+        self.next_view();
+        if self.dice.in_a_hundred(85) {
+            self.start_view();
+        }
+    }
+
+    /// Nobody is away any more, and f+1 boxes or more of those that do not stay behind promise the next view.
+    pub(super) fn next_view(&mut self) {
+        self.away.clear();
         self.view += self.dice.one_of(&[1, 1, 1, 2]);
         let quorum = self.play.group.counts.quorum;
         let all = self.play.group.boxes();
-        let mut boxes: Vec<usize> = all
-            .filter(|b| !self.away.contains(b) && !self.behind.contains(b))
-            .collect();
+        let mut boxes: Vec<usize> = all.filter(|b| !self.behind.contains(b)).collect();
         self.dice.shuffle(&mut boxes);
         let more = self.dice.index(boxes.len() - quorum + 1);
         boxes.truncate(quorum + more);
         self.tell(&boxes, &make::change_view(self.view));
-        if self.dice.in_a_hundred(85) {
-            self.start_view();
-        }
     }
 
     /// A box that has missed some views promises one of them late.
@@ -119,10 +123,9 @@ impl Coordinator {
             .any(|b| Some(group.views_of(b).1) == newest && Some(group.views_of(b).0) < newest)
     }
 
-    /// Before a change of the view: nobody is away, and at most f boxes stay behind, often those that did before. Those that
-    /// did and no longer do may catch up.
+    /// Before a change of the view: at most f boxes stay behind, often those that did before. Those that did and no longer do
+    /// may catch up.
     pub(super) fn stay_behind(&mut self) {
-        self.away.clear();
         if self.dice.in_a_hundred(50) {
             let before = std::mem::take(&mut self.behind);
             let f = self.play.group.counts.quorum - 1;
