@@ -148,6 +148,15 @@ it, and the reply is printed and, with --reply, written to a file, also if the
 box refuses. If a start-view takes rows away, they are named: what too few boxes
 had heard of may be missing in the merge.
 
+If the box does not say OK to a stamp that is new to it, a row that stands in
+the way is named, and the register that it is about. Either the transaction
+writes the register, and the row is later; for RETRY it is the row whose stamp
+is given. Or the transaction has read the register, and the row is a newer write
+of it. In JSON this is in_the_way, with register, row and version, which is the
+version that was read, or null if it is about a write. in_the_way is null for
+OK, for other messages, and for a stamp that was held, since nothing is checked
+then.
+
 Of messages 1 to 4 it also says how many rows the search for the stamp compared,
 at most 10 of 512. If no stamp was searched, as for the other messages and where
 one is refused with 2, 3, 4 or 9, nothing is said, and rows_compared in JSON is

@@ -9,7 +9,7 @@
 //! - [`words`]: the words of a command line, [`stamps`]: stamps as people type and see them, and as programs are told them
 //! - [`files`]: reading with a limit, writing so that nothing is lost, one run at a time on a table file
 //! - [`image`], [`message`], [`reply`]: the fields of what was found good; [`names`]: the names of the codes
-//! - [`wrong`]: what is wrong with bytes, and at which byte; [`reasons`]: why a call refused
+//! - [`wrong`]: what is wrong with bytes, and at which byte; [`reasons`]: why a call refused, and what stood in the way of OK
 //! - [`ends`]: how a run ends, [`json`]: answers for programs
 //! - [`demo`]: groups played through the library
 

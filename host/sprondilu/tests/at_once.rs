@@ -18,12 +18,14 @@ use std::sync::atomic::{AtomicBool, Ordering};
 use std::thread;
 use std::time::Duration;
 
-/// Puts a message that proposes this stamp beside the table.
+/// Puts a message that proposes this stamp beside the table. It reads alone: nothing is in the way of such entries, in whatever
+/// order they come, so that the table does not tell which of them came first.
 fn put_message(folder: &Folder, stamp: u64) -> String {
-    let row = samples::Row {
-        stamp,
-        ..samples::row_of_the_paper(0)
+    let read = samples::Access {
+        register: 5,
+        number: 0,
     };
+    let row = samples::Row::of(stamp, vec![read], Vec::new());
     let name = format!("m{}", stamp);
     folder.put(&name, &make::propose_prepare(&row));
     name

@@ -153,11 +153,13 @@ impl Asked<'_> {
         }
         let reply = Reply::of(&answered.reply).expect("a reply of 24 bytes");
         let message = Message::of(&self.bytes);
+        let held = Table::of(before);
         let gone = answered.gone(before);
         let text = format!(
-            "{}: {}; {}{}{}\n",
+            "{}: {}{}; {}{}{}\n",
             self.table.display(),
             reply.words_with(&said(&message, &reply)),
+            reasons::result::words(&held, &message, &reply),
             if answered.after.is_some() {
                 "the table is stored"
             } else {
@@ -171,6 +173,11 @@ impl Asked<'_> {
             fields.push(("register", Json::from(register)));
             fields.extend(stamps::json(stamps::READ, Some(stamp)));
         }
+        let in_the_way = reasons::result::in_the_way(&held, &message, &reply);
+        fields.push((
+            "in_the_way",
+            in_the_way.map_or(Json::Null, |found| found.json()),
+        ));
         fields.push((
             "rows_gone",
             Json::List(gone.iter().map(Row::json).collect()),

@@ -49,9 +49,10 @@ Some words first.
   5=7          register 5 is written, with the value 7
   result       what boxes think of a transaction. OK: nothing speaks against it.
                ABORT: what it read was written over by a committed one.
-               ABSTAIN: it clashes with one that may yet be committed.
-               RETRY 9:1: the committed 9:1 has read what it writes, so that
-               only a later stamp can do. Tentative at first, then final
+               RETRY 9:1: a later one that is committed has read or written
+               what it writes; the last that has is 9:1, so that only a stamp
+               after that can do. ABSTAIN: the same as one of these two, with
+               one that may yet be committed. Tentative at first, then final
   count        what replies come to. Fast: so many boxes agree that their result
                may be declared after one round of radio. Slow: a quorum, f+1 of
                2f+1 boxes, has answered, and has to confirm the result in a

@@ -5,7 +5,7 @@ use crate::common::boxes::{long_table, settled};
 use crate::common::json::{Value, READ, STAMP, VERSION};
 use crate::common::ran::{bad_usage, not_tried, refused};
 use crate::common::{answered, fresh, hex, run, Folder, History};
-use samples::{damage, message as make, random, Dice, Row};
+use samples::{damage, message as make, random, Access, Dice, Row};
 use std::collections::BTreeSet;
 
 /// "After message 1 with stamp 65,537 and one write, register 5, value 7: rows 1, length 57 [..]"
@@ -187,6 +187,148 @@ fn nothing_is_compared_for_refusals_2_3_and_4() {
         let out = run(&folder, "answer t m").out;
         assert!(!out.contains("compared"), "{}", out);
     }
+}
+
+/// A normal table of box 0 of 3 in view 4. Of its rows 1:1, 3:1 and 8:1 are committed, the last with an outcome alone; 5:1 is
+/// prepared, and so is 6:1, whose abort is only noted; 7:1 counts for nothing, since its abort is done.
+fn accepted() -> Vec<u8> {
+    let access = |register, number| Access { register, number };
+    let row = |time: u64, reads: &[(u8, u64)], (register, value), prepare, outcome| Row {
+        prepare,
+        outcome,
+        ..Row::of(
+            time * 65_536 + 1,
+            reads.iter().map(|(k, v)| access(*k, *v)).collect(),
+            vec![access(register, value)],
+        )
+    };
+    let rows = vec![
+        row(1, &[], (5, 7), 1, 3),
+        row(3, &[(6, 0)], (5, 9), 5, 3),
+        row(5, &[(7, 0)], (8, 1), 1, 0),
+        row(6, &[], (9, 1), 5, 2),
+        row(7, &[], (10, 1), 1, 4),
+        row(8, &[], (11, 2), 0, 3),
+    ];
+    let table = samples::Table {
+        view: 4,
+        promised: 4,
+        ..samples::Table::in_view_0(rows)
+    };
+    table.image()
+}
+
+/// The message in words, the result, and of what is in the way: the register, the version that was read of it, if it is a read
+/// that it is about, and the row.
+type Named = (&'static str, &'static str, u8, Option<u64>, &'static str);
+
+const THREE: &str = "3:1 final OK, commit done, read 6@0 write 5=9";
+const FIVE: &str = "5:1 tentative OK, none, read 7@0 write 8=1";
+const SIX: &str = "6:1 final OK, abort noted, write 9=1";
+const EIGHT: &str = "8:1 none, commit done, write 11=2";
+
+#[rustfmt::skip]
+const IN_THE_WAY: [Named; 12] = [
+    // What was read is older than the newest committed write of it, which may be later or earlier than the stamp.
+    ("2:1 read 5@1:1", "ABORT", 5, Some(65_537), THREE),
+    ("9:1 read 4@0 5@1:1 write 7=1", "ABORT", 5, Some(65_537), THREE),
+    ("2:1 read 5@0 write 7=1", "ABORT", 5, Some(0), THREE),
+    ("2:1 read 11@0", "ABORT", 11, Some(0), EIGHT),
+    // The latest row, committed or prepared, that accesses what is written.
+    ("2:1 write 5=1", "RETRY 3:1", 5, None, THREE),
+    ("2:1 write 6=1", "RETRY 3:1", 6, None, THREE),
+    ("2:1 write 4=1 5=1 7=1", "RETRY 5:1", 7, None, FIVE),
+    ("2:1 write 5=1 9=1", "RETRY 6:1", 9, None, SIX),
+    // A prepared row, of a read first.
+    ("9:1 read 8@0", "ABSTAIN", 8, Some(0), FIVE),
+    ("2:1 read 8@0 write 9=1", "ABSTAIN", 8, Some(0), FIVE),
+    ("4:1 write 7=1", "ABSTAIN", 7, None, FIVE),
+    ("4:1 write 7=1 9=1", "ABSTAIN", 9, None, SIX),
+];
+
+#[test]
+fn what_stands_in_the_way_of_a_new_stamp_is_named() {
+    let folder = Folder::new();
+    for (words, result, register, version, row) in IN_THE_WAY {
+        folder.put("t", &accepted());
+        let line = format!("message propose-prepare {} --out m --replace", words);
+        run(&folder, &line).done();
+        let out = run(&folder, "answer t m").done().out;
+        let stamp = words.split(' ').next().expect("a stamp");
+        let about = match version {
+            None => "which it writes: the later row",
+            Some(0) => "which it read in version 0: the newer row",
+            Some(_) => "which it read in version 1:1: the newer row",
+        };
+        let said = format!(
+            ": tentative {} for {}; in the way at register {}, {} {}; the table is stored; ",
+            result, stamp, register, about, row
+        );
+        assert!(out.contains(&said), "{} in {}", said, out);
+        folder.put("t", &accepted());
+        let told = run(&folder, "answer t m --json").done().json();
+        let found = told.at(&["in_the_way"]);
+        assert_eq!(found.number("register"), Some(u64::from(register)));
+        assert_eq!(found.stamp(VERSION), version, "{}", words);
+        let shown = run(&folder, "show t --json").done().json();
+        let held = shown.at(&["table"]).list("rows").iter();
+        let held = held.filter(|held| row.starts_with(&*short(held)));
+        assert_eq!(held.collect::<Vec<_>>(), [found.at(&["row"])], "{}", words);
+    }
+}
+
+/// The stamp of a row as people write it, with the space behind it.
+fn short(row: &Value) -> String {
+    let stamp = row.stamp(STAMP).expect("a stamp");
+    format!("{}:{} ", stamp >> 16, stamp & 0xffff)
+}
+
+/// Nothing was checked now where the stamp was held, and nothing stands in the way of OK.
+#[test]
+fn nothing_is_said_to_be_in_the_way_where_nothing_was_checked() {
+    let folder = Folder::new();
+    for (table, words, said) in [
+        (accepted(), "propose-prepare 2:1 write 10=1", "tentative OK"),
+        (
+            accepted(),
+            "propose-prepare 9:1 write 5=1 8=1",
+            "tentative OK",
+        ),
+        (accepted(), "propose-prepare 8:1 write 11=2", "tentative OK"),
+        (held().0, "propose-prepare 3:1 write 5=7", "tentative ABORT"),
+        (held().0, "finalise-prepare 1:1 view 4 ABORT", "final ABORT"),
+        (
+            held().0,
+            "propose-outcome 9:1 abort write 5=7",
+            "abort noted",
+        ),
+        (held().0, "read 9:1 register 5", "7, written by 2:1"),
+    ] {
+        folder.put("t", &table);
+        run(&folder, &format!("message {} --out m --replace", words)).done();
+        assert_nothing_in_the_way(&folder, said);
+    }
+    for (words, result, ..) in IN_THE_WAY {
+        folder.put("t", &accepted());
+        let line = format!("message propose-prepare {} --out m --replace", words);
+        run(&folder, &line).done();
+        run(&folder, "answer t m").done();
+        // The same message again: the result is held, and is answered as it was.
+        assert_nothing_in_the_way(&folder, &format!("tentative {}", result));
+    }
+}
+
+fn assert_nothing_in_the_way(folder: &Folder, said: &str) {
+    let table = folder.bytes("t");
+    let out = run(folder, "answer t m").done().out;
+    assert!(out.contains(said) && !out.contains("in the way"), "{}", out);
+    folder.put("t", &table);
+    let told = run(folder, "answer t m --json").done().json();
+    let fields = match &told {
+        Value::Object(fields) => fields,
+        other => panic!("{:?}", other),
+    };
+    assert_eq!(fields.get("in_the_way"), Some(&Value::Null), "{:?}", told);
 }
 
 /// The rows that the table had and has no more are told, each of them and no other.

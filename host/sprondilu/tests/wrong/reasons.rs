@@ -3,7 +3,10 @@
 use crate::common::{History, NO_REASON};
 use samples::{message as make, replies, transactions, Dice, Row, Table, TABLE_BYTES};
 use sprondilu::calls::Record;
+use sprondilu::message::Message;
+use sprondilu::reply::Reply;
 use sprondilu::{image, reasons};
+use std::collections::BTreeMap;
 
 #[test]
 fn every_refusal_of_a_box_has_a_reason() {
@@ -24,6 +27,97 @@ fn every_refusal_of_a_box_has_a_reason() {
         }
     }
     assert!(met[3..11].iter().all(|times| *times > 30), "{:?}", met);
+}
+
+/// The result that message 1 got for a new stamp, with the table that it came to and its own stamp and body.
+struct Checked {
+    before: reference::Rows,
+    stamp: u64,
+    body: reference::Body,
+    result: reference::PrepareResult,
+}
+
+impl Checked {
+    /// Nothing if another message came, if the stamp was held, or if the box refused.
+    fn of(before: &[u8], message: &[u8], number: u8, reply: &[u8]) -> Option<Checked> {
+        let before = reference::Table::parse(before)?.0.rows;
+        let (stamp, body) = match reference::Message::parse(message)? {
+            reference::Message::ProposePrepare { stamp, body } => (stamp, body),
+            _ => return None,
+        };
+        if number != 0 || before.contains_key(&stamp) {
+            return None;
+        }
+        let retry = u64::from_be_bytes(reply[16..24].try_into().expect("eight bytes"));
+        let result = reference::PrepareResult::from_code(reply[3], retry).expect("a result");
+        Some(Checked {
+            before,
+            stamp,
+            body,
+            result,
+        })
+    }
+
+    /// Which row and register are named, and why they are in the way.
+    fn assert_true(&self, found: &reasons::result::InTheWay) -> &'static str {
+        use reference::PrepareResult::{Abort, Abstain, Ok, Retry};
+        let (row, register) = (&self.before[&found.row.stamp], found.register);
+        let states = (row.prepare_byte(), row.outcome_byte());
+        assert_eq!((found.row.prepare, found.row.outcome), states);
+        if let Some(version) = found.version {
+            assert_eq!(self.body.reads.get(&register), Some(&version));
+            assert!(row.body.writes.contains_key(&register) && found.row.stamp > version);
+        } else {
+            let (reads, writes) = (&row.body.reads, &row.body.writes);
+            assert!(reads.contains_key(&register) || writes.contains_key(&register));
+            assert!(self.body.writes.contains_key(&register) && found.row.stamp > self.stamp);
+        }
+        let (committed, prepared) = (row.is_committed(), row.is_prepared());
+        match (self.result, found.version) {
+            (Abort, Some(_)) if committed => "ABORT",
+            (Abstain, Some(_)) if prepared => "ABSTAIN, newer",
+            (Abstain, None) if prepared => "ABSTAIN, later",
+            (Retry(stamp), None) if stamp == found.row.stamp && committed => "RETRY, committed",
+            (Retry(stamp), None) if stamp == found.row.stamp && prepared => "RETRY, prepared",
+            (Ok | Abort | Abstain | Retry(_), _) => panic!("{:?}: {:?}", self.result, found),
+        }
+    }
+}
+
+/// For every other result than OK a row is found that stands in the way, and for nothing else.
+#[test]
+fn every_other_result_than_ok_has_a_row_in_the_way() {
+    let mut met = BTreeMap::new();
+    // Those of every seventh seed have a full table, to which nothing is new.
+    for seed in (1..4_000).filter(|seed| seed % 7 != 0) {
+        let mut history = History::seeded(seed);
+        for _ in 0..40 {
+            let message = history.message();
+            let before = history.image.clone();
+            let (number, reply) = history.answer(&message);
+            if number != 0 {
+                continue;
+            }
+            let table = image::Table::of(&before);
+            let said = Reply::of(&reply).expect("a reply");
+            let asked = Message::of(&message);
+            let found = reasons::result::in_the_way(&table, &asked, &said);
+            let words = reasons::result::words(&table, &asked, &said);
+            let checked = Checked::of(&before, &message, number, &reply);
+            let checked = checked.filter(|one| one.result != reference::PrepareResult::Ok);
+            assert_eq!(found.is_some(), checked.is_some(), "{:02x?}", message);
+            assert_eq!(words.is_empty(), checked.is_none(), "{}", words);
+            assert!(!words.contains(NO_REASON), "{}", words);
+            if let (Some(checked), Some(found)) = (checked, found) {
+                *met.entry(checked.assert_true(&found)).or_insert(0) += 1;
+            }
+        }
+    }
+    assert!(
+        met.len() == 5 && met.values().all(|times| *times > 30),
+        "{:?}",
+        met
+    );
 }
 
 /// Changing tables of some boxes, most of which might be merged.
