@@ -508,9 +508,11 @@ static void propose(struct transaction *t, uint8_t outcome)
 
 /*
  * What follows from the declared result; or once more what was proposed, for those that missed it. To try again after
- * an abort is another transaction, under a new stamp: after RETRY one above t->retry. That is the stamp of the latest
- * one, committed or prepared, that has read what this one writes in a version before this one's stamp. One that read a
- * newer version may lie above even that. Boxes may give different retry stamps; a slow answer has the greatest.
+ * an abort is another transaction, under a new stamp. After RETRY that is one above t->retry: the latest one, committed
+ * or prepared, that has read or written what this one writes. Boxes may give different retry stamps; a slow answer has
+ * the greatest. After ABORT the registers are read again first, since a committed one has written what was read. After
+ * ABSTAIN the same is done later, when the one in the way may be finished. An entry for an earlier time gets no OK
+ * under a later one that was accepted on one of its registers.
  */
 void conclude(struct transaction *t)
 {

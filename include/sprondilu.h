@@ -136,7 +136,23 @@ SPRONDILU_ASSERT(sizeof(size_t) == 8, "libsprondilu.a takes lengths of 64 bits")
 #define SPRONDILU_REPLY_STAMP 8
 #define SPRONDILU_REPLY_VALUE 16
 
-/* The codes of 01's four results, in message 2, in a reply that is counted and in an answer of either count. */
+/*
+ * The codes of 01's four results, in message 2, in a reply that is counted and in an answer of either count. A box that
+ * answers message 1 with a stamp s that is new to it gives the first of these that applies, by the rows of its table. A
+ * row is committed if its commit is done. It is prepared if its result is OK and no outcome of it is done.
+ *   SPRONDILU_ABORT          a register was read, and a committed row above the version read writes it, also above s
+ *   SPRONDILU_RETRY          a register is written, and a committed row above s reads or writes it. The retry stamp is
+ *                            the greatest above s of a row, committed or prepared, that reads or writes any register
+ *                            that is written
+ *   SPRONDILU_ABSTAIN        one of these two, with prepared in place of committed
+ *   SPRONDILU_OK             none of these
+ * So "no entry may be slipped under one already accepted" (02). In the table in which RETRY was found, the same body
+ * gets SPRONDILU_OK at every stamp above the retry stamp, or SPRONDILU_ABSTAIN because of a prepared row that writes
+ * above a version that was read.
+ * A result that is held is answered and not checked again. Where only an outcome is held, commit gets SPRONDILU_OK and
+ * abort SPRONDILU_ABORT. A merge checks by 01's older rules, and may accept what message 1 would refuse, since "a
+ * result already declared final must not be lost when a later stamp came after it" (02).
+ */
 #define SPRONDILU_OK 1
 #define SPRONDILU_ABORT 2
 #define SPRONDILU_ABSTAIN 3
