@@ -169,6 +169,14 @@ impl Group {
         answered
     }
 
+    /// What a box would answer to a message that does not come to it: the number, and the reply.
+    pub fn would_answer(&self, box_number: usize, bytes: &[u8]) -> (u8, Reply) {
+        let mut table = self.tables[box_number].clone();
+        let mut reply = [0; 24];
+        let number = (self.machine.answer)(&mut table, bytes, &mut reply);
+        (number, read_reply(&reply).expect("24 bytes"))
+    }
+
     /// Keeps the table that a box has while it promises a view.
     pub fn keep_promise(&mut self, box_number: usize, view: u32) -> bool {
         let parsed = Table::parse(&self.tables[box_number]);

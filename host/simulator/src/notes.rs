@@ -5,7 +5,9 @@ use crate::law::confirmations;
 use crate::newly::by_days_order;
 use crate::play::Play;
 use crate::words::outcome_name;
-use reference::{Body, Decision, HeldOutcome, Message, Outcome, PrepareResult, Row, Rows};
+use reference::{
+    Body, Decision, HeldOutcome, HeldPrepare, Message, Outcome, PrepareResult, Row, Rows,
+};
 
 impl Play {
     pub(crate) fn once(&mut self, what: &str) {
@@ -55,6 +57,15 @@ impl Play {
         self.once_if(is_reader, "RETRY with a prepared reader's stamp");
         if let Some(what) = by_days_order(result, new, before) {
             self.once(what);
+        }
+    }
+
+    /// What a box that said RETRY would say right above the stamp that it gave.
+    pub(crate) fn note_advice(&mut self, again: Option<HeldPrepare>) {
+        match again.map(|held| held.result) {
+            Some(PrepareResult::Ok) => self.once("RETRY with OK right above its stamp"),
+            Some(PrepareResult::Abstain) => self.once("RETRY with ABSTAIN right above its stamp"),
+            _ => {}
         }
     }
 

@@ -7,7 +7,7 @@ use crate::machine::Machine;
 use crate::met::Met;
 use crate::watch::{self, Part, Violation};
 use crate::words;
-use reference::{Decision, HeldPrepare, Message, PrepareResult, Rows, Table};
+use reference::{Decision, HeldPrepare, Message, PrepareResult, Reply, Rows, Table};
 
 /// What came to pass, by its place in the lists of the group.
 pub enum Event {
@@ -29,7 +29,8 @@ pub struct Play {
     pub met: Met,
     /// What did not hold of demand 3 or beyond it, the first one first. A history ends with it.
     pub violations: Vec<Violation>,
-    /// What boxes said OK to against the day's order. A history goes on, so that it is seen what becomes of it.
+    /// What boxes said OK to against the day's order, and stamps of a RETRY that mislead. A history goes on, so that it is seen
+    /// what becomes of it.
     pub out_of_order: Vec<Violation>,
 }
 
@@ -117,15 +118,28 @@ impl Play {
     /// What a box said of a transaction that was new to it.
     fn judge_check(&mut self, answered: &Answered, before: &Rows) {
         let message = self.group.sent[answered.place].message.clone();
-        let reply = &answered.reply;
-        let held = HeldPrepare::from_byte(reply.state, reply.value).flatten();
+        let held = held_prepare(&answered.reply);
         if let (0, Some(new), Some(held)) = (answered.number, carried(&message), held) {
             self.note_check(held.result, new, before);
-            if held.result == PrepareResult::Ok {
-                self.out_of_order
-                    .extend(watch::order(answered, new, before));
-            }
+            let wrong = match held.result {
+                PrepareResult::Ok => watch::order(answered, new, before),
+                PrepareResult::Retry(stamp) => {
+                    let again = self.right_above(answered, stamp);
+                    self.note_advice(again);
+                    watch::advice(answered, again, new.1, before)
+                }
+                PrepareResult::Abort | PrepareResult::Abstain => None,
+            };
+            self.out_of_order.extend(wrong);
         }
+    }
+
+    /// What a box that said RETRY would say of the same body under the next stamp.
+    fn right_above(&self, answered: &Answered, stamp: u64) -> Option<HeldPrepare> {
+        let mut bytes = self.group.sent[answered.place].bytes.clone();
+        bytes[1..9].copy_from_slice(&(stamp + 1).to_be_bytes());
+        let (number, reply) = self.group.would_answer(answered.by, &bytes);
+        held_prepare(&reply).filter(|_| number == 0)
     }
 
     /// The message is sent to a box and arrives there at once.
@@ -247,6 +261,11 @@ impl Play {
     pub fn words(&self) -> String {
         words::history(&self.group, &self.events)
     }
+}
+
+/// What the reply to message 1 or 2 says that the box holds.
+fn held_prepare(reply: &Reply) -> Option<HeldPrepare> {
+    HeldPrepare::from_byte(reply.state, reply.value).flatten()
 }
 
 /// All subsets of so many of these boxes.

@@ -4,7 +4,9 @@
 
 use crate::group::{carried, Accepted, Answered, Declared, Group, Merged};
 use crate::words::{boxes, outcome_name, outcome_words, prepare_words, result_words};
-use reference::{Body, HeldOutcome, HeldPrepare, Message, Number, Outcome, Row, Rows};
+use reference::{
+    Body, HeldOutcome, HeldPrepare, Message, Number, Outcome, PrepareResult, Row, Rows,
+};
 use std::fmt::{self, Display, Formatter};
 
 /// What was promised and did not hold.
@@ -26,6 +28,8 @@ pub enum Part {
     StartTaken,
     /// Beside demand 3: "no entry may be slipped under one already accepted", in the box that says OK to it.
     DaysOrder,
+    /// Beside demand 3: right above the stamp of a RETRY nothing that the box holds is in the way of a write.
+    Advice,
 }
 
 /// Which part did not hold, and of what.
@@ -228,6 +232,34 @@ pub fn order(answered: &Answered, new: (u64, &Body), before: &Rows) -> Option<Vi
         outcome_words(row.outcome)
     );
     violation(Part::DaysOrder, what)
+}
+
+/// A box said RETRY just now to a transaction that was new to it, and would say this of the same body under the stamp right
+/// above the one given. That is OK, unless a prepared row that it held has written above a version that was read.
+pub fn advice(
+    answered: &Answered,
+    again: Option<HeldPrepare>,
+    body: &Body,
+    before: &Rows,
+) -> Option<Violation> {
+    let is_prepared = |row: &Row| is_accepted(row) && row.outcome_byte() != 3;
+    let mut prepared = before.iter().filter(|(_, row)| is_prepared(row));
+    let is_stale = prepared.any(|(stamp, row)| is_newer((*stamp, &row.body), body));
+    let expected = match is_stale {
+        true => PrepareResult::Abstain,
+        false => PrepareResult::Ok,
+    };
+    if again == Some(HeldPrepare::tentative(expected)) {
+        return None;
+    }
+    let what = format!(
+        "box {} said RETRY {} to stamp {}, and right above that {}",
+        answered.by,
+        answered.reply.value,
+        answered.reply.stamp,
+        prepare_words(again)
+    );
+    violation(Part::Advice, what)
 }
 
 /// "Accepted means committed or prepared." "Committed: outcome 3. Prepared: prepare byte 1 or 5 and outcome 0, 1 or 2."

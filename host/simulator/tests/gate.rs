@@ -12,13 +12,15 @@ const HISTORIES: u64 = 18_000;
 const LEAST: u64 = 100;
 
 /// All that a run must meet.
-const ALL_KINDS: [&str; 56] = [
+const ALL_KINDS: [&str; 58] = [
     "ABORT by a write above the stamp",
     "ABSTAIN by a later read of a newer version",
     "ABSTAIN by a later write",
     "ABSTAIN by a write above the stamp",
     "RETRY by a later read of a newer version",
     "RETRY by a later write",
+    "RETRY with ABSTAIN right above its stamp",
+    "RETRY with OK right above its stamp",
     "RETRY with a prepared reader's stamp",
     "abort proposed of a declared OK",
     "accepted by f+1 after a merge of a later view",

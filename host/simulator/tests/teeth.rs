@@ -118,6 +118,12 @@ fn the_two_checks_in_the_wrong_places_are_found() {
     fault_found(faults::DAYS_ORDER_IN_MERGES, 5, Part::Declared, 2_000);
 }
 
+/// "Our pump clients take the next stamp above it and at once meet a prepared reader that lies higher."
+#[test]
+fn a_stamp_that_misleads_is_found() {
+    fault_found(faults::ADVISED_BY_COMMITTED_ALONE, 3, Part::Advice, 500);
+}
+
 #[test]
 fn coordinators_that_keep_not_every_rule_are_found() {
     bent_rule_found(Rule::OneBody, 3, Part::MergeDone, 100);

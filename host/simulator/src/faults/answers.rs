@@ -4,7 +4,8 @@ use reference::bytes::put;
 use reference::reply::refusal_bytes;
 use reference::row::HeldOutcome;
 use reference::{
-    respond, Body, HeldPrepare, Message, Number, Outcome, PrepareResult, Reply, Rows, Table, VALLEY,
+    proposal_check, respond, Body, HeldPrepare, Message, Number, Outcome, PrepareResult, Reply,
+    Rows, Table, VALLEY,
 };
 
 type Answer = Result<(Table, Reply), Number>;
@@ -90,9 +91,22 @@ pub fn checked_as_in_a_merge(table: &Table, message: &Message) -> Answer {
     checked_by(reference::check, table, message)
 }
 
+/// The stamp of a RETRY is that of the latest committed row that is in the way, also if a prepared one is later.
+pub fn advised_by_committed_alone(table: &Table, message: &Message) -> Answer {
+    let committed = |rows: &Rows| -> Rows {
+        let held = rows.iter().filter(|(_, row)| row.is_committed());
+        held.map(|(stamp, row)| (*stamp, row.clone())).collect()
+    };
+    let check = |rows: &Rows, stamp, body: &Body| match proposal_check(rows, stamp, body) {
+        PrepareResult::Retry(_) => proposal_check(&committed(rows), stamp, body),
+        other => other,
+    };
+    checked_by(check, table, message)
+}
+
 /// Every new transaction gets what another check says of it.
 fn checked_by(
-    check: fn(&Rows, u64, &Body) -> PrepareResult,
+    check: impl Fn(&Rows, u64, &Body) -> PrepareResult,
     table: &Table,
     message: &Message,
 ) -> Answer {

@@ -95,6 +95,16 @@ pub const OLDER_CHECK_IN_BOXES: Machine = Machine {
     ..SECOND
 };
 
+/// "Our pump clients take the next stamp above it and at once meet a prepared reader that lies higher." Here the stamp of a
+/// RETRY is that of a committed row still.
+pub const ADVISED_BY_COMMITTED_ALONE: Machine = Machine {
+    name: "RETRY with the stamp of committed rows alone",
+    answer: |table, message, reply| {
+        answers::answer(answers::advised_by_committed_alone, table, message, reply)
+    },
+    ..SECOND
+};
+
 /// "Outcome: any commit or abort held becomes done", but for those that are only noted.
 pub const NOTED_OUTCOME_FORGOTTEN: Machine = Machine {
     name: "a noted outcome forgotten by the merge",
