@@ -1,13 +1,17 @@
-//! A box's answer to a message of each kind: what all sides do to a full table.
+//! A box's answer to a message of each kind: what all sides do to a table that is full, or nearly so.
 
 use crate::{Side, Work, LIBRARY, SECOND, TWIN, WALK};
-use samples::{message, random, Dice, Table, GREATEST_STAMP, TABLE_BYTES};
+use samples::{message, random, Dice, Row, Table, GREATEST_STAMP, TABLE_BYTES};
 
 const REPLY_LENGTH: usize = 24;
 const OK: u8 = 1;
 const FINAL_OK: u8 = 5;
 const COMMIT: u8 = 1;
 const COMMIT_DONE: u8 = 3;
+
+/// The sizes of works on message 1, counted with the new row. A box of three whose view began with 510 rows takes one more,
+/// and no box is ever asked to take a 512th.
+pub const WITH_A_NEW_ROW: [usize; 3] = [64, 256, 511];
 
 /// Tables to which one message of this kind is sent, all rows with the longest bodies.
 pub struct Answering<const KIND: u8> {
@@ -41,6 +45,11 @@ impl<const KIND: u8> Answering<KIND> {
 
 impl<const KIND: u8> Work for Answering<KIND> {
     const NAME: &'static str = name(KIND);
+    const SIZES: [usize; 3] = if KIND == 1 {
+        WITH_A_NEW_ROW
+    } else {
+        [64, 256, 512]
+    };
     const CALL: Option<&'static str> = Some("sprondilu_answer");
     const SIDES: &'static [Side] = &[LIBRARY, TWIN, SECOND, WALK];
     const ABOUT: &'static str = about(KIND);
@@ -98,10 +107,11 @@ const fn about(kind: u8) -> &'static str {
             "\
 `sprondilu_answer` of the library answers message 1 with a new stamp, against the same walks and moves in safe Rust.
 The input is a table by the rules whose rows are all committed and have 4 reads and 4 writes each, but for one row in
-the middle, which the message proposes. Half of the rows move, and the check looks at all. The rows are counted with
-the new one. Each side answers in its own copies of the table, which are made before the clock runs. The second
-program parses the table into one of its own, and writes the image out anew. Beside it stands, as walk, the twin with
-a search that walks the rows from the top."
+the middle, which the message proposes. The view began with all others. Half of the rows move, and the check looks at
+all. The rows are counted with the new one, and 511 are the most that a box of three gets by messages. Each side
+answers in its own copies of the table, which are made before the clock runs. The second program parses the table into
+one of its own, and writes the image out anew. Beside it stands, as walk, the twin with a search that walks the rows
+from the top."
         }
         2 => "Message 2 makes the prepare of the last row of such a table final.",
         3 => "Message 3 notes an outcome in the last row of such a table.",
@@ -156,9 +166,16 @@ fn table_and_message(kind: u8, rows: usize) -> (Table, Vec<u8>) {
 
 /// The row in the middle taken out of the table, and proposed.
 fn proposed(mut table: Table) -> (Table, Vec<u8>) {
-    let row = table.rows.remove(table.rows.len() / 2);
-    table.start_rows = 0;
+    let middle = table.rows.len() / 2;
+    let row = taken_out(&mut table, middle);
     (table, message::propose_prepare(&row))
+}
+
+/// The row at an index taken out of a table, whose view then began with the others.
+pub fn taken_out(table: &mut Table, index: usize) -> Row {
+    let row = table.rows.remove(index);
+    table.start_rows = table.rows.len() as u32;
+    row
 }
 
 /// Another table, with which a view begins whose box is 0 of 3.

@@ -13,6 +13,7 @@ pub struct Comparing<const KIND: u8> {
 
 impl<const KIND: u8> Work for Comparing<KIND> {
     const NAME: &'static str = if KIND == 1 { "compared1" } else { "compared2" };
+    const SIZES: [usize; 3] = Answering::<KIND>::SIZES;
     const CALL: Option<&'static str> = Some("sprondilu_answer_compared");
     const SIDES: &'static [Side] = &[LIBRARY, ANSWER];
     const ABOUT: &'static str = if KIND == 1 {
@@ -96,13 +97,14 @@ mod tests {
         assert_eq!(steps(&[], 1), 0);
     }
 
-    /// The new stamp lies in the middle of 63, 255 and 511 rows, behind the row that is compared first. The stamp of the last of
-    /// 64, 256 and 512 rows lies behind that row too. So 31, 127 and 255 rows are left, and half of those each time: 15, 7, 3, 1.
+    /// The new stamp lies in the middle of 63 and 255 rows, behind the row that is compared first, and before that row in the
+    /// middle of 510. The stamp of the last of 64, 256 and 512 rows lies behind that row. So 31, 127 and 255 rows are left, and
+    /// half of those each time: 15, 7, 3, 1.
     #[test]
     fn as_many_rows_are_compared_as_halves_are_left() {
-        for (rows, compared) in [(64, 6), (256, 8), (512, 9)] {
-            assert_eq!(Comparing::<1>::of(rows).word, compared << 16);
-            assert_eq!(Comparing::<2>::of(rows).word, compared << 16);
-        }
+        let compared = [6, 8, 9].map(|rows| rows << 16);
+        let words_1 = Comparing::<1>::SIZES.map(|rows| Comparing::<1>::of(rows).word);
+        let words_2 = Comparing::<2>::SIZES.map(|rows| Comparing::<2>::of(rows).word);
+        assert_eq!([words_1, words_2], [compared, compared]);
     }
 }

@@ -1,6 +1,6 @@
 //! A box's answer to a message 1 that comes late, among entries that ran one after the other.
 
-use crate::answer::{committed, Answering};
+use crate::answer::{committed, taken_out, Answering};
 use crate::merge::accesses;
 use crate::{Side, Work};
 use samples::{message, Dice, Table};
@@ -12,6 +12,7 @@ pub struct ComingLate {
 
 impl Work for ComingLate {
     const NAME: &'static str = "answer1-late";
+    const SIZES: [usize; 3] = Answering::<1>::SIZES;
     const CALL: Option<&'static str> = Answering::<1>::CALL;
     const SIDES: &'static [Side] = Answering::<1>::SIDES;
     const ABOUT: &'static str = "\
@@ -47,7 +48,6 @@ if all later ones had come before it. They have written what it read, so that it
 fn table_and_message(rows: usize) -> (Table, Vec<u8>) {
     let mut dice = Dice::seeded(3);
     let mut table = committed(1, rows);
-    table.start_rows = 0;
     let mut newest = [0; 64];
     for row in &mut table.rows {
         let stamp = row.stamp;
@@ -57,7 +57,7 @@ fn table_and_message(rows: usize) -> (Table, Vec<u8>) {
             newest[usize::from(write.register)] = stamp;
         }
     }
-    let late = table.rows.remove(rows / 2);
+    let late = taken_out(&mut table, rows / 2);
     (table, message::propose_prepare(&late))
 }
 

@@ -1,6 +1,6 @@
 //! A box's answer to a message 1 that nothing stands in the way of: the check looks through each row to its end.
 
-use crate::answer::{committed, Answering};
+use crate::answer::{committed, taken_out, Answering};
 use crate::{Side, Work};
 use samples::{message, Access, Dice, Row, Table};
 
@@ -16,6 +16,7 @@ impl<const LAST: bool> Work for Passing<LAST> {
     } else {
         "answer1-middle"
     };
+    const SIZES: [usize; 3] = Answering::<1>::SIZES;
     const CALL: Option<&'static str> = Answering::<1>::CALL;
     const SIDES: &'static [Side] = Answering::<1>::SIDES;
     const ABOUT: &'static str = if LAST {
@@ -32,7 +33,7 @@ looks for in those, it finds in none. Half of the rows move."
     fn of(rows: usize) -> Passing<LAST> {
         let mut table = apart(rows);
         let place = if LAST { rows - 1 } else { rows / 2 };
-        let new = proposed(table.rows.remove(place).stamp);
+        let new = proposed(taken_out(&mut table, place).stamp);
         Passing {
             asked: Answering::asked(&table, message::propose_prepare(&new)),
         }
@@ -69,7 +70,6 @@ pub fn proposed(stamp: u64) -> Row {
 pub fn apart(rows: usize) -> Table {
     let mut dice = Dice::seeded(2);
     let mut table = committed(1, rows);
-    table.start_rows = 0;
     for row in &mut table.rows {
         row.reads = numbered(&others(&mut dice), 0);
         row.writes = numbered(&others(&mut dice), row.stamp);
@@ -145,7 +145,7 @@ mod tests {
         for size in Passing::<true>::SIZES {
             assert_passes(&Passing::<true>::of(size).asked, (size - 1, 0));
             let half = size / 2;
-            assert_passes(&Passing::<false>::of(size).asked, (half, half - 1));
+            assert_passes(&Passing::<false>::of(size).asked, (half, size - 1 - half));
         }
     }
 }

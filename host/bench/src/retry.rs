@@ -1,6 +1,6 @@
 //! A box's answer to a message 1 that ends in RETRY: the check finds later readers of what is written, row after row.
 
-use crate::answer::Answering;
+use crate::answer::{taken_out, Answering};
 use crate::passing::{apart, numbered, proposed, WRITTEN};
 use crate::{Side, Work};
 use samples::{message, Table};
@@ -12,6 +12,7 @@ pub struct Retrying {
 
 impl Work for Retrying {
     const NAME: &'static str = "answer1-retry";
+    const SIZES: [usize; 3] = Answering::<1>::SIZES;
     const CALL: Option<&'static str> = Answering::<1>::CALL;
     const SIDES: &'static [Side] = Answering::<1>::SIDES;
     const ABOUT: &'static str = "\
@@ -48,7 +49,7 @@ first read. All rows move.";
 /// none of them, so that no check ends in ABORT.
 fn table_and_message(rows: usize) -> (Table, Vec<u8>) {
     let mut table = apart(rows);
-    let first = proposed(table.rows.remove(0).stamp);
+    let first = proposed(taken_out(&mut table, 0).stamp);
     for row in &mut table.rows {
         row.reads = numbered(&WRITTEN, 0);
     }
