@@ -16,10 +16,10 @@ use Rattle.rules.specs.Tests.{both, either}
 use Rattle.rules.specs.Tables.{Model, Table, tableByRule}
 use Rattle.rules.specs.Numbers.{Number, Number.smallBuffer, Number.badTable, numberCode, Circumstance, applies, first, number}
 use Rattle.rules.specs.Messages.{Message, tableAfter}
-use Rattle.rules.specs.Circumstances.{tooSmall, replyTooSmall, belowLimit, messageByRule}
+use Rattle.rules.specs.Circumstances.{tooSmall, replyTooSmall, keepsRoom, messageByRule}
 use Rattle.rules.specs.Answers.{refusal, replyFrom, taken, refused, answerNumber, answer, proposalCheck}
 use Rattle.rules.proofs.Logic.{cases, same?, either-left, either-right}
-use Rattle.rules.proofs.Answers.{below-limit-fits, taken-by-rule, answer-by-rule, answer-same-box, proposal-by-rule}
+use Rattle.rules.proofs.Answers.{keeps-room-fits, taken-by-rule, answer-by-rule, answer-same-box, proposal-by-rule}
 use Rattle.rules.proofs.NumberExactly.{Wins, number-exactly, zero-exactly, small-first, table-first, message-first}
 use Rattle.table.specs.Images.{formatOne, imageLength}
 use Rattle.table.specs.Parse.{parse}
@@ -38,7 +38,7 @@ use Rattle.answer.specs.Calls.{callCircumstances, callNumber, callTable,
 abbrev pub numberFor : Model → Option Table → Option Message → ℕ
 numberFor M none m = 2
 numberFor M (some T) none = 3
-numberFor M (some T) (some m) = answerNumber M belowLimit T m
+numberFor M (some T) (some m) = answerNumber M keepsRoom T m
 
 number-for : (M : Model) (T : Option Table) (m : Option Message) → number (readCircumstances M T m) ≡ numberFor M T m
 unfolding answerNumber number first applies both either
@@ -58,7 +58,7 @@ to-refusal k e (some T) none = refl
 to-refusal k e (some T) (some m) = rw e
 
 -- the table of an answer that is not refused
-answer-table : (M : Model) (T : Table) (m : Message) → answerNumber M belowLimit T m ≡ 0 → answer M belowLimit proposalCheck T m .table ≡ tableAfter proposalCheck T m
+answer-table : (M : Model) (T : Table) (m : Message) → answerNumber M keepsRoom T m ≡ 0 → answer M keepsRoom proposalCheck T m .table ≡ tableAfter proposalCheck T m
 unfolding answer taken
 answer-table M T m e = rw e
 
@@ -133,10 +133,10 @@ module _ (M : Model) (table message reply : List ℕ) where
     pub said : callReply M table message reply ≡ replaced reply 0 (replyBytes (replyAs (replyFrom (tableAfter proposalCheck before heard) heard)))
 
   -- what was read, if a call is done
-  taken-read : callNumber M table message reply ≡ 0 → (T : Table) × (m : Message) × (parse formatOne M table ≡ some T) × (messageAt formatOne message ≡ some m) × (answerNumber M belowLimit T m ≡ 0)
+  taken-read : callNumber M table message reply ≡ 0 → (T : Table) × (m : Message) × (parse formatOne M table ≡ some T) × (messageAt formatOne message ≡ some m) × (answerNumber M keepsRoom T m ≡ 0)
   taken-read e = go (parse formatOne M table) (messageAt formatOne message) refl refl (sym (not-small (λ d. let z : _≡_ {A = ℕ} 0 1 = sym e ∙ d in absurd (omega arith)) .2) ∙ e)
     where
-      go : (p : Option Table) (q : Option Message) → parse formatOne M table ≡ p → messageAt formatOne message ≡ q → numberFor M p q ≡ 0 → (T : Table) × (m : Message) × (parse formatOne M table ≡ some T) × (messageAt formatOne message ≡ some m) × (answerNumber M belowLimit T m ≡ 0)
+      go : (p : Option Table) (q : Option Message) → parse formatOne M table ≡ p → messageAt formatOne message ≡ q → numberFor M p q ≡ 0 → (T : Table) × (m : Message) × (parse formatOne M table ≡ some T) × (messageAt formatOne message ≡ some m) × (answerNumber M keepsRoom T m ≡ 0)
       go none q a b d = absurd (omega arith)
       go (some T) none a b d = absurd (omega arith)
       go (some T) (some m) a b d = (T, m, a, b, d)
@@ -153,17 +153,17 @@ module _ (M : Model) (table message reply : List ℕ) where
   pub answer-taken : Sound formatOne M → callNumber M table message reply ≡ 0 → AnswerTaken
   answer-taken sound e =
       let (T, m, a, b, d) = taken-read e in
-      let same : answer M belowLimit proposalCheck T m .table ≡ tableAfter proposalCheck T m = answer-table M T m d in
+      let same : answer M keepsRoom proposalCheck T m .table ≡ tableAfter proposalCheck T m = answer-table M T m d in
       let t = parse-by-rule formatOne M table T a in
-      let r : tableByRule M (tableAfter proposalCheck T m) ≡ true = rw same at (answer-by-rule M belowLimit proposalCheck below-limit-fits proposal-by-rule T m t) in
-      let (x, y) = answer-same-box M belowLimit proposalCheck proposal-by-rule T m t in
+      let r : tableByRule M (tableAfter proposalCheck T m) ≡ true = rw same at (answer-by-rule M keepsRoom proposalCheck keeps-room-fits proposal-by-rule T m t) in
+      let (x, y) = answer-same-box M keepsRoom proposalCheck proposal-by-rule T m t in
       let (i, h) = parse-reads formatOne M table T a in
       record {
         before = T;
         heard = m;
         read = a;
         told = b;
-        keepsRules = taken-by-rule M belowLimit T m d;
+        keepsRules = taken-by-rule M keepsRoom T m d;
         after = rw (taken-table m e b) (edited-parses formatOne M (λ T. tableAfter proposalCheck T m) table sound (rw i r) ∙ ap (λ U. some (tableAfter proposalCheck U m)) i);
         byRule = r;
         box = rw same at x;
@@ -174,7 +174,7 @@ module _ (M : Model) (table message reply : List ℕ) where
   -- ---- a call whose table and message were read, taken or refused: it is `rules`' answer, of which the group's history speaks
 
   module _ (sound : Sound formatOne M) (large : callNumber M table message reply ≡ 1 → ⊥) (T : Table) (m : Message) (a : parse formatOne M table ≡ some T) (b : messageAt formatOne message ≡ some m) where
-    number-by-rules : callNumber M table message reply ≡ answerNumber M belowLimit T m
+    number-by-rules : callNumber M table message reply ≡ answerNumber M keepsRoom T m
     number-by-rules = not-small large .2 ∙ rw (a, b)
 
     parses-taken : AnswerTaken → parse formatOne M (callTable M table message reply) ≡ some (tableAfter proposalCheck T m)
@@ -187,7 +187,7 @@ module _ (M : Model) (table message reply : List ℕ) where
 
     -- number, table and reply
     pub answer-as-rules :
-        let said = answer M belowLimit proposalCheck T m in
+        let said = answer M keepsRoom proposalCheck T m in
         (callNumber M table message reply ≡ said .number) × (parse formatOne M (callTable M table message reply) ≡ some (said .table)) × (callReply M table message reply ≡ replaced reply 0 (replyBytes (replyAs (said .reply))))
     unfolding answer taken refused
     answer-as-rules = rw (← number-by-rules) (go (same? (callNumber M table message reply) 0))

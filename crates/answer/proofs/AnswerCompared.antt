@@ -8,7 +8,7 @@ use native.Mathlib.Omega.{arith}
 use Rattle.rules.specs.Tests.{both, either}
 use Rattle.rules.specs.Tables.{Model, Table}
 use Rattle.rules.specs.Messages.{Message, Message.proposePrepare, Message.finalisePrepare, Message.proposeOutcome, Message.finaliseOutcome, Message.changeView, Message.startView, Message.readRegister}
-use Rattle.rules.specs.Circumstances.{belowLimit, isChanging, forOtherView, heldWithOtherBody, heldUnequalFinal, heldOppositeOutcome, newButFull, prepareNotHeld, outcomeNotHeld}
+use Rattle.rules.specs.Circumstances.{keepsRoom, isChanging, forOtherView, heldWithOtherBody, heldUnequalFinal, heldOppositeOutcome, newButFull, prepareNotHeld, outcomeNotHeld}
 use Rattle.rules.proofs.Logic.{none-some}
 use Rattle.rules.proofs.Lists.{_∈_}
 use Rattle.rules.proofs.Tables.{table-facts}
@@ -48,9 +48,9 @@ either-way false = refl
 -- what a message's function counts is what the number says
 pub served-compared : (M : Model) (T : Table) (m : Message) → servedCompared T m ≡ cond (comparesNone (servedNumber M T m)) 0 (searchSteps T m)
 unfolding servedCompared comparedToPropose comparedToFinalise
-served-compared M T (proposePrepare s x) = rw (number-1 M T s x) (proposed (isChanging T) (heldWithOtherBody T s x) false (newButFull M belowLimit T s) (steps (T .rows) s))
+served-compared M T (proposePrepare s x) = rw (number-1 M T s x) (proposed (isChanging T) (heldWithOtherBody T s x) false (newButFull M keepsRoom T s) (steps (T .rows) s))
 served-compared M T (finalisePrepare s v r) = rw (number-2 M T s v r) (finalised (isChanging T) (forOtherView T v) (prepareNotHeld T s) (heldUnequalFinal T s r) (steps (T .rows) s))
-served-compared M T (proposeOutcome s o x) = rw (number-3 M T s o x) (proposed (isChanging T) (heldWithOtherBody T s x) (heldOppositeOutcome T s o) (newButFull M belowLimit T s) (steps (T .rows) s))
+served-compared M T (proposeOutcome s o x) = rw (number-3 M T s o x) (proposed (isChanging T) (heldWithOtherBody T s x) (heldOppositeOutcome T s o) (newButFull M keepsRoom T s) (steps (T .rows) s))
 served-compared M T (finaliseOutcome s v o) = rw (number-4 M T s v o) (finalised (isChanging T) (forOtherView T v) (outcomeNotHeld T s) (heldOppositeOutcome T s o) (steps (T .rows) s))
 served-compared M T (changeView v) = sym (either-way (comparesNone (servedNumber M T (changeView v))))
 served-compared M T (startView v I) = sym (either-way (comparesNone (servedNumber M T (startView v I))))

@@ -12,7 +12,7 @@ use Rattle.rules.specs.Tests.{both, either}
 use Rattle.rules.specs.Tables.{Model, Table}
 use Rattle.rules.specs.Numbers.{Number.smallBuffer, Number.badTable, Number.badMessage, applies, first, number}
 use Rattle.rules.specs.Messages.{Message, Message.proposePrepare, Message.finalisePrepare, Message.proposeOutcome, Message.finaliseOutcome, Message.changeView, Message.startView, Message.readRegister}
-use Rattle.rules.specs.Circumstances.{tooSmall, replyTooSmall, belowLimit, messageByRule, furtherCircumstances, circumstances}
+use Rattle.rules.specs.Circumstances.{tooSmall, replyTooSmall, keepsRoom, messageByRule, furtherCircumstances, circumstances}
 use Rattle.rules.specs.Answers.{answerNumber}
 use Rattle.rules.proofs.Logic.{cases, impossible, either-cases, either-left, either-right, either-first, either-second, either-false}
 use Rattle.rules.proofs.NumberExactly.{number-exactly, number-not-given}
@@ -28,7 +28,7 @@ use Rattle.answer.proofs.AnswerCall.{numberFor, call-number}
 
 -- ---- a message that breaks a rule of its own is answered 3, and any other by what the table holds
 
-broken : (M : Model) (T : Table) (m : Message) → number ((badMessage, true) ∷ furtherCircumstances M belowLimit T m) ≡ 3
+broken : (M : Model) (T : Table) (m : Message) → number ((badMessage, true) ∷ furtherCircumstances M keepsRoom T m) ≡ 3
 unfolding furtherCircumstances number first applies both either
 broken M T (proposePrepare s x) = refl
 broken M T (finalisePrepare s v r) = refl
@@ -38,18 +38,18 @@ broken M T (changeView v) = refl
 broken M T (startView v I) = refl
 broken M T (readRegister s k) = refl
 
-pub own-rule : (M : Model) (T : Table) (m : Message) → answerNumber M belowLimit T m ≡ cond (messageByRule M (T .n) m) (servedNumber M T m) 3
+pub own-rule : (M : Model) (T : Table) (m : Message) → answerNumber M keepsRoom T m ≡ cond (messageByRule M (T .n) m) (servedNumber M T m) 3
 unfolding answerNumber circumstances servedNumber
 own-rule M T m = go (messageByRule M (T .n) m)
   where
-    go : (b : Bool) → number ((badMessage, not b) ∷ furtherCircumstances M belowLimit T m) ≡ cond b (number (furtherCircumstances M belowLimit T m)) 3
-    go true = number-not-given badMessage (furtherCircumstances M belowLimit T m)
+    go : (b : Bool) → number ((badMessage, not b) ∷ furtherCircumstances M keepsRoom T m) ≡ cond b (number (furtherCircumstances M keepsRoom T m)) 3
+    go true = number-not-given badMessage (furtherCircumstances M keepsRoom T m)
     go false = broken M T m
 
 -- ---- what the table holds never gives 1, 2 or 3
 
 further-none : (M : Model) (T : Table) (m : Message) →
-    let cs = furtherCircumstances M belowLimit T m in
+    let cs = furtherCircumstances M keepsRoom T m in
     (applies cs smallBuffer ≡ false) × (applies cs badTable ≡ false) × (applies cs badMessage ≡ false)
 unfolding furtherCircumstances applies both either
 further-none M T (proposePrepare s x) = (refl, refl, refl)
@@ -64,7 +64,7 @@ pub served-other : (M : Model) (T : Table) (m : Message) → (servedNumber M T m
 unfolding servedNumber
 served-other M T m =
     let (a, b, c) = further-none M T m in
-    let cs = furtherCircumstances M belowLimit T m in
+    let cs = furtherCircumstances M keepsRoom T m in
     (λ e. impossible (number-exactly cs smallBuffer .0 e .0) a, λ e. impossible (number-exactly cs badTable .0 e .0) b, λ e. impossible (number-exactly cs badMessage .0 e .0) c)
 
 -- ---- the ways
@@ -94,7 +94,7 @@ module _ (M : Model) (table message reply : List ℕ) where
   unfolding tooSmall replyTooSmall
   answer-way = go (cases (either (tooSmall M (length table)) (replyTooSmall (length reply))))
     where
-      whole : (T : Table) (m : Message) → Large M table reply → parse formatOne M table ≡ some T → messageAt formatOne message ≡ some m → (messageByRule M (T .n) m ≡ true) ⊎ (messageByRule M (T .n) m ≡ false) → AnswerWay M table message reply (answerNumber M belowLimit T m)
+      whole : (T : Table) (m : Message) → Large M table reply → parse formatOne M table ≡ some T → messageAt formatOne message ≡ some m → (messageByRule M (T .n) m ≡ true) ⊎ (messageByRule M (T .n) m ≡ false) → AnswerWay M table message reply (answerNumber M keepsRoom T m)
       whole T m l a b (inl r) = rw (own-rule M T m, r) (served l T m a b r)
       whole T m l a b (inr r) = rw (own-rule M T m, r) (breaksRule l T m a b r)
 

@@ -59,11 +59,6 @@ widened limit s kind keepingRules =
     let b : tableByRule valley (tableAt formatOne s) ≡ true = table-by valley regular (omega arith) in
     rw (b, image-holds (limited limit) s keepingRules)
 
--- a group has boxes
-pub some-boxes : (M : Model) (s : List ℕ) → BeginsWithImage M s → 0 < headerAt s .n
-unfolding tableAt
-some-boxes M s keepingRules = group-bounds (headerAt s .n) (image-regular M s keepingRules .0 .group) .0
-
 -- no message: 3, and nothing is changed
 pub none-answered : (M : Model) (s : List ℕ) → Holds formatOne s → (replyAs (refusal 3) ≡ answerReply M none s) × (s ≡ answerBuffer M none s)
 unfolding refused

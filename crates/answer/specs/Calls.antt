@@ -10,7 +10,7 @@ use Rattle.rules.specs.Tests.{both, either}
 use Rattle.rules.specs.Tables.{Model, Table}
 use Rattle.rules.specs.Numbers.{Number.smallBuffer, Number.badTable, Number.badMessage, Circumstance, number}
 use Rattle.rules.specs.Messages.{Message, Message.proposePrepare, Message.finalisePrepare, Message.proposeOutcome, Message.finaliseOutcome, Message.changeView, Message.startView, Message.readRegister, tableAfter}
-use Rattle.rules.specs.Circumstances.{tooSmall, replyTooSmall, belowLimit, circumstances}
+use Rattle.rules.specs.Circumstances.{tooSmall, replyTooSmall, keepsRoom, circumstances}
 use Rattle.rules.specs.Answers as rules
 use Rattle.rows.specs.Halving.{steps}
 use Rattle.table.specs.Images.{formatOne}
@@ -23,7 +23,7 @@ use Rattle.transact.specs.Replies.{replyAs, replyBytes}
 abbrev pub readCircumstances : Model → Option Table → Option Message → List Circumstance
 readCircumstances M none m = (badTable, true) ∷ []
 readCircumstances M (some T) none = (badMessage, true) ∷ []
-readCircumstances M (some T) (some m) = circumstances M belowLimit T m
+readCircumstances M (some T) (some m) = circumstances M keepsRoom T m
 
 -- 1, "small buffer": "table or output buffer (not a merge's run) below 49,176, or reply buffer below 24"
 abbrev pub callCircumstances : Model → List ℕ → List ℕ → List ℕ → List Circumstance

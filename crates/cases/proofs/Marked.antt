@@ -4,7 +4,7 @@ use mathlib.Core.Bool.{true}
 use mathlib.Core.List.{[], _∷_}
 use Rattle.rules.specs.Tests.{both, either, any, every, count, those, greatest, somePair, twice, firstOf, allOf}
 use Rattle.rules.specs.Stamps.{isStamp, isRegister, bodyByRule, countsByRule, contentsByRule, accessesByRule, sameAccesses, sameBody}
-use Rattle.rules.specs.Circumstances.{circumstances, furtherCircumstances, messageByRule, isChanging, heldWithOtherBody, newButFull, belowLimit}
+use Rattle.rules.specs.Circumstances.{circumstances, furtherCircumstances, messageByRule, isChanging, heldWithOtherBody, newButFull, keepsRoom}
 use Rattle.rules.specs.Answers.{answer, answerNumber, taken, replyFrom, stateByte, replyStamp, replyValue, proposalCheck}
 use Rattle.rules.specs.Tables.{sameResult, somethingHeld, freshTable}
 use Rattle.rules.specs.Numbers.{applies, first, number}
@@ -26,7 +26,7 @@ use Rattle.cases.specs.Marked.{marked}
 use Rattle.cases.specs.Beside.{Counts.c, Counts.p, Counts.n, countsAs, all, beside}
 
 computed : (every holds marked ≡ true) × (every holds beside ≡ true)
-unfolding marked beside holds both either any every count those greatest somePair twice firstOf allOf sameAccesses sameBody sameResult somethingHeld applies first number held changed committed prepared accepted overwrites ruleA ruleB retryStamp checkBy check stale dayA common dayB dayCheck proposalCheck used withStamp withStamps stamps rowsOf mergedOutcome finalOf isAgreed agreedOf standing uncheckedRow uncheckedRows toCheck isSettled checkedAt checkedInTurn mergedRows mergedTable areWrong twoBodies contradictory mergeCircumstances mergeNumber merge freshTable image headerBytes singleBytes fourByteFields rowsBytes rowBytes fieldsOf fieldsBytes bodiesBytes bodiesLength bodyBytes accessesBytes bytes begins answer answerNumber circumstances furtherCircumstances messageByRule isChanging heldWithOtherBody newButFull belowLimit isStamp bodyByRule countsByRule contentsByRule accessesByRule isRegister taken replyFrom stateByte replyStamp replyValue tableAfter prepareProposed added messageAt messageOfKind prepareProposal endsWithBody replyBytes numberAt read.number bodyAt accessesAt accessAt
+unfolding marked beside holds both either any every count those greatest somePair twice firstOf allOf sameAccesses sameBody sameResult somethingHeld applies first number held changed committed prepared accepted overwrites ruleA ruleB retryStamp checkBy check stale dayA common dayB dayCheck proposalCheck used withStamp withStamps stamps rowsOf mergedOutcome finalOf isAgreed agreedOf standing uncheckedRow uncheckedRows toCheck isSettled checkedAt checkedInTurn mergedRows mergedTable areWrong twoBodies contradictory mergeCircumstances mergeNumber merge freshTable image headerBytes singleBytes fourByteFields rowsBytes rowBytes fieldsOf fieldsBytes bodiesBytes bodiesLength bodyBytes accessesBytes bytes begins answer answerNumber circumstances furtherCircumstances messageByRule isChanging heldWithOtherBody newButFull keepsRoom isStamp bodyByRule countsByRule contentsByRule accessesByRule isRegister taken replyFrom stateByte replyStamp replyValue tableAfter prepareProposed added messageAt messageOfKind prepareProposal endsWithBody replyBytes numberAt read.number bodyAt accessesAt accessAt
 computed = (refl, refl)
 
 -- the single statement: every marked case holds

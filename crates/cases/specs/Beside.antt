@@ -5,7 +5,7 @@ use Prim.Native.Nat.{ℕ}
 use lib.ListN.{replicate}
 use Rattle.rules.specs.Tables.{Result.OK, Result.ABORT, Result.ABSTAIN, Result.RETRY, Prepare, Prepare.noPrepare, Prepare.tentative, Prepare.final, Verdict.commit, Verdict.abort, Outcome, Outcome.noOutcome, Outcome.noted, Outcome.done, Row, Table, Model, normalMode, freshTable}
 use Rattle.rules.specs.Messages.{Message, Message.proposePrepare, Message.finalisePrepare, Message.proposeOutcome, Message.finaliseOutcome, Message.changeView, Message.startView, Message.readRegister}
-use Rattle.rules.specs.Circumstances.{belowLimit}
+use Rattle.rules.specs.Circumstances.{keepsRoom}
 use Rattle.rules.specs.Answers.{answer, proposalCheck}
 use Rattle.rules.specs.Stamps.{Body}
 use Rattle.cases.specs.Kinds.{Case, Case.checked, Case.proposed, Case.checkedInMerge, Case.merged, Case.imaged, Case.replied}
@@ -144,7 +144,7 @@ beside =
 -- the numbers that a box of this model answers, message after message
 unfoldable pub numbers : Model → Table → List Message → List ℕ
 numbers M T [] = []
-numbers M T (m ∷ ms) = let a = answer M belowLimit proposalCheck T m in a .number ∷ numbers M (a .table) ms
+numbers M T (m ∷ ms) = let a = answer M keepsRoom proposalCheck T m in a .number ∷ numbers M (a .table) ms
 
 -- a box that is full with two rows
 abbrev pub twoRows : Model

@@ -10,7 +10,7 @@ use Rattle.rules.specs.Groups.{quorum, fastCount, agreementCount}
 use Rattle.rules.specs.Stamps.{Body}
 use Rattle.rules.specs.Tables.{Result, Prepare, prepareCode, prepareRetry, sameResult, Row, Table, valley}
 use Rattle.rules.specs.Messages.{Message, held, prepareOf}
-use Rattle.rules.specs.Circumstances.{belowLimit}
+use Rattle.rules.specs.Circumstances.{keepsRoom}
 use Rattle.rules.specs.Answers.{answer, proposalCheck}
 use Rattle.rules.specs.Check.{check}
 use Rattle.rules.specs.Merge.{merge}
@@ -44,7 +44,7 @@ sameBytes s t = both (begins s t) (eqb (length s) (length t))
 
 abbrev pub repliesSo : Option Message → Table → List ℕ → List ℕ → Bool
 repliesSo none T reply after = false
-repliesSo (some m) T reply after = let a = answer valley belowLimit proposalCheck T m in both (sameBytes reply (replyBytes (replyAs (a .reply)))) (sameBytes after (image formatOne (a .table)))
+repliesSo (some m) T reply after = let a = answer valley keepsRoom proposalCheck T m in both (sameBytes reply (replyBytes (replyAs (a .reply)))) (sameBytes after (image formatOne (a .table)))
 
 unfoldable pub holds : Case → Bool
 holds (counts f q fast agreement) = both (eqb (quorum f) q) (both (eqb (fastCount f) fast) (eqb (agreementCount f) agreement))

@@ -14,7 +14,7 @@ use Rattle.rules.specs.Tests.{both}
 use Rattle.rules.specs.Stamps.{isStamp}
 use Rattle.rules.specs.Tables.{Model, Table}
 use Rattle.rules.specs.Messages.{Message, tableAfter}
-use Rattle.rules.specs.Circumstances.{belowLimit, messageByRule}
+use Rattle.rules.specs.Circumstances.{keepsRoom, messageByRule}
 use Rattle.rules.specs.Answers as rules
 use Rattle.rules.specs.Answers.{Answer, replyFrom, refusal, taken, refused, answerNumber, proposalCheck}
 use Rattle.rules.proofs.Logic.{cases, same?}
@@ -57,7 +57,7 @@ pub taken-reply : (M : Model) (T : Table) (m : Message) →
     let a = answer M T m in
     (a .reply .number ≡ a .number) × (a .reply .number ≡ 0 → a .reply .box ≡ a .table .box)
 unfolding rules.answer taken refused replyFrom refusal
-taken-reply M T m = go (answerNumber M belowLimit T m) (same? (answerNumber M belowLimit T m) 0)
+taken-reply M T m = go (answerNumber M keepsRoom T m) (same? (answerNumber M keepsRoom T m) 0)
   where
     go : (k : ℕ) → (k ≡ 0) ⊎ (eqb k 0 ≡ false) →
         let a = cond (eqb k 0) (taken (tableAfter proposalCheck T m) m) (refused k T) in
@@ -103,7 +103,7 @@ module _ (M : Model) (table message reply : List ℕ) where
         let U = answer M T (said M n message) .table in
         (M .leastBuffer ≤ length (callTable M table message reply)) × (U .box ≡ T .box) × (U .n ≡ n)
     kept-after room =
-        let (box, same) = answer-same-box M belowLimit proposalCheck proposal-by-rule T (said M n message) (parse-by-rule formatOne M table T a) in
+        let (box, same) = answer-same-box M keepsRoom proposalCheck proposal-by-rule T (said M n message) (parse-by-rule formatOne M table T a) in
         let l = answer-length M table message reply sound room in
         let k = large .0 in
         (omega arith, box, same ∙ group)

@@ -17,7 +17,7 @@ use Rattle.rules.specs.Stamps.{Access, accessesByRule, contentsByRule}
 use Rattle.rules.specs.Tables.{prepareCode, prepareRetry, outcomeCode, Row, rowByRule, Model, Table, isView, tableByRule}
 use Rattle.rules.specs.Numbers.{Number, numberCode, order, Circumstance, applies, first, number}
 use Rattle.rules.specs.Messages.{Message, Message.proposePrepare, Message.finalisePrepare, Message.proposeOutcome, Message.finaliseOutcome, Message.changeView, Message.startView, Message.readRegister, kind, held, prepareOf, outcomeOf, tableAfter, Found, nothingFound, writeOf, later, found}
-use Rattle.rules.specs.Circumstances.{belowLimit, messageByRule, circumstances}
+use Rattle.rules.specs.Circumstances.{keepsRoom, messageByRule, circumstances}
 use Rattle.rules.specs.Answers as rules
 use Rattle.rules.specs.Answers.{Reply, stateByte, replyStamp, replyValue, replyFrom, refusal, taken, refused, answerNumber, proposalCheck}
 use Rattle.rules.specs.Check.{committed}
@@ -26,7 +26,7 @@ use Rattle.rules.proofs.Lists.{every-one}
 use Rattle.rules.proofs.Groups.{group-bounds}
 use Rattle.rules.proofs.Rows.{held-from}
 use Rattle.rules.proofs.Tables.{row-facts, Regular, table-facts}
-use Rattle.rules.proofs.Answers.{below-limit-fits, taken-by-rule, answer-by-rule, proposal-by-rule}
+use Rattle.rules.proofs.Answers.{keeps-room-fits, taken-by-rule, answer-by-rule, proposal-by-rule}
 use Rattle.history_cases.specs.Today.{answer}
 use Rattle.rows.specs.Fields.{fieldsOf}
 use Rattle.rows.proofs.Codes.{prepare-code-limit, outcome-code-limit}
@@ -137,13 +137,13 @@ module _ (M : Model) (T : Table) (t : Regular T) where
 
 pub answer-fits : (M : Model) (T : Table) (m : Message) → tableByRule M T ≡ true → ReplyFits (answer M T m .reply)
 unfolding rules.answer taken refused refusal answerNumber number every both
-answer-fits M T m t = go (same? (answerNumber M belowLimit T m) 0)
+answer-fits M T m t = go (same? (answerNumber M keepsRoom T m) 0)
   where
-    go : (answerNumber M belowLimit T m ≡ 0) ⊎ (eqb (answerNumber M belowLimit T m) 0 ≡ false) → ReplyFits (answer M T m .reply)
+    go : (answerNumber M keepsRoom T m ≡ 0) ⊎ (eqb (answerNumber M keepsRoom T m) 0 ≡ false) → ReplyFits (answer M T m .reply)
     go (inl e) =
-        let u : tableByRule M (tableAfter proposalCheck T m) ≡ true = rw e at (answer-by-rule M belowLimit proposalCheck below-limit-fits proposal-by-rule T m t) in
-        rw e (taken-fits M (tableAfter proposalCheck T m) (table-facts M _ u .0) (T .n) m (taken-by-rule M belowLimit T m e))
-    go (inr e) = let l = first-small order (circumstances M belowLimit T m) refl in rw e (omega arith)
+        let u : tableByRule M (tableAfter proposalCheck T m) ≡ true = rw e at (answer-by-rule M keepsRoom proposalCheck keeps-room-fits proposal-by-rule T m t) in
+        rw e (taken-fits M (tableAfter proposalCheck T m) (table-facts M _ u .0) (T .n) m (taken-by-rule M keepsRoom T m e))
+    go (inr e) = let l = first-small order (circumstances M keepsRoom T m) refl in rw e (omega arith)
 
 -- so whatever a box answers is read from the reply buffer
 pub answer-read : (M : Model) (T : Table) (m : Message) → tableByRule M T ≡ true → (reply : List ℕ) → replyIn (replaced reply 0 (replyBytes (replyAs (answer M T m .reply)))) ≡ answer M T m .reply

@@ -9,7 +9,7 @@ use Rattle.rules.specs.Groups.{isGroup}
 use Rattle.rules.specs.Tables.{Verdict, Row, Model, valley}
 use Rattle.rules.specs.Messages.{Message.proposePrepare, Message.proposeOutcome}
 use Rattle.rules.specs.Merge.{holdsVerdict}
-use Rattle.rules.specs.Circumstances.{belowLimit}
+use Rattle.rules.specs.Circumstances.{keepsRoom}
 use Rattle.table.specs.Headers.{headerAt}
 use Rattle.table.specs.Images.{formatOne}
 use Rattle.table.specs.Parse.{tableAt, BeginsWithImage}
@@ -80,7 +80,7 @@ module _ (M : Model) (sound : Sound formatOne M) (room : 24 + 96 * M .rowLimit �
       let is = fresh-read M sound room n group buffers fresh in
       let lawful : Lawful M (freshGroup n) (f .events) = subst (λ G. Lawful M G (f .events)) is (f .lawful) in
       let same = f .same ∙ ap (λ G. after M G (f .events)) is in
-      survives M (afterActs M (freshBoxes M n buffers) acts) (acts-good M sound room (freshBoxes M n buffers) good acts) (subst history.Survival (sym same) (survival n group M belowLimit (f .events) lawful))
+      survives M (afterActs M (freshBoxes M n buffers) acts) (acts-good M sound room (freshBoxes M n buffers) good acts) (subst history.Survival (sym same) (survival n group M keepsRoom (f .events) lawful))
 
 -- valley boxes: in a group of 3, 5 or 7, each has called `sprondilu_fresh` on its table buffer, which answered 0; then, whatever bytes are sent, arrive, are lost, repeated or reordered, and whatever is declared and merged, if it is by the rules
 pub calls-survive : (n : ℕ) → isGroup n ≡ true → (buffers : ℕ → List ℕ) → ((b : ℕ) → b < n → freshNumber valley (buffers b) n b ≡ 0) →

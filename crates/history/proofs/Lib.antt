@@ -4,3 +4,4 @@ pub mod Follow
 pub mod Survival
 pub mod Regular
 pub mod Beyond
+pub mod Reserved

@@ -78,7 +78,7 @@ module _ (M : Model) (room : Room) (proposals : Check) (checks : CheckByRule pro
       go (inr e) = rw e R
 
   -- a merge by the rules is one that message 6 takes
-  merge-starts : (v : ℕ) (Ts : List Table) → ((T : Table) → T ∈ Ts → T ∈ G .had) → (U : Table) → merge M check v Ts ≡ some U → messageByRule M n (startView v U) ≡ true
+  pub merge-starts : (v : ℕ) (Ts : List Table) → ((T : Table) → T ∈ Ts → T ∈ G .had) → (U : Table) → merge M check v Ts ≡ some U → messageByRule M n (startView v U) ≡ true
   unfolding messageByRule
   merge-starts v Ts had U h =
       let (T, m, g, p) = first-table M v Ts (merge-is M check v Ts U h .0) in
@@ -116,7 +116,7 @@ module _ (M : Model) (room : Room) (proposals : Check) (checks : CheckByRule pro
       go v I c (inl i) = R .starts v I (c, i)
       go v I c (inr e) = of-merge v I (subst (MaySend G b) (sym (ap (λ (y : Sent). y .message) e)) may)
 
-  event-regular : (e : Event) → May G e → AllRegular M n (step M room proposals G e)
+  pub event-regular : (e : Event) → May G e → AllRegular M n (step M room proposals G e)
   event-regular (sends b m) may = send-regular b m may
   event-regular (arrives k) may = arrival-regular (at (G .sent) k)
   event-regular (declares t v r) may = record { size = R .size; tables = R .tables; had = R .had; merged = R .merged; starts = R .starts }

@@ -51,7 +51,7 @@ module _ (W : World) (G : Group) (s : State) (k : Sound (setup W) s) (F : Follow
 
 -- ---- the theorem
 
-fresh-one : (n : ℕ) → OneEach (freshGroup n .sent)
+pub fresh-one : (n : ℕ) → OneEach (freshGroup n .sent)
 unfolding freshGroup
 fresh-one n = none-sent
 

@@ -9,7 +9,7 @@ use borrow.Author.Tests.{ltb-true}
 use Rattle.rules.specs.Tests.{both, any}
 use Rattle.rules.specs.Tables.{Result.OK, Result.ABORT, Result.ABSTAIN, Prepare.noPrepare, Prepare.tentative, Prepare.final, Verdict.commit, Verdict.abort, Outcome.noOutcome, Outcome.noted, Outcome.done, Table, valley}
 use Rattle.rules.specs.Messages.{Message.proposeOutcome, Message.startView, held, prepareOf}
-use Rattle.rules.specs.Circumstances.{belowLimit}
+use Rattle.rules.specs.Circumstances.{keepsRoom}
 use Rattle.rules.specs.Answers.{proposalCheck}
 use Rattle.rules.specs.Check.{check}
 use Rattle.rules.specs.Inner.Clashes.{clash}
@@ -159,9 +159,9 @@ pub abort-frees-breaks : Breaks afterAbortFrees
 unfolding computing turned someTurned
 abort-frees-breaks = turned-breaks afterAbortFrees refl
 
-pub abort-frees-lawful : Lawful valley belowLimit bentCheck (freshGroup 5) abortFrees
+pub abort-frees-lawful : Lawful valley keepsRoom bentCheck (freshGroup 5) abortFrees
 unfolding computing
-abort-frees-lawful = lawful-is valley belowLimit bentCheck (freshGroup 5) abortFrees refl
+abort-frees-lawful = lawful-is valley keepsRoom bentCheck (freshGroup 5) abortFrees refl
 
 -- ---- the merge bent
 

@@ -7,7 +7,7 @@ use lib.ListN.{length}
 use Rattle.rules.specs.Tests.{either, every}
 use Rattle.rules.specs.Groups.{isGroup}
 use Rattle.rules.specs.Tables.{Result.OK, Result.ABORT, Result.ABSTAIN, Prepare.noPrepare, Prepare.tentative, Prepare.final, Verdict.commit, Verdict.abort, Outcome.noOutcome, Outcome.noted, Outcome.done, valley}
-use Rattle.rules.specs.Circumstances.{belowLimit}
+use Rattle.rules.specs.Circumstances.{keepsRoom}
 use Rattle.history.specs.Survival.{freshGroup, QuorumOf, Accepted, Survival}
 use Rattle.history_cases.specs.Today.{Lawful}
 use Rattle.history_cases.specs.Histories.{heldIn, heldInMerges}
@@ -23,7 +23,7 @@ five-boxes-lawful = passes-is valley (freshGroup 5) fiveBoxes refl
 -- so the theorem speaks of it
 pub five-boxes-survive : Survival afterFiveBoxes
 unfolding isGroup either
-five-boxes-survive = survival 5 group-of-five valley belowLimit fiveBoxes five-boxes-lawful
+five-boxes-survive = survival 5 group-of-five valley keepsRoom fiveBoxes five-boxes-lawful
   where
     group-of-five : isGroup 5 ≡ true
     group-of-five = refl

@@ -10,7 +10,7 @@ use Rattle.rules.specs.Groups.{isGroup}
 use Rattle.rules.specs.Stamps.{Access}
 use Rattle.rules.specs.Tables.{Result.OK, Result.ABORT, Result.ABSTAIN, Result.RETRY, Prepare.noPrepare, Prepare.tentative, Prepare.final, Verdict, Verdict.commit, Verdict.abort, Outcome.noOutcome, Outcome.noted, Outcome.done, valley}
 use Rattle.rules.specs.Messages.{Message.proposeOutcome}
-use Rattle.rules.specs.Circumstances.{belowLimit}
+use Rattle.rules.specs.Circumstances.{keepsRoom}
 use Rattle.rules.specs.Inner.Clashes.{clash}
 use Rattle.rules.proofs.Lists.{_∈_, places, every-one}
 use Rattle.history.specs.Survival.{Declared, Group, freshGroup, WasSent, QuorumOf, Accepted, Survival}
@@ -42,7 +42,7 @@ ordinary h declared accepted group passed same all =
     let law = passes-is valley (freshGroup (h .n)) (h .events) passed in
     record {
       keepsRules = law;
-      survives = survival (h .n) group valley belowLimit (h .events) law;
+      survives = survival (h .n) group valley keepsRoom (h .events) law;
       wasDeclared = same;
       byQuorum = λ a i. on-acceptances (ending h) (a .stamp) (a .view) (a .outcome) (every-one (acceptedByQuorum (ending h)) accepted all a i);
     }

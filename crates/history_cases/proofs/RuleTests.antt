@@ -12,7 +12,7 @@ use Rattle.rules.specs.Groups.{fOf, quorum}
 use Rattle.rules.specs.Stamps.{Body, sameBody}
 use Rattle.rules.specs.Tables.{Result, Result.OK, Result.ABORT, Result.ABSTAIN, Result.RETRY, Verdict, Verdict.commit, Verdict.abort, prepareCode, prepareRetry, verdictCode, sameResult, Table, Model}
 use Rattle.rules.specs.Messages.{Message, Message.proposePrepare, Message.finalisePrepare, Message.proposeOutcome, Message.finaliseOutcome, Message.changeView, Message.startView, Message.readRegister, Check}
-use Rattle.rules.specs.Circumstances.{Room, belowLimit}
+use Rattle.rules.specs.Circumstances.{Room, keepsRoom}
 use Rattle.rules.specs.Answers.{Reply, proposalCheck}
 use Rattle.rules.specs.Count.{Heard, Counted, Counted.fast, Counted.slow, Counted.wait, Counted.refused, counted}
 use Rattle.rules.proofs.Logic.{impossible, both-left, both-right, both-true, either-cases, eqb-self, not-false-of}
@@ -408,7 +408,7 @@ module _ (M : Model) (room : Room) (proposals : Check) where
 -- ---- a history of today's boxes
 
 abbrev pub passes : Model → Group → List Event → Bool
-passes M = lawful M belowLimit proposalCheck
+passes M = lawful M keepsRoom proposalCheck
 
 pub passes-is : (M : Model) (G : Group) (es : List Event) → passes M G es ≡ true → today.Lawful M G es
-passes-is M = lawful-is M belowLimit proposalCheck
+passes-is M = lawful-is M keepsRoom proposalCheck

@@ -8,7 +8,7 @@ use Rattle.rules.specs.Groups.{fOf, agreementCount}
 use Rattle.rules.specs.Stamps.{Body}
 use Rattle.rules.specs.Tables.{Result, Result.OK, Result.ABORT, Result.ABSTAIN, Result.RETRY, Prepare.final, Verdict.commit, Verdict.abort, Outcome.noOutcome, prepareCode, outcomeCode, Row, Table, valley}
 use Rattle.rules.specs.Messages.{Message.proposePrepare, Message.finalisePrepare, Message.proposeOutcome, Message.finaliseOutcome, Message.changeView, Message.startView}
-use Rattle.rules.specs.Circumstances.{belowLimit}
+use Rattle.rules.specs.Circumstances.{keepsRoom}
 use Rattle.rules.specs.Check.{committed, retryStamp, check}
 use Rattle.rules.specs.DayOrder.{dayA, dayB}
 use Rattle.rules.specs.Merge.{used, groupOf, amongAgreed, amongOpen, toCheck, uncheckedRows, checkedInTurn}
@@ -203,7 +203,7 @@ abortFrees = declaredThenNoted ++ writerThenMerge 6 11
 
 -- boxes answer message 1 by the bent check
 abbrev pub afterAbortFrees : Group
-afterAbortFrees = history.after valley belowLimit bentCheck (freshGroup 5) abortFrees
+afterAbortFrees = history.after valley keepsRoom bentCheck (freshGroup 5) abortFrees
 
 -- ---- the merge bent: "Keeping every agreed OK unchecked lets it clash with a slow final OK."
 

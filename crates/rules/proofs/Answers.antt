@@ -4,7 +4,8 @@ use mathlib.Core.Bool.{Bool, true, false, cond}
 use mathlib.Core.Logic.{_⊎_, inl, inr}
 use mathlib.Core.List.{List}
 use mathlib.Core.Option.{Option, none, some}
-use Prim.Native.Nat.{ℕ, _+_, _≤_, _<_}
+use Prim.Native.Nat.{ℕ, _+_, _-_, _/_, _≤_, _<_}
+use native.Mathlib.Nat.{div-le-self}
 use native.Mathlib.Omega.{arith}
 use lib.Dec.{eqb, ltb}
 use lib.ListN.{length}
@@ -15,7 +16,7 @@ use Rattle.rules.specs.Stamps.{Body, isStamp, bodyByRule}
 use Rattle.rules.specs.Tables.{Result.OK, Result.ABORT, Prepare, Prepare.noPrepare, Prepare.tentative, Prepare.final, Verdict, Verdict.commit, Verdict.abort, Outcome, Outcome.noOutcome, Outcome.noted, Outcome.done, prepareCode, outcomeCode, resultByRule, retryByRule, somethingHeld, Row, rowByRule, rising, Model, Table, normalMode, changingMode, isView, modeByRule, tableByRule, freshTable}
 use Rattle.rules.specs.Numbers.{Number, Number.badMessage, Number.full, Number.oldView, order}
 use Rattle.rules.specs.Messages.{Message, Message.proposePrepare, Message.finalisePrepare, Message.proposeOutcome, Message.finaliseOutcome, Message.changeView, Message.startView, Message.readRegister, Check, held, changed, added, withPrepare, withOutcome, resultFor, answered, notedAs, prepareProposed, prepareFinalised, outcomeProposed, outcomeFinalised, withRows, promising, keepingBox, tableAfter}
-use Rattle.rules.specs.Circumstances.{Room, badGroup, belowLimit, messageByRule, startsView, newButFull, changesToOldView, furtherCircumstances, circumstances}
+use Rattle.rules.specs.Circumstances.{Room, badGroup, keepsRoom, messageByRule, startsView, newButFull, changesToOldView, furtherCircumstances, circumstances}
 use Rattle.rules.specs.Answers.{answerNumber, taken, refused, answer, proposalCheck}
 use Rattle.rules.specs.Check.{accepted}
 use Rattle.rules.specs.Inner.Clashes.{clash}
@@ -31,9 +32,12 @@ use Rattle.rules.proofs.Tables.{verdict-counts, result-counts, stamp-po
 abbrev pub RoomFits : Room → Type 0
 RoomFits room = (limit f start rows : ℕ) → room limit f start rows ≡ true → rows < limit
 
-pub below-limit-fits : RoomFits belowLimit
-unfolding belowLimit
-below-limit-fits limit f start rows h = ltb-true rows limit h
+pub keeps-room-fits : RoomFits keepsRoom
+unfolding keepsRoom
+keeps-room-fits limit f start rows h =
+    let l = ltb-true (rows - start) ((limit - start) / (f + 1)) h in
+    let d = div-le-self (limit - start) (f + 1) in
+    omega arith
 
 -- and of the check that boxes answer message 1 by: its results keep the rows' rule, and after OK no accepted row clashes
 pub proposal-by-rule : CheckByRule proposalCheck

@@ -11,8 +11,10 @@ pub mod DayOrder
 pub mod Rows
 pub mod Tables
 pub mod Answers
+pub mod Room
 pub mod Taken
 pub mod Stamps
+pub mod Union
 pub mod Used
 pub mod Standings
 pub mod Votes

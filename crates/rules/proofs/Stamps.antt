@@ -120,7 +120,7 @@ in-with s u (t ∷ ts) m = go (ltb s t) (eqb s t) refl m (λ m′. in-with s u t
 
 -- ---- the stamps of rows, and of tables
 
-withs-rising : (rs : List Row) (ts : List ℕ) → RisingFrom 0 ts → RisingFrom 0 (withStamps rs ts)
+pub withs-rising : (rs : List Row) (ts : List ℕ) → RisingFrom 0 ts → RisingFrom 0 (withStamps rs ts)
 unfolding withStamps
 withs-rising [] ts h = h
 withs-rising (r ∷ rs) ts h = with-rising 0 (r .stamp) (withStamps rs ts) (omega arith) (withs-rising rs ts h)
@@ -147,7 +147,7 @@ withs-from (r ∷ rs) ts s m = go (with-from (r .stamp) s (withStamps rs ts) m) 
     go (inl e) below = inl (r, List·Memᴰ·head refl, sym e)
     go (inr m′) below = there (below m′)
 
-in-withs : (rs : List Row) (ts : List ℕ) (s : ℕ) → HasStamp s rs ⊎ (s ∈ ts) → s ∈ withStamps rs ts
+pub in-withs : (rs : List Row) (ts : List ℕ) (s : ℕ) → HasStamp s rs ⊎ (s ∈ ts) → s ∈ withStamps rs ts
 unfolding withStamps
 in-withs [] ts s (inl (r, m, e)) = absurd (List·Memᴰ·not-nil m)
 in-withs [] ts s (inr m) = m

@@ -1,8 +1,8 @@
--- 01, 'Numbers returned', row by row: when a message, or a fresh table, is refused. What a merge or a count adds to rows 3, 5, 6 and 7 stands with them.
+-- 01, 'Numbers returned', row by row: when a message, or a fresh table, is refused, with row 7 as 02 amends it. What a merge or a count adds to rows 3, 5, 6 and 7 stands with them.
 use mathlib.Core.Bool.{Bool, false, not}
 use mathlib.Core.List.{List, [], _∷_}
 use mathlib.Core.Option.{Option, none, some}
-use Prim.Native.Nat.{ℕ, _%_}
+use Prim.Native.Nat.{ℕ, _+_, _-_, _/_, _%_}
 use lib.Dec.{eqb, ltb, leb}
 use lib.ListN.{length}
 use Rattle.rules.specs.Tests.{both, either, every, isSome}
@@ -81,14 +81,15 @@ heldUnequalFinal T s r = unequalFinal r (prepareOf (held (T .rows) s))
 unfoldable pub heldOppositeOutcome : Table → ℕ → Verdict → Bool
 heldOppositeOutcome T s v = oppositeOutcome v (outcomeOf (held (T .rows) s))
 
--- ---- 7, "full": "a new stamp with 512 rows held"
+-- ---- 7, "full": "a new stamp with 512 rows held", which 02, P2, amends: "a box refuses a new stamp as full once the rows added since its view began reach 512 less the start rows, divided by f+1 and rounded down"
 
 -- whether one more row has room: by the row limit, f, the start rows and the rows
 abbrev pub Room : Type 0
 Room = ℕ → ℕ → ℕ → ℕ → Bool
 
-unfoldable pub belowLimit : Room
-belowLimit limit f start rows = ltb rows limit
+-- a difference of numbers is 0 where the second is the greater one, and a quotient is rounded down
+unfoldable pub keepsRoom : Room
+keepsRoom limit f start rows = ltb (rows - start) ((limit - start) / (f + 1))
 
 unfoldable pub newButFull : Model → Room → Table → ℕ → Bool
 newButFull M room T s = both (not (isSome (held (T .rows) s))) (not (room (M .rowLimit) (fOf (T .n)) (T .start) (length (T .rows))))

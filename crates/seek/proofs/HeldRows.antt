@@ -9,6 +9,7 @@ use Rattle.wire.specs.Inner.ByteLists.{AllBytes}
 use Rattle.rules.specs.Tests.{every}
 use Rattle.rules.specs.Tables.{Row, Model, rowByRule, prepareCode, prepareRetry, outcomeCode}
 use Rattle.rules.specs.Messages.{held, changed}
+use Rattle.rules.proofs.Groups.{group-bounds}
 use Rattle.rules.proofs.Logic.{both-left, both-right}
 use Rattle.rules.proofs.Lists.{every-one}
 use Rattle.rules.proofs.Rows.{held-from, held-changed}
@@ -38,6 +39,16 @@ image-holds M s has-image = parse-reads formatOne M s (tableAt formatOne s) has-
 -- a table by the rules, read off its bytes
 pub image-regular : (M : Model) (s : List ℕ) → BeginsWithImage M s → Regular (tableAt formatOne s) × (length (tableAt formatOne s .rows) ≤ M .rowLimit)
 image-regular M s has-image = table-facts M (tableAt formatOne s) (parse-by-rule formatOne M s (tableAt formatOne s) has-image)
+
+-- a group has boxes
+pub some-boxes : (M : Model) (s : List ℕ) → BeginsWithImage M s → 0 < headerAt s .n
+unfolding tableAt
+some-boxes M s has-image = group-bounds (headerAt s .n) (image-regular M s has-image .0 .group) .0
+
+-- a view does not begin with more rows than there are
+pub began-with : (M : Model) (s : List ℕ) → BeginsWithImage M s → headerAt s .start ≤ headerAt s .rows
+unfolding tableAt
+began-with M s has-image = rw (holds-rows formatOne s) at (image-regular M s has-image .0 .start)
 
 every-middle : (test : Row → Bool) (xs ys : List Row) (r : Row) → every test (xs ++ (r ∷ ys)) ≡ true → test r ≡ true
 unfolding every

@@ -4,14 +4,16 @@ use mathlib.Core.Bool.{Bool, true, false, not}
 use mathlib.Core.List.{List}
 use mathlib.Core.Logic.{_⊎_, inl, inr}
 use mathlib.Core.Option.{none, some}
-use Prim.Native.Nat.{ℕ, _+_, _*_, _≤_}
+use Prim.Native.Nat.{ℕ, _+_, _-_, _*_, _/_, _≤_}
+use native.Mathlib.Nat.{div-le-self}
+use native.Mathlib.Omega.{arith}
 use lib.Dec.{eqb, ltb}
 use lib.ListN.{length}
-use borrow.Author.Tests.{eq-eqb, ne-eqb, eqb-true}
+use borrow.Author.Tests.{eq-eqb, ne-eqb, eqb-true, le-ltb}
 use Rattle.wire.specs.Inner.ByteLists.{AllBytes}
-use Rattle.rules.specs.Groups.{fOf}
+use Rattle.rules.specs.Groups.{fOf, quorum}
 use Rattle.rules.specs.Tables.{Row, Model, valley, rising}
-use Rattle.rules.specs.Circumstances.{belowLimit, isChanging, forOtherView, heldWithOtherBody, newButFull}
+use Rattle.rules.specs.Circumstances.{keepsRoom, isChanging, forOtherView, heldWithOtherBody, newButFull}
 use Rattle.rules.specs.Tests.{both}
 use Rattle.rules.specs.Stamps.{Body, sameBody}
 use Rattle.rules.specs.Messages.{held}
@@ -111,9 +113,17 @@ module _ (s : List ℕ) (stamp v : ℕ) where
 
 -- ---- messages 1 and 3
 
-pub room-is : (limit : ℕ) (h : Header) → ltb (h .rows) limit ≡ belowLimit limit (fOf (h .n)) (h .start) (h .rows)
-unfolding belowLimit
+-- the rows added, against a share of the rows that were left
+pub room-is : (limit : ℕ) (h : Header) → ltb (h .rows - h .start) ((limit - h .start) / quorum (fOf (h .n))) ≡ keepsRoom limit (fOf (h .n)) (h .start) (h .rows)
+unfolding keepsRoom
 room-is limit h = refl
+
+-- nothing was left, so there is no share
+pub no-room : (limit : ℕ) (h : Header) → limit ≤ h .start → false ≡ keepsRoom limit (fOf (h .n)) (h .start) (h .rows)
+unfolding keepsRoom
+no-room limit h l =
+    let d = div-le-self (limit - h .start) (fOf (h .n) + 1) in
+    sym (le-ltb (h .rows - h .start) ((limit - h .start) / (fOf (h .n) + 1)) (omega arith))
 
 abbrev pub Proposes : List ℕ → ℕ → ℕ → Body → Proposal → ℕ → Type 0
 Proposes s stamp limit x proposal n = (proposal ≡ toPropose (limited limit) (tableAt formatOne s) stamp x) × (n ≡ comparedToPropose (tableAt formatOne s) stamp)
@@ -144,16 +154,16 @@ module _ (s : List ℕ) (stamp limit : ℕ) (x : Body) where
       unfolding heldWithOtherBody
       not-other = rw absent
 
-      room-told : belowLimit limit (fOf (headerAt s .n)) (headerAt s .start) (headerAt s .rows) ≡ belowLimit limit (fOf (tableAt formatOne s .n)) (tableAt formatOne s .start) (length (tableAt formatOne s .rows))
-      unfolding belowLimit
-      room-told = rw (holds-rows formatOne s)
+      room-told : keepsRoom limit (fOf (headerAt s .n)) (headerAt s .start) (headerAt s .rows) ≡ keepsRoom limit (fOf (tableAt formatOne s .n)) (tableAt formatOne s .start) (length (tableAt formatOne s .rows))
+      unfolding tableAt
+      room-told = ap (keepsRoom limit (fOf (headerAt s .n)) (headerAt s .start)) (sym (holds-rows formatOne s))
 
-      pub propose-new : Proposes s stamp limit x (newOrFull (belowLimit limit (fOf (headerAt s .n)) (headerAt s .start) (headerAt s .rows)) place) n
+      pub propose-new : Proposes s stamp limit x (newOrFull (keepsRoom limit (fOf (headerAt s .n)) (headerAt s .start) (headerAt s .rows)) place) n
       unfolding toPropose newButFull both
-      propose-new = (go (cases (belowLimit limit (fOf (headerAt s .n)) (headerAt s .start) (headerAt s .rows))), compares)
+      propose-new = (go (cases (keepsRoom limit (fOf (headerAt s .n)) (headerAt s .start) (headerAt s .rows))), compares)
         where
           room : Bool
-          room = belowLimit limit (fOf (headerAt s .n)) (headerAt s .start) (headerAt s .rows)
+          room = keepsRoom limit (fOf (headerAt s .n)) (headerAt s .start) (headerAt s .rows)
 
           go : (room ≡ true) ⊎ (room ≡ false) → newOrFull room place ≡ toPropose (limited limit) (tableAt formatOne s) stamp x
           go (inl h) = let e = sym room-told ∙ h in rw (said-normal s normal, not-other, absent, e, sym (found .0) ∙ nowhere, h, nowhere)

@@ -1,4 +1,5 @@
 // The row that a message is about, or the number for which it is refused before a row's state is looked at.
+use quorums;
 use rows::lookup;
 use rows::lookup::Place;
 use rows::lookup::Sought;
@@ -7,10 +8,11 @@ use rows::row::RowFields;
 use table::header;
 use table::header::Header;
 ghost use mathlib.Core.Path.{_≡_};
+ghost use Prim.Native.Nat.{_≤_, _<_};
 ghost use lib.ListN.{length};
 ghost use Rattle.rules.specs.Groups.{fOf};
 ghost use Rattle.rules.specs.Tables.{valley};
-ghost use Rattle.rules.specs.Circumstances.{belowLimit, heldWithOtherBody};
+ghost use Rattle.rules.specs.Circumstances.{keepsRoom, heldWithOtherBody};
 ghost use Rattle.rows.specs.Halving.{steps};
 ghost use Rattle.rows.specs.Inner.Places.{placeOf};
 ghost use Rattle.rows.specs.Read.{begins, bodyAt};
@@ -160,16 +162,22 @@ pub fn other_body<'a>(table: &'a [u8], message: &'a [u8], place: Place, given: R
     )
 }
 
-// Whether one more row has room. This is asked here and nowhere else.
+// Whether one more row has room: while fewer were added since the view began than a share of what was left then. There are f+1 shares, one for each table of a merge. This is asked here and nowhere else.
 fn has_room(h: Header, limit: u16) -> bool
-    ensures { λ r. ⌜ r ≡ belowLimit limit (fOf (h .n)) (h .start) (h .rows) ⌝ }
+    requires { ⌜ (0 < h .n) × (h .start ≤ h .rows) ⌝ }
+    ensures { λ r. ⌜ r ≡ keepsRoom limit (fOf (h .n)) (h .start) (h .rows) ⌝ }
 {
-    h.rows < limit as u32
+    if limit as u32 <= h.start {
+        return false;
+    }
+    let left = (limit as u32 - h.start) as usize;
+    ((h.rows - h.start) as usize) < left / quorums::quorum(h.n)
 }
 
 // A stamp that is not held: the place of its row, if there is room. It is asked only where no row is held, so the refusal for a held one is never reached.
 fn new_row(place: Place, h: Header, limit: u16) -> Proposal
-    ensures { λ r. ⌜ r ≡ newOrFull (belowLimit limit (fOf (h .n)) (h .start) (h .rows)) place ⌝ }
+    requires { ⌜ (0 < h .n) × (h .start ≤ h .rows) ⌝ }
+    ensures { λ r. ⌜ r ≡ newOrFull (keepsRoom limit (fOf (h .n)) (h .start) (h .rows)) place ⌝ }
 {
     let Place::Absent { row: index } = place else {
         return Proposal::Against { number: 7 };

@@ -6,16 +6,17 @@ use mathlib.Core.Option.{some, none}
 use Prim.Native.Nat.{ℕ, _+_, _*_, _≤_, _<_}
 use native.Mathlib.Omega.{arith}
 use lib.ListN.{length}
-use borrow.Author.Tests.{eq-eqb, lt-ltb, le-leb, ltb-true}
+use borrow.Author.Tests.{eq-eqb, lt-ltb, le-leb}
 use Rattle.rules.specs.Tests.{both, either}
 use Rattle.rules.specs.Groups.{fOf}
 use Rattle.rules.specs.Stamps.{isStamp, countsByRule}
 use Rattle.rules.specs.Tables.{Row, valley, tableByRule}
 use Rattle.rules.specs.Messages.{held, added}
-use Rattle.rules.specs.Circumstances.{belowLimit}
+use Rattle.rules.specs.Circumstances.{keepsRoom}
 use Rattle.rules.proofs.Logic.{both-true}
 use Rattle.rules.proofs.Rows.{held-added}
 use Rattle.rules.proofs.Tables.{table-by}
+use Rattle.rules.proofs.Answers.{keeps-room-fits}
 use Rattle.rows.specs.declared.row.RowFields.{RowFields}
 use Rattle.rows.specs.Inner.ChangedFields.{withPrepareByte}
 use Rattle.rows.specs.Inner.FieldTests.{codesByRule, fieldsByRule}
@@ -60,11 +61,10 @@ fields-good row stamp counts low = both-true (both-true stamp counts) (both-true
 
 module _ (s : List ℕ) (limit : ℕ) (row : RowFields) (has-image : BeginsWithImage valley s) (kind : limit ≤ 512) (least : 24 + 96 * limit ≤ length s)
     (stamp : isStamp (row .stamp) ≡ true) (counts : countsByRule (row .reads) (row .writes) ≡ true) (low : row .outcome ≤ 4)
-    (room : belowLimit limit (fOf (tableAt formatOne s .n)) (tableAt formatOne s .start) (length (tableAt formatOne s .rows)) ≡ true) where
+    (room : keepsRoom limit (fOf (tableAt formatOne s .n)) (tableAt formatOne s .start) (length (tableAt formatOne s .rows)) ≡ true) where
   pub room-for-row : (headerAt s .rows < 65536) × (headerAt s .length + 24 + sizeOf row ≤ length s) × (headerAt s .length + 24 + sizeOf row < 4294967296)
-  unfolding belowLimit
   room-for-row =
-      let few : length (tableAt formatOne s .rows) < limit = ltb-true _ _ room in
+      let few : length (tableAt formatOne s .rows) < limit = keeps-room-fits _ _ _ _ room in
       let said = holds-rows formatOne s in
       let (fits, small) = room-for-one formatOne (limited limit) s (tableAt formatOne s) (one-sound (limited limit) (omega arith)) (narrowed limit s has-image (omega arith)) (withPrepareByte row 1 0) (fields-good row stamp counts low) few least in
       (omega arith, fits, small)

@@ -13,7 +13,7 @@ use Rattle.rules.specs.Groups.{fOf}
 use Rattle.rules.specs.Stamps.{Body}
 use Rattle.rules.specs.Tables.{Row, Model, Table}
 use Rattle.rules.specs.Messages.{Message, held}
-use Rattle.rules.specs.Circumstances.{belowLimit, isChanging, heldWithOtherBody, newButFull}
+use Rattle.rules.specs.Circumstances.{keepsRoom, isChanging, heldWithOtherBody, newButFull}
 use Rattle.rules.specs.Answers.{refusal}
 use Rattle.rules.proofs.Logic.{cases, both-left, impossible}
 use Rattle.rows.specs.declared.lookup.Place.{Place}
@@ -51,15 +51,15 @@ new-held e = let z : _≡_ {A = ℕ} 0 1 = cc in absurd (omega arith)
 data Way (M : Model) (T : Table) (s : ℕ) (x : Body) : Proposal → Type 0 where
   changing : isChanging T ≡ true → Way M T s x (Against 4)
   otherBody : isChanging T ≡ false → heldWithOtherBody T s x ≡ true → Way M T s x (Against 5)
-  full : isChanging T ≡ false → heldWithOtherBody T s x ≡ false → newButFull M belowLimit T s ≡ true → Way M T s x (Against 7)
-  there : (i : ℕ) → isChanging T ≡ false → heldWithOtherBody T s x ≡ false → newButFull M belowLimit T s ≡ false → placeOf (T .rows) s ≡ place.Held i → Way M T s x (Held i)
-  new : (i : ℕ) → isChanging T ≡ false → heldWithOtherBody T s x ≡ false → newButFull M belowLimit T s ≡ false → placeOf (T .rows) s ≡ place.Absent i → Way M T s x (New i)
+  full : isChanging T ≡ false → heldWithOtherBody T s x ≡ false → newButFull M keepsRoom T s ≡ true → Way M T s x (Against 7)
+  there : (i : ℕ) → isChanging T ≡ false → heldWithOtherBody T s x ≡ false → newButFull M keepsRoom T s ≡ false → placeOf (T .rows) s ≡ place.Held i → Way M T s x (Held i)
+  new : (i : ℕ) → isChanging T ≡ false → heldWithOtherBody T s x ≡ false → newButFull M keepsRoom T s ≡ false → placeOf (T .rows) s ≡ place.Absent i → Way M T s x (New i)
 
 way : (M : Model) (T : Table) (s : ℕ) (x : Body) → Way M T s x (toPropose M T s x)
 unfolding toPropose
-way M T s x = go (cases (isChanging T)) (cases (heldWithOtherBody T s x)) (cases (newButFull M belowLimit T s)) (placeOf (T .rows) s) refl
+way M T s x = go (cases (isChanging T)) (cases (heldWithOtherBody T s x)) (cases (newButFull M keepsRoom T s)) (placeOf (T .rows) s) refl
   where
-    go : (isChanging T ≡ true) ⊎ (isChanging T ≡ false) → (heldWithOtherBody T s x ≡ true) ⊎ (heldWithOtherBody T s x ≡ false) → (newButFull M belowLimit T s ≡ true) ⊎ (newButFull M belowLimit T s ≡ false) → (p : Place) → placeOf (T .rows) s ≡ p → Way M T s x (toPropose M T s x)
+    go : (isChanging T ≡ true) ⊎ (isChanging T ≡ false) → (heldWithOtherBody T s x ≡ true) ⊎ (heldWithOtherBody T s x ≡ false) → (newButFull M keepsRoom T s ≡ true) ⊎ (newButFull M keepsRoom T s ≡ false) → (p : Place) → placeOf (T .rows) s ≡ p → Way M T s x (toPropose M T s x)
     go (inl a) b c p e = rw a (changing a)
     go (inr a) (inl b) c p e = rw (a, b) (otherBody a b)
     go (inr a) (inr b) (inl c) p e = rw (a, b, c) (full a b c)
@@ -68,7 +68,7 @@ way M T s x = go (cases (isChanging T)) (cases (heldWithOtherBody T s x)) (cases
 
 -- nothing was against it so far
 abbrev pub Clear : Model → Table → ℕ → Body → Type 0
-Clear M T s x = (isChanging T ≡ false) × (heldWithOtherBody T s x ≡ false) × (newButFull M belowLimit T s ≡ false)
+Clear M T s x = (isChanging T ≡ false) × (heldWithOtherBody T s x ≡ false) × (newButFull M keepsRoom T s ≡ false)
 
 module _ (M : Model) (T : Table) (s : ℕ) (x : Body) (i : ℕ) where
   pub held-clear : toPropose M T s x ≡ Held i → Clear M T s x × (placeOf (T .rows) s ≡ place.Held i)
@@ -92,7 +92,7 @@ module _ (M : Model) (T : Table) (s : ℕ) (x : Body) (i : ℕ) where
       go (new j a b c p) same = ((a, b, c), p ∙ ap place.Absent (new-same same))
 
 -- a stamp that is new has no row
-pub new-unheld : (M : Model) (T : Table) (s : ℕ) → newButFull M belowLimit T s ≡ true → held (T .rows) s ≡ none
+pub new-unheld : (M : Model) (T : Table) (s : ℕ) → newButFull M keepsRoom T s ≡ true → held (T .rows) s ≡ none
 unfolding newButFull
 new-unheld M T s h = go (held (T .rows) s) (both-left _ _ h)
   where
@@ -101,9 +101,9 @@ new-unheld M T s h = go (held (T .rows) s) (both-left _ _ h)
     go (some r) e = impossible e refl
 
 -- and one that found room has it
-pub room-found : (M : Model) (T : Table) (s : ℕ) → held (T .rows) s ≡ none → newButFull M belowLimit T s ≡ false → belowLimit (M .rowLimit) (fOf (T .n)) (T .start) (length (T .rows)) ≡ true
+pub room-found : (M : Model) (T : Table) (s : ℕ) → held (T .rows) s ≡ none → newButFull M keepsRoom T s ≡ false → keepsRoom (M .rowLimit) (fOf (T .n)) (T .start) (length (T .rows)) ≡ true
 unfolding newButFull both
-room-found M T s unheld h = go (belowLimit (M .rowLimit) (fOf (T .n)) (T .start) (length (T .rows))) (rw unheld at h)
+room-found M T s unheld h = go (keepsRoom (M .rowLimit) (fOf (T .n)) (T .start) (length (T .rows))) (rw unheld at h)
   where
     go : (b : Bool) → not b ≡ false → b ≡ true
     go true e = refl
@@ -112,7 +112,7 @@ room-found M T s unheld h = go (belowLimit (M .rowLimit) (fOf (T .n)) (T .start)
 -- ---- the number, for both kinds: what else may be against it is given as a test
 
 module _ (M : Model) (s : List ℕ) (stamp : ℕ) (x : Body) (holds : Holds formatOne s) (m : Message) (against : Bool)
-    (number : servedNumber M (tableAt formatOne s) m ≡ cond (isChanging (tableAt formatOne s)) 4 (cond (heldWithOtherBody (tableAt formatOne s) stamp x) 5 (cond against 6 (cond (newButFull M belowLimit (tableAt formatOne s) stamp) 7 0))))
+    (number : servedNumber M (tableAt formatOne s) m ≡ cond (isChanging (tableAt formatOne s)) 4 (cond (heldWithOtherBody (tableAt formatOne s) stamp x) 5 (cond against 6 (cond (newButFull M keepsRoom (tableAt formatOne s) stamp) 7 0))))
     (unheld : held (tableAt formatOne s .rows) stamp ≡ none → against ≡ false) where
   abbrev T : Table
   T = tableAt formatOne s

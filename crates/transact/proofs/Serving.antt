@@ -9,7 +9,7 @@ use Rattle.rules.specs.Stamps.{Body}
 use Rattle.rules.specs.Tables.{Result, Verdict, Model, Table}
 use Rattle.rules.specs.Numbers.{applies, first, number}
 use Rattle.rules.specs.Messages.{Message, Message.proposePrepare, Message.finalisePrepare, Message.proposeOutcome, Message.finaliseOutcome, Message.changeView, Message.startView, Message.readRegister, tableAfter}
-use Rattle.rules.specs.Circumstances.{belowLimit, furtherCircumstances, isChanging, heldWithOtherBody, heldUnequalFinal, heldOppositeOutcome, newButFull, prepareNotHeld, outcomeNotHeld, forOtherView, changesToOldView, startsOldView}
+use Rattle.rules.specs.Circumstances.{keepsRoom, furtherCircumstances, isChanging, heldWithOtherBody, heldUnequalFinal, heldOppositeOutcome, newButFull, prepareNotHeld, outcomeNotHeld, forOtherView, changesToOldView, startsOldView}
 use Rattle.rules.specs.Answers.{Answer, refusal, refused, taken, replyFrom, proposalCheck}
 use Rattle.rules.proofs.Logic.{either-none}
 use Rattle.table.specs.Images.{formatOne}
@@ -24,17 +24,17 @@ use Rattle.transact.specs.Inner.Served.{servedNumber, served, servedRepl
 -- ---- the number of each kind: what may refuse it, in 01's order
 
 module _ (M : Model) (T : Table) where
-  pub number-1 : (s : ℕ) (x : Body) → servedNumber M T (proposePrepare s x) ≡ cond (isChanging T) 4 (cond (heldWithOtherBody T s x) 5 (cond (newButFull M belowLimit T s) 7 0))
+  pub number-1 : (s : ℕ) (x : Body) → servedNumber M T (proposePrepare s x) ≡ cond (isChanging T) 4 (cond (heldWithOtherBody T s x) 5 (cond (newButFull M keepsRoom T s) 7 0))
   unfolding servedNumber furtherCircumstances number first applies both either
-  number-1 s x = rw (either-none (isChanging T), either-none (heldWithOtherBody T s x), either-none (newButFull M belowLimit T s))
+  number-1 s x = rw (either-none (isChanging T), either-none (heldWithOtherBody T s x), either-none (newButFull M keepsRoom T s))
 
   pub number-2 : (s v : ℕ) (r : Result) → servedNumber M T (finalisePrepare s v r) ≡ cond (isChanging T) 4 (cond (forOtherView T v) 9 (cond (prepareNotHeld T s) 8 (cond (heldUnequalFinal T s r) 6 0)))
   unfolding servedNumber furtherCircumstances number first applies both either
   number-2 s v r = rw (either-none (isChanging T), either-none (forOtherView T v), either-none (prepareNotHeld T s), either-none (heldUnequalFinal T s r))
 
-  pub number-3 : (s : ℕ) (o : Verdict) (x : Body) → servedNumber M T (proposeOutcome s o x) ≡ cond (isChanging T) 4 (cond (heldWithOtherBody T s x) 5 (cond (heldOppositeOutcome T s o) 6 (cond (newButFull M belowLimit T s) 7 0)))
+  pub number-3 : (s : ℕ) (o : Verdict) (x : Body) → servedNumber M T (proposeOutcome s o x) ≡ cond (isChanging T) 4 (cond (heldWithOtherBody T s x) 5 (cond (heldOppositeOutcome T s o) 6 (cond (newButFull M keepsRoom T s) 7 0)))
   unfolding servedNumber furtherCircumstances number first applies both either
-  number-3 s o x = rw (either-none (isChanging T), either-none (heldWithOtherBody T s x), either-none (heldOppositeOutcome T s o), either-none (newButFull M belowLimit T s))
+  number-3 s o x = rw (either-none (isChanging T), either-none (heldWithOtherBody T s x), either-none (heldOppositeOutcome T s o), either-none (newButFull M keepsRoom T s))
 
   pub number-4 : (s v : ℕ) (o : Verdict) → servedNumber M T (finaliseOutcome s v o) ≡ cond (isChanging T) 4 (cond (forOtherView T v) 9 (cond (outcomeNotHeld T s) 8 (cond (heldOppositeOutcome T s o) 6 0)))
   unfolding servedNumber furtherCircumstances number first applies both either

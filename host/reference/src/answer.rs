@@ -7,6 +7,7 @@ use crate::halving::compared_for;
 use crate::message::Message;
 use crate::numbers::{first_that_applies, Number};
 use crate::reply::{refusal_bytes, Answered, Reply, REPLY_LENGTH};
+use crate::room::has_room;
 use crate::row::{HeldOutcome, HeldPrepare, Outcome, PrepareResult, Row};
 use crate::table::{Mode, Table};
 use crate::Model;
@@ -166,11 +167,11 @@ fn contradiction(table: &Table, message: &Message) -> bool {
     }
 }
 
-/// "a new stamp with 512 rows held"
+/// "a new stamp with 512 rows held", as document 02 amends it: with no room for it.
 fn full(model: Model, table: &Table, message: &Message) -> bool {
     match message {
         Message::ProposePrepare { stamp, .. } | Message::ProposeOutcome { stamp, .. } => {
-            !table.rows.contains_key(stamp) && table.rows.len() >= model.rows
+            !table.rows.contains_key(stamp) && !has_room(model, table)
         }
         _ => false,
     }

@@ -12,6 +12,7 @@
 //! - [`message`], [`answer`], [`reply`]: "Messages to a box"
 //! - [`check`], [`merge`], [`count`]: the chapters of these names; of the check, rule B as document 02 mends it
 //! - [`day_order`]: the check for messages 1, which document 02 asks for; the merge keeps the one of [`check`]
+//! - [`room`]: how many rows a box may add in a view, which document 02 asks for
 //! - [`halving`]: the rows that the search for a stamp compares, which document 02 asks for
 
 pub mod answer;
@@ -26,6 +27,7 @@ pub mod merge;
 pub mod message;
 pub mod numbers;
 pub mod reply;
+pub mod room;
 pub mod row;
 pub mod stamps;
 pub mod table;

@@ -24,7 +24,7 @@ use Rattle.history.proofs.Follow.Views.{start-facts, taken-change, take
 use Rattle.history.proofs.Follow.Follows.{Named, Backed, Follows, answer-follows}
 
 -- what stands at a place of a list is in it
-at-in : {A : Type 0} (xs : List A) (i : ℕ) (x : A) → at xs i ≡ some x → x ∈ xs
+pub at-in : {A : Type 0} (xs : List A) (i : ℕ) (x : A) → at xs i ≡ some x → x ∈ xs
 unfolding at
 at-in [] i x e = none-some e
 at-in (y ∷ ys) zero x e = let z : x ≡ y = cc in List·Memᴰ·head z

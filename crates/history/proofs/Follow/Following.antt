@@ -96,7 +96,7 @@ module _ (M : Model) (room : Room) (proposals : Check) where
   step-sent G (declares s v r) x i = i
   step-sent G (merges v ks) x i = rw (merging-sent G v (merge M check v (allOf (at (G .had)) ks))) i
 
-  after-sent : (es : List Event) (G : Group) (x : Sent) → x ∈ G .sent → x ∈ after M room proposals G es .sent
+  pub after-sent : (es : List Event) (G : Group) (x : Sent) → x ∈ G .sent → x ∈ after M room proposals G es .sent
   after-sent [] G x i = i
   after-sent (e ∷ es) G x i = after-sent es (step M room proposals G e) x (step-sent G e x i)
 

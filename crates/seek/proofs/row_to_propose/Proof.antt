@@ -8,7 +8,7 @@ use Rattle.rules.specs.Tables.{valley}
 use Rattle.rows.specs.Read.{bodyAt}
 use Rattle.table.specs.Images.{formatOne}
 use Rattle.edit.proofs.Holding.{one-starts, holds-least}
-use Rattle.seek.proofs.HeldRows.{image-holds, held-here}
+use Rattle.seek.proofs.HeldRows.{image-holds, some-boxes, began-with, held-here}
 use Rattle.seek.proofs.SoughtRows.{propose-changing, propose-other, propose-held, propose-new}
 use Rattle.seek.proofs.row_to_propose.Statement.{statement}
 use Rattle.seek.proofs.row_to_propose.Tie as tie
@@ -35,7 +35,8 @@ enum-told : tie.Need-enum-told
 enum-told c = search needs
 
 new-row-requires : tie.Need-new-row-requires
-new-row-requires c κs = search needs
+new-row-requires c κs = let p = c .before .before .before .before .before .before .before .before in
+    rw (c .before .before .before .before .before .read .ensures) (some-boxes valley (now (p .args .table)) (p .pre .0), began-with valley (now (p .args .table)) (p .pre .0))
 
 returns-2 : tie.Need-returns-2
 returns-2 c = let p = c .before .before .before .before .before .before .before .before .before in

@@ -7,7 +7,7 @@ use lib.ListN.{length}
 use Rattle.rules.specs.Tests.{both}
 use Rattle.rules.specs.Stamps.{Body}
 use Rattle.rules.specs.Tables.{Model, Table}
-use Rattle.rules.specs.Circumstances.{belowLimit, isChanging, heldWithOtherBody, newButFull, forOtherView}
+use Rattle.rules.specs.Circumstances.{keepsRoom, isChanging, heldWithOtherBody, newButFull, forOtherView}
 use Rattle.rows.specs.declared.row.RowFields.{RowFields}
 use Rattle.rows.specs.Fields.{rowLength, fieldsAt}
 use Rattle.rows.specs.Inner.Rows.{BodyInside, bodyPart}
@@ -46,7 +46,7 @@ newOrFull room (Absent i) = cond room (propose.New i) (propose.Against 7)
 unfoldable pub toPropose : Model → Table → ℕ → Body → Proposal
 toPropose M T s x =
     cond (isChanging T) (propose.Against 4)
-    (cond (heldWithOtherBody T s x) (propose.Against 5) (cond (newButFull M belowLimit T s) (propose.Against 7) (heldOrNew (placeOf (T .rows) s))))
+    (cond (heldWithOtherBody T s x) (propose.Against 5) (cond (newButFull M keepsRoom T s) (propose.Against 7) (heldOrNew (placeOf (T .rows) s))))
 
 -- ---- the body of either
 

@@ -7,7 +7,7 @@ use Rattle.rules.specs.Tests.{either}
 use Rattle.rules.specs.Tables.{Model, Table}
 use Rattle.rules.specs.Numbers.{number}
 use Rattle.rules.specs.Messages.{Message, Message.proposePrepare, Message.finalisePrepare, Message.proposeOutcome, Message.finaliseOutcome, Message.changeView, Message.startView, Message.readRegister, tableAfter}
-use Rattle.rules.specs.Circumstances.{belowLimit, furtherCircumstances}
+use Rattle.rules.specs.Circumstances.{keepsRoom, furtherCircumstances}
 use Rattle.rules.specs.Answers.{Answer, refused, taken, proposalCheck}
 use Rattle.table.specs.Images.{formatOne}
 use Rattle.table.specs.Parse.{tableAt}
@@ -17,7 +17,7 @@ use Rattle.transact.specs.declared.reply.Reply.{Reply}
 use Rattle.transact.specs.Replies.{replyAs}
 
 unfoldable pub servedNumber : Model → Table → Message → ℕ
-servedNumber M T m = number (furtherCircumstances M belowLimit T m)
+servedNumber M T m = number (furtherCircumstances M keepsRoom T m)
 
 unfoldable pub served : Model → Table → Message → Answer
 served M T m = cond (eqb (servedNumber M T m) 0) (taken (tableAfter proposalCheck T m) m) (refused (servedNumber M T m) T)

@@ -6,7 +6,8 @@ use borrow.Author.Needs.{needs}
 use Rattle.table.specs.Images.{formatOne}
 use Rattle.table.specs.Parse.{parse}
 use Rattle.seek.specs.Inner.Limits.{limited}
-use Rattle.answer.proofs.Responding.{found-nothing, found-begins, widened, some-boxes, heard-so, heard-compared}
+use Rattle.seek.proofs.HeldRows.{some-boxes}
+use Rattle.answer.proofs.Responding.{found-nothing, found-begins, widened, heard-so, heard-compared}
 use Rattle.answer.proofs.call.respond.Statement.{statement}
 use Rattle.answer.proofs.call.respond.Tie as tie
 
