@@ -12,12 +12,12 @@ use Rattle.rules.specs.Answers.{answer, answerNumber, taken, refused, refusal, 
 use Rattle.rules.specs.Check.{committed, prepared, accepted, retryStamp, checkBy}
 use Rattle.rules.specs.DayOrder.{stale, dayA, common, dayB, dayCheck}
 use Rattle.cases.specs.Marked.{writes, row}
-use Rattle.cases.specs.Beside.{afterOne, numbers, twoRows, messages}
+use Rattle.cases.specs.Beside.{afterOne, numbers, fourRows, messages}
 
 -- one message after the other: each refusal in its circumstances, and a refused message leaves the next one the same table
 -- and "After message 1 with stamp 65,537 and one write, register 5, value 7": one row, "prepare 1, outcome 0"
 pub answered :
-    (numbers twoRows (freshTable 3 0) messages ≡ 0 ∷ 5 ∷ 3 ∷ 9 ∷ 8 ∷ 0 ∷ 6 ∷ 8 ∷ 0 ∷ 6 ∷ 0 ∷ 0 ∷ 3 ∷ 0 ∷ 7 ∷ 10 ∷ 0 ∷ 4 ∷ 10 ∷ 3 ∷ 0 ∷ 0 ∷ [])
+    (numbers fourRows (freshTable 3 0) messages ≡ 0 ∷ 5 ∷ 3 ∷ 9 ∷ 8 ∷ 0 ∷ 6 ∷ 8 ∷ 0 ∷ 6 ∷ 0 ∷ 0 ∷ 3 ∷ 0 ∷ 7 ∷ 10 ∷ 0 ∷ 4 ∷ 10 ∷ 3 ∷ 0 ∷ 0 ∷ 0 ∷ 7 ∷ 0 ∷ [])
     × (answer valley keepsRoom proposalCheck (freshTable 3 0) (proposePrepare 65537 writes) ≡ record {
       number = 0;
       table = afterOne;

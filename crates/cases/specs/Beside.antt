@@ -146,9 +146,9 @@ unfoldable pub numbers : Model → Table → List Message → List ℕ
 numbers M T [] = []
 numbers M T (m ∷ ms) = let a = answer M keepsRoom proposalCheck T m in a .number ∷ numbers M (a .table) ms
 
--- a box that is full with two rows
-abbrev pub twoRows : Model
-twoRows = record { rowLimit = 2; leastBuffer = 0 }
+-- a box of four rows. In a group of three it takes two new ones in its first view, and one in a view that began with one
+abbrev pub fourRows : Model
+fourRows = record { rowLimit = 4; leastBuffer = 0 }
 
 -- an image that starts view v in a group of three, if it names the right box
 abbrev pub starting : ℕ → ℕ → Table
@@ -178,4 +178,7 @@ messages =
     ∷ startView 3 (starting 3 1)
     ∷ startView 3 (starting 3 0)
     ∷ readRegister 65537 5
+    ∷ proposePrepare 70000 writes
+    ∷ proposePrepare 70001 writes
+    ∷ proposePrepare 70000 writes
     ∷ []

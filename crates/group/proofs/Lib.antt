@@ -14,6 +14,7 @@ pub mod Merging
 pub mod Following
 pub mod FreshStart
 pub mod Survival
+pub mod NeverFull
 pub mod OneStep
 pub mod Stepped
 pub mod Played

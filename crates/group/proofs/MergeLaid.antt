@@ -25,7 +25,7 @@ use Rattle.group.specs.Inner.HeldGroups.{Leaves}
 
 module _ (M : Model) (run : List ℕ) (v : ℕ) (out : List ℕ) where
   module _ (sound : Sound formatOne M) (room : 24 + 96 * M .rowLimit ≤ M .leastBuffer) (Ts : List Table) (are : images M run ≡ some Ts) (large : M .leastBuffer ≤ length out) where
-    is-number : callNumber M run v out ≡ numberOf M v (oneOrMore (some Ts))
+    pub is-number : callNumber M run v out ≡ numberOf M v (oneOrMore (some Ts))
     unfolding runTables tooSmall
     is-number = rw (merge-number M run v out, le-ltb (length out) (M .leastBuffer) large, are)
 

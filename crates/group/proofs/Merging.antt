@@ -56,7 +56,7 @@ module _ (M : Model) (sound : Sound formatOne M) (room : 24 + 96 * M .rowLimit �
     by-rules : (T : Table) → T ∈ tables → tableByRule M T ≡ true
     by-rules = each-mapped (λ T. tableByRule M T ≡ true) (tableAt formatOne) (of .0) (λ s i. parse-by-rule formatOne M s (tableAt formatOne s) (good .had s (of .2 s i)))
 
-    run-is : images M run ≡ some tables
+    pub run-is : images M run ≡ some tables
     run-is = ap (images M) (of .1 ∙ images-in M (of .0) sound (λ s i. good .had s (of .2 s i))) ∙ images-laid M sound tables by-rules
 
     -- what is made of a merge of `rules`, or of none

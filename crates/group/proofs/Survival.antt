@@ -73,14 +73,20 @@ module _ (M : Model) (B : GroupInBuffers) (good : Good M B) (S : history.Surviva
 
 -- for boxes of any row limit whose buffers have room for it
 module _ (M : Model) (sound : Sound formatOne M) (room : 24 + 96 * M .rowLimit ≤ M .leastBuffer) (n : ℕ) (group : isGroup n ≡ true) (buffers : ℕ → List ℕ) (fresh : (b : ℕ) → b < n → freshNumber M (buffers b) n b ≡ 0) where
+  -- what was done by the rules is a lawful history of a fresh group, and after it the bytes say that group
+  pub lawfully : (acts : List Act) → ByTheRules M (freshBoxes M n buffers) acts → (es : List history.Event) × Lawful M (freshGroup n) es × (reading M (afterActs M (freshBoxes M n buffers) acts) ≡ after M (freshGroup n) es)
+  lawfully acts law =
+      let f = acts-followed M sound room (freshBoxes M n buffers) (fresh-good M sound room n group buffers fresh) acts law in
+      let is = fresh-read M sound room n group buffers fresh in
+      (f .events, subst (λ G. Lawful M G (f .events)) is (f .lawful), f .same ∙ ap (λ G. after M G (f .events)) is)
+
+  pub still-good : (acts : List Act) → Good M (afterActs M (freshBoxes M n buffers) acts)
+  still-good acts = acts-good M sound room (freshBoxes M n buffers) (fresh-good M sound room n group buffers fresh) acts
+
   pub all-survive : (acts : List Act) → ByTheRules M (freshBoxes M n buffers) acts → CallsSurvive M (afterActs M (freshBoxes M n buffers) acts)
   all-survive acts law =
-      let good = fresh-good M sound room n group buffers fresh in
-      let f = acts-followed M sound room (freshBoxes M n buffers) good acts law in
-      let is = fresh-read M sound room n group buffers fresh in
-      let lawful : Lawful M (freshGroup n) (f .events) = subst (λ G. Lawful M G (f .events)) is (f .lawful) in
-      let same = f .same ∙ ap (λ G. after M G (f .events)) is in
-      survives M (afterActs M (freshBoxes M n buffers) acts) (acts-good M sound room (freshBoxes M n buffers) good acts) (subst history.Survival (sym same) (survival n group M keepsRoom (f .events) lawful))
+      let (es, lawful, same) = lawfully acts law in
+      survives M (afterActs M (freshBoxes M n buffers) acts) (still-good acts) (subst history.Survival (sym same) (survival n group M keepsRoom es lawful))
 
 -- valley boxes: in a group of 3, 5 or 7, each has called `sprondilu_fresh` on its table buffer, which answered 0; then, whatever bytes are sent, arrive, are lost, repeated or reordered, and whatever is declared and merged, if it is by the rules
 pub calls-survive : (n : ℕ) → isGroup n ≡ true → (buffers : ℕ → List ℕ) → ((b : ℕ) → b < n → freshNumber valley (buffers b) n b ≡ 0) →

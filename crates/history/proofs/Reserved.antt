@@ -7,7 +7,7 @@ use mathlib.Core.List.{List, [], _∷_, List·Memᴰ·head, List·Memᴰ·not-ni
 use Prim.Native.Nat.{ℕ, suc, _+_, _-_, _*_, _/_, _≤_, _<_}
 use native.Mathlib.Omega.{arith}
 use lib.Dec.{eqb, ltb}
-use lib.ListN.{length}
+use lib.ListN.{length, length-map}
 use borrow.Author.Tests.{eq-eqb, ne-eqb, eqb-true, ltb-true, le-ltb, not-false}
 use Rattle.rules.specs.Tests.{both, either, every, isSome, allOf, greatest}
 use Rattle.rules.specs.Groups.{isGroup, fOf, quorum}
@@ -55,8 +55,7 @@ rises-stamps low (r ∷ rs) h = (omega arith, above (r .stamp) rs (both-right _ 
     above low (q ∷ qs) h = (ltb-true low (q .stamp) (both-left _ _ h), above (q .stamp) qs (both-right _ _ h))
 
 length-stamps : (rows : List Row) → length (stampsOf rows) ≡ length rows
-length-stamps [] = refl
-length-stamps (r ∷ rs) = ap suc (length-stamps rs)
+length-stamps rows = length-map rows (λ (r : Row). r .stamp)
 
 -- a stamp that is held stays so, whichever row is changed or added
 held-when-changed : (s : ℕ) (change : Row → Row) → ((r : Row) → change r .stamp ≡ r .stamp) → (rows : List Row) (t : ℕ) → isSome (held rows t) ≡ true → isSome (held (changed s change rows) t) ≡ true
@@ -237,13 +236,13 @@ module _ (M : Model) (n : ℕ) (begun : ℕ → List Row) where
   -- ---- a merge of such tables
 
   module _ (G : Group) (A : AllRegular M n G) (v : ℕ) (Ts : List Table) (had : (T : Table) → T ∈ Ts → T ∈ G .had) where
-    -- f+1 of them are of the group's n
-    group-is : length Ts ≡ quorum (fOf (groupOf Ts)) → groupOf Ts ≡ n
-    group-is e = go Ts had e
+    -- the group's n is theirs
+    group-is : 0 < length Ts → groupOf Ts ≡ n
+    group-is there = go Ts had there
       where
-        go : (Us : List Table) → ((T : Table) → T ∈ Us → T ∈ G .had) → length Us ≡ quorum (fOf (groupOf Us)) → groupOf Us ≡ n
-        go [] each e = absurd (omega arith)
-        go (T ∷ Us) each e = A .had T (each T (List·Memᴰ·head refl)) .1
+        go : (Us : List Table) → ((T : Table) → T ∈ Us → T ∈ G .had) → 0 < length Us → groupOf Us ≡ n
+        go [] each l = absurd (omega arith)
+        go (T ∷ Us) each l = A .had T (each T (List·Memᴰ·head refl)) .1
 
     module _ (all : AllWithin G) (right : areWrong v Ts ≡ false) where
       abbrev newest : ℕ
@@ -256,7 +255,7 @@ module _ (M : Model) (n : ℕ) (begun : ℕ → List Row) where
       unfolding used
       few-used =
           let e = tables-few v Ts right in
-          let d : length Ts ≡ quorum (fOf n) = e ∙ ap (λ (x : ℕ). quorum (fOf x)) (group-is e) in
+          let d : length Ts ≡ quorum (fOf n) = e ∙ ap (λ (x : ℕ). quorum (fOf x)) (group-is (omega arith)) in
           omega (arith, those-length (λ T. eqb (T .view) newest) Ts)
 
       used-within : (U : Table) → U ∈ used Ts → WithinShare U × (U .view ≡ newest)
@@ -291,15 +290,11 @@ module _ (M : Model) (n : ℕ) (begun : ℕ → List Row) where
     promised-right : PromisedBy n v Ts → areWrong v Ts ≡ false
     unfolding areWrong
     promised-right p =
-        let g = group-of Ts had (p .enough) in
+        let g = group-is (omega (arith, p .enough)) in
         either-false (not-false-of _ (eq-eqb _ _ (p .enough ∙ ap (λ (x : ℕ). quorum (fOf x)) (sym g))))
         (either-false (none-any _ Ts (λ T m. not-false-of _ (eq-eqb _ _ (A .had T (had T m) .1 ∙ sym g))))
         (either-false (p .different)
         (either-false (none-any _ Ts (λ T m. ne-eqb _ _ (λ e. let z : _≡_ {A = ℕ} 0 1 = sym e ∙ p .changing T m .0 in absurd (omega arith)))) (none-any _ Ts (λ T m. not-false-of _ (eq-eqb _ _ (p .changing T m .1)))))))
-      where
-        group-of : (Us : List Table) → ((T : Table) → T ∈ Us → T ∈ G .had) → length Us ≡ quorum (fOf n) → groupOf Us ≡ n
-        group-of [] each e = absurd (omega arith)
-        group-of (T ∷ Us) each e = A .had T (each T (List·Memᴰ·head refl)) .1
 
 -- ---- the theorem
 
