@@ -19,7 +19,8 @@ use Rattle.rules.specs.Messages.{Message, tableAfter}
 use Rattle.rules.specs.Circumstances.{tooSmall, replyTooSmall, keepsRoom, messageByRule}
 use Rattle.rules.specs.Answers.{refusal, replyFrom, taken, refused, answerNumber, answer, proposalCheck}
 use Rattle.rules.proofs.Logic.{cases, same?, either-left, either-right}
-use Rattle.rules.proofs.Answers.{keeps-room-fits, taken-by-rule, answer-by-rule, answer-same-box, proposal-by-rule}
+use Rattle.rules.proofs.Answers.{taken-by-rule, answer-by-rule, answer-same-box, proposal-by-rule}
+use Rattle.rules.proofs.Room.{keeps-room-fits}
 use Rattle.rules.proofs.NumberExactly.{Wins, number-exactly, zero-exactly, small-first, table-first, message-first}
 use Rattle.table.specs.Images.{formatOne, imageLength}
 use Rattle.table.specs.Parse.{parse}

@@ -26,7 +26,8 @@ use Rattle.rules.proofs.Lists.{every-one}
 use Rattle.rules.proofs.Groups.{group-bounds}
 use Rattle.rules.proofs.Rows.{held-from}
 use Rattle.rules.proofs.Tables.{row-facts, Regular, table-facts}
-use Rattle.rules.proofs.Answers.{keeps-room-fits, taken-by-rule, answer-by-rule, proposal-by-rule}
+use Rattle.rules.proofs.Answers.{taken-by-rule, answer-by-rule, proposal-by-rule}
+use Rattle.rules.proofs.Room.{keeps-room-fits}
 use Rattle.history_cases.specs.Today.{answer}
 use Rattle.rows.specs.Fields.{fieldsOf}
 use Rattle.rows.proofs.Codes.{prepare-code-limit, outcome-code-limit}

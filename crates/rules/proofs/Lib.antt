@@ -8,10 +8,10 @@ pub mod Numbers
 pub mod NumberExactly
 pub mod Check
 pub mod DayOrder
+pub mod Room
 pub mod Rows
 pub mod Tables
 pub mod Answers
-pub mod Room
 pub mod Taken
 pub mod Stamps
 pub mod Union

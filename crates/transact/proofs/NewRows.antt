@@ -16,7 +16,7 @@ use Rattle.rules.specs.Circumstances.{keepsRoom}
 use Rattle.rules.proofs.Logic.{both-true}
 use Rattle.rules.proofs.Rows.{held-added}
 use Rattle.rules.proofs.Tables.{table-by}
-use Rattle.rules.proofs.Answers.{keeps-room-fits}
+use Rattle.rules.proofs.Room.{keeps-room-fits}
 use Rattle.rows.specs.declared.row.RowFields.{RowFields}
 use Rattle.rows.specs.Inner.ChangedFields.{withPrepareByte}
 use Rattle.rows.specs.Inner.FieldTests.{codesByRule, fieldsByRule}
