@@ -37,6 +37,6 @@ pub record PromisedBy (n v : ℕ) (Ts : List Table) : Type 0 where
 pub record NeverFull (M : Model) (G : Group) : Type 0 where
   -- whichever tables that boxes have had are merged, and for whichever view: it is done, or these are not the tables of a merge
   pub merges : (v : ℕ) (places : List ℕ) → let k = mergeNumber M v (allOf (at (G .had)) places) in (k ≡ 0) ⊎ (k ≡ numberCode wrongTables)
-  -- "A group with no room left still [..] changes view": of f+1 tables that promised it the merge is done, and message 6 takes what is merged
+  -- "A group with no room left still reads, finalises and changes view.": of f+1 tables that promised a view the merge is done, and message 6 takes what is merged
   pub viewChange : (v : ℕ) (places : List ℕ) → let Ts = allOf (at (G .had)) places in
       PromisedBy (G .n) v Ts → (mergeNumber M v Ts ≡ 0) × ((I : Table) → merge M check v Ts ≡ some I → messageByRule M (G .n) (startView v I) ≡ true)

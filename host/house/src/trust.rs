@@ -10,8 +10,9 @@ use std::collections::{BTreeMap, BTreeSet};
 /// Where the contracts of the C boundary stand.
 pub const BOUNDARY: &str = "crates/sprondilu/src/lib.rt";
 
-/// The statements of demand 3, over the rules and in buffers and calls, each with the theorem that says when it holds.
-pub const STATEMENTS: [(&str, &str, &str); 2] = [
+/// The statements of demand 3, over the rules and in buffers and calls, and what request P2 has us show, each with the
+/// theorem that says when it holds.
+pub const STATEMENTS: [(&str, &str, &str); 3] = [
     (
         "history/specs/Survival",
         "history/proofs/Survival",
@@ -21,6 +22,11 @@ pub const STATEMENTS: [(&str, &str, &str); 2] = [
         "group/specs/Survival",
         "group/proofs/Survival",
         "calls-survive",
+    ),
+    (
+        "group/specs/NeverFull",
+        "group/proofs/NeverFull",
+        "merge-never-full",
     ),
 ];
 
