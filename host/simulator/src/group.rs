@@ -3,7 +3,7 @@
 use crate::machine::{decoded, Machine};
 use reference::bytes::Source;
 use reference::{Body, Counts, Decision, Message, Mode, Outcome, PrepareResult, Reply, Table};
-use samples::{Record, TABLE_BYTES};
+use samples::Record;
 use std::collections::{BTreeMap, BTreeSet};
 
 /// A message that was sent to a box, and how often it has arrived there.
@@ -101,8 +101,9 @@ impl Group {
     /// "the fresh start: each box has its fresh table, and nothing was sent"
     pub fn fresh(machine: Machine, n: u8) -> Group {
         let fresh = |box_number| {
-            let mut table = vec![0xee; TABLE_BYTES];
-            assert_eq!((machine.fresh)(&mut table, n, box_number), 0);
+            let mut table = vec![0xee; machine.model.buffer];
+            let number = (machine.fresh)(machine.model, &mut table, n, box_number);
+            assert_eq!(number, 0);
             table
         };
         Group {
@@ -130,10 +131,21 @@ impl Group {
         (number_at(table, 8), number_at(table, 12))
     }
 
+    /// The rows that a box holds, and those that it held when its view began, as its header has them.
+    pub fn rows_of(&self, box_number: usize) -> (u32, u32) {
+        let table = &self.tables[box_number];
+        (number_at(table, 4), number_at(table, 16))
+    }
+
     /// The table of a box.
     pub fn table_of(&self, box_number: usize) -> Table {
-        let parsed = Table::parse(&self.tables[box_number]);
-        parsed.expect("a table by the rules").0
+        self.parsed(box_number).0
+    }
+
+    /// The table of a box, and the length of its image.
+    fn parsed(&self, box_number: usize) -> (Table, usize) {
+        let parsed = Table::parse_for(self.machine.model, &self.tables[box_number]);
+        parsed.expect("a table by the rules")
     }
 
     /// "Changing: promised > view."
@@ -158,7 +170,8 @@ impl Group {
         let sent = &mut self.sent[place];
         sent.arrived += 1;
         let mut reply = [0; 24];
-        let number = (self.machine.answer)(&mut self.tables[sent.to], &sent.bytes, &mut reply);
+        let table = &mut self.tables[sent.to];
+        let number = (self.machine.answer)(self.machine.model, table, &sent.bytes, &mut reply);
         let answered = Answered {
             place,
             by: sent.to,
@@ -173,14 +186,13 @@ impl Group {
     pub fn would_answer(&self, box_number: usize, bytes: &[u8]) -> (u8, Reply) {
         let mut table = self.tables[box_number].clone();
         let mut reply = [0; 24];
-        let number = (self.machine.answer)(&mut table, bytes, &mut reply);
+        let number = (self.machine.answer)(self.machine.model, &mut table, bytes, &mut reply);
         (number, read_reply(&reply).expect("24 bytes"))
     }
 
     /// Keeps the table that a box has while it promises a view.
     pub fn keep_promise(&mut self, box_number: usize, view: u32) -> bool {
-        let parsed = Table::parse(&self.tables[box_number]);
-        let (table, length) = parsed.expect("a table by the rules");
+        let (table, length) = self.parsed(box_number);
         let promises = table.mode == Mode::Changing { promised: view };
         if promises {
             let image = self.tables[box_number][..length].to_vec();
@@ -238,8 +250,9 @@ impl Group {
     /// The merge for a view of tables that these boxes had: the image, or the number that refuses them.
     pub fn merge(&self, view: u32, promises: &[&Promise]) -> Result<Vec<u8>, u8> {
         let images: Vec<&[u8]> = promises.iter().map(|had| &had.image[..]).collect();
-        let mut out = vec![0; TABLE_BYTES];
-        match (self.machine.merge)(&images.concat(), view, &mut out) {
+        let model = self.machine.model;
+        let mut out = vec![0; model.buffer];
+        match (self.machine.merge)(model, &images.concat(), view, &mut out) {
             0 => {
                 out.truncate(number_at(&out, 20) as usize);
                 Ok(out)

@@ -1,39 +1,62 @@
 //! What stands under the simulated group: the four calls, by the library or by the second program.
 
+use reference::answer::answer_for;
 use reference::bytes::Source;
 use reference::halving::compared;
-use reference::{Decision, PrepareResult};
+use reference::merge::merge_for;
+use reference::table::fresh_for;
+use reference::{Decision, Model, PrepareResult, VALLEY};
 use samples::replies::laid;
 use samples::Record;
 
-/// The calls of one kind of box and coordinator.
+/// The calls of one kind of box and coordinator. Those that read or write a table are told the model of its box.
 #[derive(Clone, Copy)]
 pub struct Machine {
     pub name: &'static str,
-    pub fresh: fn(&mut [u8], u8, u8) -> u8,
-    pub answer: fn(&mut [u8], &[u8], &mut [u8]) -> u8,
-    pub merge: fn(&[u8], u32, &mut [u8]) -> u8,
+    pub model: Model,
+    pub fresh: fn(Model, &mut [u8], u8, u8) -> u8,
+    pub answer: fn(Model, &mut [u8], &[u8], &mut [u8]) -> u8,
+    pub merge: fn(Model, &[u8], u32, &mut [u8]) -> u8,
     /// Coded as at the C boundary.
     pub count: fn(u8, &[Record]) -> u64,
 }
 
-/// The proved calls, through the C boundary.
+/// The proved calls, through the C boundary. They know one model, which is that of the valley.
 pub const LIBRARY: Machine = Machine {
     name: "the library",
-    fresh: boundary::fresh,
-    answer: answer_with_its_count,
-    merge: boundary::merge,
+    model: VALLEY,
+    fresh: |_, table, n, box_number| boundary::fresh(table, n, box_number),
+    answer: |_, table, message, reply| answer_with_its_count(table, message, reply),
+    merge: |_, run, view, out| boundary::merge(run, view, out),
     count: count_by_both_calls,
 };
 
 /// The second program, written from document 01 apart from the proved one.
 pub const SECOND: Machine = Machine {
     name: "the second program",
-    fresh: reference::fresh,
-    answer: reference::answer,
-    merge: reference::merge,
+    model: VALLEY,
+    fresh: |model, table, n, box_number| fresh_for(model, table, n, box_number).code(),
+    answer: |model, table, message, reply| answer_for(model, table, message, reply).code(),
+    merge: |model, run, view, out| merge_for(model, run, view, out).code(),
     count: |n, records| reference::count(n, &laid(records)),
 };
+
+impl Machine {
+    /// The same calls for boxes with so many rows for 512. The largest image is that of rows with the largest bodies: 24
+    /// bytes and 72 for each. The library has no such boxes.
+    pub fn with_rows(self, rows: usize) -> Machine {
+        let buffer = 24 + 96 * rows;
+        Machine {
+            model: Model { rows, buffer },
+            ..self
+        }
+    }
+
+    /// Whether the boxes have fewer rows than those of the valley.
+    pub fn is_small(&self) -> bool {
+        self.model.rows < VALLEY.rows
+    }
+}
 
 /// The library answers in a word. The rows compared that it has beside the number are those of the second program's
 /// halving, over the stamps that the table held when the message came: "with 0 for refusals numbered 1 to 4 and 9", and

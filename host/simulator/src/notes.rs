@@ -4,6 +4,7 @@ use crate::group::{Accepted, Answered, Declared, Merged, Promise};
 use crate::law::confirmations;
 use crate::newly::by_days_order;
 use crate::play::Play;
+use crate::room::Room;
 use crate::words::outcome_name;
 use reference::{
     Body, Decision, HeldOutcome, HeldPrepare, Message, Outcome, PrepareResult, Row, Rows,
@@ -65,6 +66,25 @@ impl Play {
         match again.map(|held| held.result) {
             Some(PrepareResult::Ok) => self.once("RETRY with OK right above its stamp"),
             Some(PrepareResult::Abstain) => self.once("RETRY with ABSTAIN right above its stamp"),
+            _ => {}
+        }
+    }
+
+    /// What was answered by a box that had this room. "A group with no room left still reads, finalises and changes view."
+    pub(crate) fn note_room(&mut self, answered: &Answered, before: Room) {
+        let kind = self.group.sent[answered.place].message.kind();
+        match (answered.number, kind) {
+            (7, _) => self.once("new stamps refused for want of room"),
+            (0, 2 | 4) if !before.in_box => {
+                self.once("results and outcomes finalised with no room left")
+            }
+            (0, 7) if !before.in_box => self.once("reads with no room left"),
+            (0, 6) => {
+                let again = !before.in_box && self.group.has_room(answered.by);
+                self.once_if(again, "views started that made room again");
+                let none = !before.in_group;
+                self.once_if(none, "views started by a group with no room left");
+            }
             _ => {}
         }
     }
@@ -168,7 +188,9 @@ impl Play {
             rows.iter()
                 .any(|row| row.outcome == Some(HeldOutcome::done(outcome)))
         };
+        let is_full = rows.len() == self.group.machine.model.rows;
         self.once("different merges");
+        self.once_if(is_full, "different merges with every row taken");
         self.once_if(
             holds(|r| r == PrepareResult::Ok),
             "different merges with OK",
@@ -205,6 +227,8 @@ impl Play {
         self.met.more("deliveries lost", n, lost as u64);
         self.met.more("events", n, self.events.len() as u64);
         self.met.once("histories", n);
+        let is_small = self.group.machine.is_small();
+        self.once_if(is_small, "histories of small models");
     }
 }
 

@@ -5,6 +5,7 @@ use crate::group::{carried, Accepted, Answered, Counted, Declared, Group, Merged
 use crate::law::{Law, Rule};
 use crate::machine::Machine;
 use crate::met::Met;
+use crate::room::Room;
 use crate::watch::{self, Part, Violation};
 use crate::words;
 use reference::{Decision, HeldPrepare, Message, PrepareResult, Reply, Rows, Table};
@@ -29,8 +30,8 @@ pub struct Play {
     pub met: Met,
     /// What did not hold of demand 3 or beyond it, the first one first. A history ends with it.
     pub violations: Vec<Violation>,
-    /// What boxes said OK to against the day's order, and stamps of a RETRY that mislead. A history goes on, so that it is seen
-    /// what becomes of it.
+    /// What boxes said OK to against the day's order, stamps of a RETRY that mislead, and stamps taken or refused against the
+    /// rule of room. A history goes on, so that it is seen what becomes of it.
     pub out_of_order: Vec<Violation>,
 }
 
@@ -62,7 +63,8 @@ impl Play {
 
     /// "a message is sent to a box": its place among those sent, or the rule that forbids it.
     pub fn send(&mut self, to: usize, bytes: Vec<u8>) -> Result<usize, Rule> {
-        let message = Message::parse(&bytes).expect("a message by the rules");
+        let message = Message::parse_for(self.group.machine.model, &bytes);
+        let message = message.expect("a message by the rules");
         if let Err(rule) = self.law.may_send(&self.group, to, &message) {
             self.once(&format!("forbidden by {}", rule));
             return Err(rule);
@@ -80,6 +82,7 @@ impl Play {
         let to = self.group.sent[place].to;
         let views = self.group.views_of(to);
         let before = self.rows_before_the_check(place);
+        let room = self.group.room(to);
         self.note_arrival(place);
         let answered = self.group.answer(place);
         self.events
@@ -87,6 +90,8 @@ impl Play {
         if let Some(before) = before {
             self.judge_check(&answered, &before);
         }
+        self.note_room(&answered, room);
+        self.judge_room(&answered, room);
         match self.group.sent[place].message {
             Message::ProposeOutcome { stamp, outcome, .. } if answered.number == 0 => {
                 let view = answered.reply.view;
@@ -121,17 +126,35 @@ impl Play {
         let held = held_prepare(&answered.reply);
         if let (0, Some(new), Some(held)) = (answered.number, carried(&message), held) {
             self.note_check(held.result, new, before);
+            // The RETRY itself may have taken the last row that there was room for, and the next stamp would be refused.
+            let has_room = self.group.has_room(answered.by);
             let wrong = match held.result {
                 PrepareResult::Ok => watch::order(answered, new, before),
-                PrepareResult::Retry(stamp) => {
+                PrepareResult::Retry(stamp) if has_room => {
                     let again = self.right_above(answered, stamp);
                     self.note_advice(again);
                     watch::advice(answered, again, new.1, before)
                 }
-                PrepareResult::Abort | PrepareResult::Abstain => None,
+                PrepareResult::Retry(_) | PrepareResult::Abort | PrepareResult::Abstain => None,
             };
             self.out_of_order.extend(wrong);
         }
+    }
+
+    /// Whether a box was right to take a new stamp, or to refuse something as full. A view is started with rows of its own.
+    fn judge_room(&mut self, answered: &Answered, before: Room) {
+        let message = &self.group.sent[answered.place].message;
+        let added = self.group.rows_of(answered.by).0 > before.rows;
+        let wrong = match (answered.number, message.kind()) {
+            (0, 1 | 3) if added => watch::taken(answered, before),
+            (7, _) => {
+                let held = self.group.table_of(answered.by).rows;
+                let is_new = carried(message).map_or(false, |(s, _)| !held.contains_key(&s));
+                watch::full(answered, is_new, before)
+            }
+            _ => None,
+        };
+        self.out_of_order.extend(wrong);
     }
 
     /// What a box that said RETRY would say of the same body under the next stamp.
@@ -243,7 +266,8 @@ impl Play {
         let same = before.position(|merged| merged.view == view && merged.image == image);
         let place = same.unwrap_or(self.group.merged.len());
         if same.is_none() {
-            let table = Table::parse(&image).expect("an image by the rules").0;
+            let parsed = Table::parse_for(self.group.machine.model, &image);
+            let table = parsed.expect("an image by the rules").0;
             let merged = Merged {
                 view,
                 boxes: boxes.clone(),

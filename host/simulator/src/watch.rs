@@ -1,12 +1,12 @@
 //! Demand 3 from outside: the five parts of `Survival`, and two things beyond it that are proved too. Each is judged as soon as
 //! what it speaks of has come to pass: a new merge against all that was declared and accepted before, and what is declared
-//! or accepted now against all merges, "whichever came first". Beside demand 3, of each box alone: the day's order.
+//! or accepted now against all merges, "whichever came first". Beside demand 3, of each box alone: the day's order, and the
+//! rule of room.
 
 use crate::group::{carried, Accepted, Answered, Declared, Group, Merged};
+use crate::room::Room;
 use crate::words::{boxes, outcome_name, outcome_words, prepare_words, result_words};
-use reference::{
-    Body, HeldOutcome, HeldPrepare, Message, Number, Outcome, PrepareResult, Row, Rows,
-};
+use reference::{Body, HeldOutcome, HeldPrepare, Message, Outcome, PrepareResult, Row, Rows};
 use std::fmt::{self, Display, Formatter};
 
 /// What was promised and did not hold.
@@ -22,7 +22,7 @@ pub enum Part {
     OutcomesSent,
     /// "no two committed transactions clash"
     NoClash,
-    /// Beyond demand 3: no merge of f+1 tables that promised its view is refused.
+    /// Beyond demand 3: no merge of f+1 tables that promised its view is refused, also not as full.
     MergeDone,
     /// Beyond demand 3: a box below a view that promised nothing above it takes the start-view message.
     StartTaken,
@@ -30,6 +30,8 @@ pub enum Part {
     DaysOrder,
     /// Beside demand 3: right above the stamp of a RETRY nothing that the box holds is in the way of a write.
     Advice,
+    /// Beside demand 3: a box takes a new stamp while it has room, and refuses it as full once it has none, and nothing else.
+    Room,
 }
 
 /// Which part did not hold, and of what.
@@ -187,10 +189,6 @@ fn overwrites((s, reader): (u64, &Body), (t, writer): (u64, &Body)) -> bool {
 
 /// A merge of f+1 tables of different boxes that promised the view, refused just now.
 pub fn refusal(view: u32, of: &[usize], number: u8) -> Option<Violation> {
-    // "a merge of more than 512 stamps" may be refused by any lawful group.
-    if number == Number::Full.code() {
-        return None;
-    }
     let what = format!(
         "the merge for view {} of boxes {} was refused with number {}",
         view,
@@ -260,6 +258,29 @@ pub fn advice(
         prepare_words(again)
     );
     violation(Part::Advice, what)
+}
+
+/// A box that had this room took a new stamp just now.
+pub fn taken(answered: &Answered, before: Room) -> Option<Violation> {
+    let what = format!(
+        "box {} took a new stamp and had no room, with {} rows",
+        answered.by, before.rows
+    );
+    violation(Part::Room, what).filter(|_| !before.in_box)
+}
+
+/// A box that had this room refused a message as full just now. That is for new stamps.
+pub fn full(answered: &Answered, is_new: bool, before: Room) -> Option<Violation> {
+    let refused = match (is_new, before.in_box) {
+        (true, false) => return None,
+        (true, true) => "a new stamp as full and had room",
+        (false, _) => "as full what is no new stamp",
+    };
+    let what = format!(
+        "box {} refused {}, with {} rows",
+        answered.by, refused, before.rows
+    );
+    violation(Part::Room, what)
 }
 
 /// "Accepted means committed or prepared." "Committed: outcome 3. Prepared: prepare byte 1 or 5 and outcome 0, 1 or 2."

@@ -114,7 +114,7 @@ fn demand_3_holds_in_every_history() {
 /// The library with the call that answers with the number alone.
 const NUMBER_ALONE: Machine = Machine {
     name: "the library, which answers with the number alone",
-    answer: boundary::answer,
+    answer: |_, table, message, reply| boundary::answer(table, message, reply),
     ..LIBRARY
 };
 

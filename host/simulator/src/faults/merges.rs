@@ -1,21 +1,24 @@
 //! Faults in the merge: each changes the tables, which are then merged by the rules. That comes to a merge that takes the
 //! right tables wrongly.
 
+use crate::machine::SECOND;
 use reference::bytes::put;
 use reference::merge::tables_of_run;
 use reference::row::{HeldOutcome, HeldPrepare};
-use reference::{merged, proposal_check, Counts, Outcome, PrepareResult, Row, Table, VALLEY};
+use reference::{
+    merged, proposal_check, Counts, Model, Outcome, PrepareResult, Row, Table, VALLEY,
+};
 use samples::MOST_ROWS;
 use std::collections::BTreeSet;
 
 /// The merge over bytes of tables that were changed so before.
-pub fn merge(change: fn(&mut [Table]), run: &[u8], view: u32, out: &mut [u8]) -> u8 {
-    let mut tables = match tables_of_run(VALLEY, run) {
+pub fn merge(change: fn(&mut [Table]), model: Model, run: &[u8], view: u32, out: &mut [u8]) -> u8 {
+    let mut tables = match tables_of_run(model, run) {
         Some(tables) => tables,
-        None => return reference::merge(run, view, out),
+        None => return (SECOND.merge)(model, run, view, out),
     };
     change(&mut tables);
-    match merged(VALLEY, &tables, view) {
+    match merged(model, &tables, view) {
         Ok(table) => {
             put(out, &table.image());
             0

@@ -1,9 +1,10 @@
-//! Short histories that break demand 3, or the day's order, when a rule or a definition is bent, told step by step. With the
-//! fault each violates the part that is named; without it, on the library and on the second program, nothing is violated,
-//! and the step that makes the difference is shown.
+//! Short histories that break demand 3, the day's order or the rule of room when a rule or a definition is bent, told step by
+//! step. With the fault each violates the part that is named; without it, on the library and on the second program, nothing
+//! is violated, and the step that makes the difference is shown.
 
 mod confirmed;
 mod order;
+mod room;
 mod told;
 
 use reference::{Decision, Outcome};
@@ -339,7 +340,7 @@ fn a_stamp_has_one_outcome() {
 }
 
 /// "Cutting a merge at 512 rows." The last of 601 stamps is declared OK. The others come after it to boxes 0 and 1, and get
-/// ABSTAIN there, with a row each all the same.
+/// ABSTAIN there, with a row each all the same, as long as the box takes them.
 fn more_than_512_stamps(machine: Machine, law: Law) -> Told {
     let mut told = Told::of(machine, law, 3);
     told.prepare(&apart(1_000), &[0, 1, 2]);
@@ -352,24 +353,24 @@ fn more_than_512_stamps(machine: Machine, law: Law) -> Told {
     }
     told.change(1, &[0, 1]);
     let merged = told.play.group.promised(1);
-    let refused = told.play.merge(1, &merged);
-    told.sees(&format!("{:?}", refused));
+    let number = told.play.merge(1, &merged);
+    told.sees(&format!("{:?}", number));
     // Boxes 0 and 2 have few enough.
     told.change(1, &[2]);
     told
 }
 
+/// Boxes that keep room leave nothing to cut. Where they keep none the merge is refused, or a declared OK is cut off.
 #[test]
 fn a_merge_is_not_cut() {
-    holds(more_than_512_stamps, "Err(7)");
-    let what = "stamp 1000 was declared OK in view 0, and the merge for view 1 of boxes 0 1 holds no result";
-    let (fault, law) = (faults::CUT_AT_512, Law::whole());
-    breaks(
-        more_than_512_stamps,
-        fault,
-        law,
-        "Ok(())",
-        Part::Declared,
-        what,
-    );
+    let history: History = more_than_512_stamps;
+    let law = Law::whole();
+    holds(history, "Ok(())");
+    assert!(history(faults::CUT_AT_512, law).play.held());
+    let refused = "the merge for view 1 of boxes 0 1 was refused with number 7";
+    let no_room = faults::NO_ROOM_KEPT;
+    breaks(history, no_room, law, "Err(7)", Part::MergeDone, refused);
+    let lost = "stamp 1000 was declared OK in view 0, and the merge for view 1 of boxes 0 1 holds no result";
+    let cut = faults::CUT_AT_512_WITH_NO_ROOM_KEPT;
+    breaks(history, cut, law, "Ok(())", Part::Declared, lost);
 }
