@@ -1,16 +1,17 @@
-//! `simulator [--seed S] [--histories N | --minutes M] [--n 3|5|7]`: plays random lawful histories on the library and judges
-//! demand 3 in each, and the day's order in each box. Ends with 0 if nothing was violated, with 1 and the history in words
-//! if something was, with 2 if it was asked wrongly.
+//! `simulator [--seed S] [--histories N | --minutes M] [--n 3|5|7] [--rows R]`: plays random lawful histories on the
+//! library and judges demand 3 in each, and the day's order and the room in each box. Every fourth history is one of boxes
+//! with few rows, on the second program; with `--rows` all are, of so many rows. Ends with 0 if nothing was violated, with
+//! 1 and the history in words if something was, with 2 if it was asked wrongly.
 
 use simulator::law::Law;
-use simulator::machine::LIBRARY;
+use simulator::machine::{LIBRARY, SECOND};
 use simulator::met::Met;
-use simulator::run::Run;
+use simulator::run::{Models, Run, SMALL_ROWS};
 use std::env;
 use std::process::ExitCode;
 use std::time::{Duration, Instant};
 
-const USAGE: &str = "simulator [--seed S] [--histories N | --minutes M] [--n 3|5|7]";
+const USAGE: &str = "simulator [--seed S] [--histories N | --minutes M] [--n 3|5|7] [--rows 6..12]";
 const USUAL_HISTORIES: u64 = 10_000;
 /// Seeds that may be given, so that those after them are seeds too.
 const GREATEST_SEED: u64 = 1 << 48;
@@ -21,6 +22,7 @@ struct Asked {
     histories: Option<u64>,
     minutes: Option<u64>,
     n: Option<u8>,
+    rows: Option<usize>,
 }
 
 fn main() -> ExitCode {
@@ -40,6 +42,7 @@ fn asked(words: &[String]) -> Result<Asked, String> {
         histories: None,
         minutes: None,
         n: None,
+        rows: None,
     };
     for pair in words.chunks(2) {
         let value = pair
@@ -50,6 +53,7 @@ fn asked(words: &[String]) -> Result<Asked, String> {
             "--histories" => asked.histories = Some(number(value?, 1, GREATEST_SEED)?),
             "--minutes" => asked.minutes = Some(number(value?, 1, 100_000)?),
             "--n" => asked.n = Some(size(value?)?),
+            "--rows" => asked.rows = Some(few_rows(value?)?),
             other => return Err(format!("{} is no word of mine", other)),
         }
     }
@@ -76,12 +80,22 @@ fn size(word: &str) -> Result<u8, String> {
     }
 }
 
+fn few_rows(word: &str) -> Result<usize, String> {
+    let (least, most) = (*SMALL_ROWS.start() as u64, *SMALL_ROWS.end() as u64);
+    number(word, least, most).map(|rows| rows as usize)
+}
+
 fn simulate(asked: &Asked) -> ExitCode {
+    let (machine, models) = match asked.rows {
+        Some(rows) => (SECOND, Models::OfRows(rows)),
+        None => (LIBRARY, Models::EveryFourthSmall),
+    };
     let run = Run {
-        machine: LIBRARY,
+        machine,
         law: Law::whole(),
         seed: asked.seed,
         n: asked.n,
+        models,
     };
     let began = Instant::now();
     let time = asked
@@ -96,10 +110,11 @@ fn simulate(asked: &Asked) -> ExitCode {
     match played {
         Ok(played) => {
             let (events, merges) = (met.all("events"), met.all("merges judged"));
+            let small = met.all("histories of small models");
             println!("{}", met);
             println!(
-                "no violation in {} histories, {} events, {} merges judged",
-                played, events, merges
+                "no violation in {} histories, {} of them of small models, {} events, {} merges judged",
+                played, small, events, merges
             );
             ExitCode::SUCCESS
         }

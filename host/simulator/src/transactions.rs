@@ -6,6 +6,16 @@ use std::ops::Range;
 /// 4 to 7 transactions in any order, over two or three registers.
 pub fn few(dice: &mut Dice) -> Vec<Row> {
     let count = 4 + dice.below(4);
+    so_many(dice, count)
+}
+
+/// More transactions than a table of so many rows holds, and twice as many at most.
+pub fn more_than(dice: &mut Dice, rows: usize) -> Vec<Row> {
+    let count = rows as u64 + 1 + dice.below(rows as u64);
+    so_many(dice, count)
+}
+
+fn so_many(dice: &mut Dice, count: u64) -> Vec<Row> {
     let registers = 2 + dice.below(2) as u8;
     let mut rows = Vec::new();
     for place in 1..=count {

@@ -21,11 +21,9 @@ fn a_run_ends_with_what_was_judged() {
     assert!(first.status.success(), "{:?}", first);
     let all = printed(&first);
     let last = all.lines().last().unwrap_or("");
-    assert!(
-        last.starts_with("no violation in 30 histories, "),
-        "{}",
-        last
-    );
+    // Every fourth.
+    let histories = "no violation in 30 histories, 7 of them of small models, ";
+    assert!(last.starts_with(histories), "{}", last);
     assert!(last.ends_with(" merges judged"), "{}", last);
     // The same seed, the same histories.
     assert_eq!(printed(&simulate(&words)), all);
@@ -44,6 +42,14 @@ fn groups_are_of_the_size_asked_for() {
 }
 
 #[test]
+fn boxes_have_the_rows_asked_for() {
+    let all = printed(&simulate(&["--histories", "5", "--rows", "8"]));
+    let last = all.lines().last().unwrap_or("");
+    let histories = "no violation in 5 histories, 5 of them of small models, ";
+    assert!(last.starts_with(histories), "{}", last);
+}
+
+#[test]
 fn what_is_asked_wrongly_is_said() {
     for (words, said) in [
         (&["--n", "4"][..], "3, 5 or 7 boxes"),
@@ -52,6 +58,7 @@ fn what_is_asked_wrongly_is_said() {
         (&["--histories", "0"], "no number from 1"),
         (&["--histories", "5", "--minutes", "1"], "not both"),
         (&["--fast", "5"], "--fast"),
+        (&["--rows", "512"], "no number from 6 to 12"),
     ] {
         let output = simulate(words);
         let errors = String::from_utf8_lossy(&output.stderr);

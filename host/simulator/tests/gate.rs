@@ -1,13 +1,15 @@
-//! Random lawful histories on the library: demand 3 holds in each, boxes keep the day's order, and each thing that makes a
-//! history hard was met often.
+//! Random lawful histories on the library: demand 3 holds in each, boxes keep the day's order and room for the merge, and each
+//! thing that makes a history hard was met often. What is met with few rows only, is met in small models.
 
 use simulator::law::Law;
 use simulator::machine::{Machine, LIBRARY, SECOND};
 use simulator::met::Met;
-use simulator::run::Run;
+use simulator::run::{Models, Run};
 use std::io::{self, Write};
 
 const HISTORIES: u64 = 18_000;
+/// In small models, which the library does not have.
+const SMALL_HISTORIES: u64 = 6_000;
 /// So often at least each thing was met in all.
 const LEAST: u64 = 100;
 
@@ -73,15 +75,27 @@ const ALL_KINDS: [&str; 58] = [
     "views started by a box that missed some before",
 ];
 
+/// All that a run in small models must meet besides, and no other run does.
+const SMALL_KINDS: [&str; 7] = [
+    "different merges with every row taken",
+    "histories of small models",
+    "new stamps refused for want of room",
+    "reads with no room left",
+    "results and outcomes finalised with no room left",
+    "views started by a group with no room left",
+    "views started that made room again",
+];
+
 /// What a run may meet besides: replies that contradict each other, as they do when message 2 overtook a fast count.
 const RARE: &str = "counts refused";
 
-fn played(machine: Machine, histories: u64) -> Met {
+fn played(machine: Machine, models: Models, histories: u64) -> Met {
     let run = Run {
         machine,
         law: Law::whole(),
         seed: 1,
         n: None,
+        models,
     };
     let mut met = Met::default();
     match run.play(&mut met, |played| played < histories) {
@@ -93,21 +107,36 @@ fn played(machine: Machine, histories: u64) -> Met {
 
 #[test]
 fn demand_3_holds_in_every_history() {
-    let met = played(LIBRARY, HISTORIES);
+    let met = played(LIBRARY, Models::Own, HISTORIES);
+    all_met(&met, &ALL_KINDS);
+    met_often(&met, &ALL_KINDS);
+}
+
+/// Boxes with 6 to 12 rows for 512 are full soon. The second program has such boxes, and plays what the library cannot.
+#[test]
+fn demand_3_holds_in_small_models() {
+    let met = played(SECOND, Models::Small, SMALL_HISTORIES);
+    all_met(&met, &[&ALL_KINDS[..], &SMALL_KINDS].concat());
+    met_often(&met, &SMALL_KINDS);
+}
+
+/// Each of these things was met by groups of each size, and no other thing was.
+fn all_met(met: &Met, kinds: &[&str]) {
     // Written past the test harness, which would keep it to itself: the counts are for whoever reads the gate's output.
     writeln!(io::stdout(), "\n{}", met).expect("a place to print to");
     let unknown = met
         .kinds()
-        .find(|kind| *kind != RARE && !ALL_KINDS.contains(kind));
+        .find(|kind| *kind != RARE && !kinds.contains(kind));
     assert_eq!(unknown, None);
-    for kind in ALL_KINDS {
+    for kind in kinds {
+        let by_size = met.by_size(kind);
+        assert!(!by_size.contains(&0), "{}: {:?}", kind, by_size);
+    }
+}
+
+fn met_often(met: &Met, kinds: &[&str]) {
+    for kind in kinds {
         assert!(met.all(kind) >= LEAST, "{}: {} times", kind, met.all(kind));
-        assert!(
-            !met.by_size(kind).contains(&0),
-            "{}: {:?}",
-            kind,
-            met.by_size(kind)
-        );
     }
 }
 
@@ -122,7 +151,7 @@ const NUMBER_ALONE: Machine = Machine {
 /// call.
 #[test]
 fn the_second_program_and_the_number_alone_are_played_alike() {
-    let met = played(LIBRARY, 300);
-    assert_eq!(played(SECOND, 300), met);
-    assert_eq!(played(NUMBER_ALONE, 300), met);
+    let met = played(LIBRARY, Models::Own, 300);
+    assert_eq!(played(SECOND, Models::Own, 300), met);
+    assert_eq!(played(NUMBER_ALONE, Models::Own, 300), met);
 }

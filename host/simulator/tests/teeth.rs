@@ -4,18 +4,13 @@
 use simulator::faults;
 use simulator::law::{Law, Rule};
 use simulator::machine::{Machine, LIBRARY};
-use simulator::run::Run;
+use simulator::run::{Found, Models, Run};
 use simulator::watch::Part;
 use std::io::{self, Write};
 
 /// Plays groups of n boxes until the part is violated, for so many histories at most.
-fn found(what: &str, machine: Machine, law: Law, n: u8, part: Part, within: u64) {
-    let run = Run {
-        machine,
-        law,
-        seed: 1,
-        n: Some(n),
-    };
+fn found(what: &str, run: Run, n: u8, part: Part, within: u64) {
+    let run = Run { n: Some(n), ..run };
     let found = run.find(part, within);
     let found = found.unwrap_or_else(|| panic!("{}: not found in {} histories", what, within));
     let first = found.play.first_of(part).expect("what was found");
@@ -28,24 +23,56 @@ fn found(what: &str, machine: Machine, law: Law, n: u8, part: Part, within: u64)
         first
     )
     .expect("a place to print to");
-    // Whoever reads of it can play that history alone.
-    let seed = found.seed;
-    let again = format!("--seed {} --histories 1 --n {}", seed, n);
-    assert!(found.to_string().contains(&again), "{}", found);
-    let alone = Run { seed, ..run }.find(part, 1);
-    let words = alone.map(|alone| alone.play.words());
+    is_played_alone(run, &found, part);
+}
+
+/// Whoever reads of a history can play it alone.
+fn is_played_alone(run: Run, found: &Found, part: Part) {
+    let (seed, n) = (found.seed, found.n);
+    let rows = found.play.group.machine.model.rows;
+    let (of_rows, models) = match run.models {
+        Models::Own => (String::new(), Models::Own),
+        _ => (format!(" --rows {}", rows), Models::OfRows(rows)),
+    };
+    let again = format!("--seed {} --histories 1 --n {}{}", seed, n, of_rows);
+    assert!(found.to_string().ends_with(&again), "{}", found);
+    let alone = Run {
+        seed,
+        models,
+        ..run
+    };
+    let words = alone.find(part, 1).map(|alone| alone.play.words());
     assert_eq!(words, Some(found.play.words()));
+}
+
+/// A run from the first seed on.
+fn run_of(machine: Machine, law: Law, models: Models) -> Run {
+    Run {
+        machine,
+        law,
+        seed: 1,
+        n: None,
+        models,
+    }
 }
 
 /// A fault of the boxes, merges or counts under coordinators that keep every rule.
 fn fault_found(machine: Machine, n: u8, part: Part, within: u64) {
-    found(machine.name, machine, Law::whole(), n, part, within);
+    let run = run_of(machine, Law::whole(), Models::Own);
+    found(machine.name, run, n, part, within);
+}
+
+/// A fault of boxes with few rows, under such coordinators.
+fn fault_in_small_models_found(machine: Machine, n: u8, part: Part, within: u64) {
+    let run = run_of(machine, Law::whole(), Models::Small);
+    found(machine.name, run, n, part, within);
 }
 
 /// Coordinators that do not keep a rule, over the library.
 fn bent_rule_found(rule: Rule, n: u8, part: Part, within: u64) {
     let what = format!("without {}", rule);
-    found(&what, LIBRARY, Law::without(rule), n, part, within);
+    let run = run_of(LIBRARY, Law::without(rule), Models::Own);
+    found(&what, run, n, part, within);
 }
 
 /// "Demand 3 excludes an empty merge."
@@ -122,6 +149,37 @@ fn the_two_checks_in_the_wrong_places_are_found() {
 #[test]
 fn a_stamp_that_misleads_is_found() {
     fault_found(faults::ADVISED_BY_COMMITTED_ALONE, 3, Part::Advice, 500);
+}
+
+/// "In a dry week two boxes took different entries, and the view change was refused as full."
+#[test]
+fn boxes_that_keep_no_room_are_found() {
+    fault_in_small_models_found(faults::NO_ROOM_KEPT, 3, Part::MergeDone, 100);
+    fault_in_small_models_found(faults::NO_ROOM_KEPT, 5, Part::MergeDone, 100);
+    fault_in_small_models_found(faults::NO_ROOM_KEPT, 7, Part::MergeDone, 100);
+    fault_in_small_models_found(faults::NO_ROOM_KEPT, 3, Part::Room, 10);
+}
+
+/// "512 less the start rows, divided by f+1 and rounded down"
+#[test]
+fn shares_that_are_too_large_are_found() {
+    fault_in_small_models_found(faults::SHARE_ROUNDED_UP, 3, Part::MergeDone, 100);
+    fault_in_small_models_found(faults::SHARE_ROUNDED_UP, 5, Part::MergeDone, 100);
+    fault_in_small_models_found(faults::SHARE_ROUNDED_UP, 7, Part::MergeDone, 500);
+    fault_in_small_models_found(faults::SHARED_BY_F, 5, Part::MergeDone, 500);
+    fault_in_small_models_found(faults::SHARED_BY_F, 7, Part::MergeDone, 500);
+    fault_in_small_models_found(faults::SHARE_OF_ALL_ROWS, 3, Part::MergeDone, 100);
+    fault_in_small_models_found(faults::SHARE_OF_ALL_ROWS, 5, Part::MergeDone, 100);
+    fault_in_small_models_found(faults::SHARE_OF_ALL_ROWS, 7, Part::MergeDone, 500);
+}
+
+/// "the rows added since its view began": a share that is too small endangers nothing, and is noticed all the same. "A group
+/// with no room left still reads, finalises and changes view."
+#[test]
+fn boxes_that_refuse_too_much_as_full_are_found() {
+    fault_in_small_models_found(faults::START_ROWS_COUNT, 3, Part::Room, 10);
+    fault_in_small_models_found(faults::FULL_TO_ALL, 3, Part::Room, 10);
+    fault_in_small_models_found(faults::FULL_TO_ALL, 3, Part::StartTaken, 100);
 }
 
 #[test]

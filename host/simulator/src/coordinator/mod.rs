@@ -2,6 +2,7 @@
 
 mod behind;
 mod carriage;
+mod dry;
 mod outcomes;
 mod prepares;
 mod views;
@@ -35,7 +36,10 @@ struct Coordinator {
 /// A random history of a group, until its end or a violation.
 pub fn history(machine: Machine, law: Law, n: u8, seed: u64) -> Play {
     let mut dice = Dice::seeded(seed);
-    let rows = transactions::few(&mut dice);
+    let rows = match machine.is_small() {
+        true => transactions::more_than(&mut dice, machine.model.rows),
+        false => transactions::few(&mut dice),
+    };
     let mut all = Coordinator {
         begun: 2 + dice.index(3),
         dice,
@@ -91,6 +95,10 @@ impl Coordinator {
     }
 
     fn step(&mut self) {
+        // The dice of a group of the valley are not asked, so that its histories are those that they were.
+        if self.play.group.machine.is_small() && self.dice.in_a_hundred(6) {
+            return self.dry_week();
+        }
         let row = self.some_row();
         match self.dice.below(100) {
             0..=44 => self.go_on(&row),
