@@ -4,10 +4,13 @@ use crate::group::Counts;
 use crate::table::Table;
 use crate::Model;
 
-/// "512 less the start rows, divided by f+1 and rounded down". A table with more start rows than the model has nothing left.
+/// "512 less the start rows, divided by f+1 and rounded down". A table with more start rows than the model has nothing
+/// left.
 pub fn share(model: Model, table: &Table) -> usize {
     let left = model.rows.saturating_sub(table.start_rows);
-    let tables = Counts::from_n(table.n).expect("a group of 3, 5 or 7").quorum;
+    let tables = Counts::from_n(table.n)
+        .expect("a group of 3, 5 or 7")
+        .quorum;
     left / tables
 }
 

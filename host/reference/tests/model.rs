@@ -41,16 +41,28 @@ fn a_smaller_model_takes_its_own_least_buffer() {
     assert_eq!(answered(&mut buffer, &message), Number::Done);
 }
 
+/// "Row limit, buffer size and P2's reserve read" the model's rows "for 512": of two rows, one for each table of a merge.
 #[test]
 fn a_smaller_model_is_full_sooner() {
     let mut buffer = [0; 216];
     assert_eq!(fresh_for(SMALL, &mut buffer, 3, 0), Number::Done);
-    for stamp in [7, 8] {
-        let message = propose(stamp, &[], &[(1, 1)]);
-        assert_eq!(answered(&mut buffer, &message), Number::Done);
-    }
-    let third = propose(9, &[], &[(1, 1)]);
-    assert_eq!(answered(&mut buffer, &third), Number::Full);
+    let first = propose(7, &[], &[(1, 1)]);
+    assert_eq!(answered(&mut buffer, &first), Number::Done);
+    let second = propose(8, &[], &[(1, 1)]);
+    assert_eq!(answered(&mut buffer, &second), Number::Full);
+    // A view that begins with that row leaves one for two tables.
+    let begun = start(1, &beginning(3, 1, &rows(1)).image());
+    assert_eq!(answered(&mut buffer, &begun), Number::Done);
+    assert_eq!(answered(&mut buffer, &second), Number::Full);
+}
+
+/// Two of two rows are for no table of three.
+#[test]
+fn a_smaller_model_has_no_room_for_more_tables_than_rows() {
+    let mut buffer = [0; 216];
+    assert_eq!(fresh_for(SMALL, &mut buffer, 5, 0), Number::Done);
+    let first = propose(7, &[], &[(1, 1)]);
+    assert_eq!(answered(&mut buffer, &first), Number::Full);
 }
 
 #[test]

@@ -308,10 +308,13 @@ fn a_full_table_refuses_new_stamps_only() {
     }
 }
 
+/// "From a fresh group of three that is 256": the 512th row is never added by a message.
 #[test]
-fn the_last_row_is_added_to_a_table_of_511() {
-    let mut one = TestBox::holding(&normal(0, 3, 0, &rows_up_to(511)).image());
+fn the_last_row_is_added_to_a_table_of_255() {
+    let mut one = TestBox::holding(&normal(0, 3, 0, &rows_up_to(255)).image());
     assert_eq!(one.number(&propose(600, &[], &[(2, 1)])), 0);
     assert_eq!(one.number(&propose(601, &[], &[(2, 1)])), FULL);
-    assert_eq!(one.held().rows.len(), 512);
+    assert_eq!(one.held().rows.len(), 256);
+    let mut one = TestBox::holding(&normal(0, 3, 0, &rows_up_to(511)).image());
+    assert_eq!(one.number(&propose(600, &[], &[(2, 1)])), FULL);
 }
