@@ -8,6 +8,7 @@
 //! - [`table`]: a table as plain numbers, which keeps no rule by itself, and its image
 //! - [`random`]: random tables by the rules
 //! - [`spaced`]: tables of which every row and every gap is searched
+//! - [`room`]: tables about the last row that there is room for
 //! - [`field`]: where the fields of an image stand, and values about the limits of each
 //! - [`transactions`]: transactions that clash often
 //! - [`damage`]: images of many kinds, good and bad
@@ -32,6 +33,7 @@ pub mod next;
 pub mod parts;
 pub mod random;
 pub mod replies;
+pub mod room;
 pub mod runs;
 pub mod spaced;
 pub mod table;

@@ -10,7 +10,7 @@ use std::io::{self, Write};
 use std::ops::RangeInclusive;
 
 /// The fewest and the most rows of the tables of each part.
-const PARTS: [(usize, usize); 4] = [(0, 40), (63, 65), (511, 511), (512, 512)];
+const PARTS: [(usize, usize); 4] = [(0, 40), (63, 65), (510, 510), (512, 512)];
 
 /// The first stamp of a table, and how far apart its stamps are, so that there is one in every gap: those of tables
 /// with an even and with an odd number of rows.
@@ -129,6 +129,8 @@ fn walked(seed: u64, (fewest, most): (usize, usize)) -> Compared {
     for rows in fewest..=most {
         let (first, apart) = STAMPS[rows % 2];
         let mut table = spaced::table(&mut lent.dice, rows, first, apart);
+        // A view that has just begun has room for one more row where there are 510.
+        table.start_rows = rows as u32;
         // Of 512 rows the first alone is found by the tenth comparison: it has an outcome, which can be contradicted.
         let found_last = table.rows.first_mut().into_iter();
         found_last.for_each(|row| row.outcome = 1);

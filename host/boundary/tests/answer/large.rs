@@ -1,10 +1,12 @@
-//! Tables of 511 and 512 rows: new stamps in every place, and held ones.
+//! The largest tables that a row can be added to, with that row, and of 512 rows: new stamps in every place, and held ones.
 
 use crate::lent::Lent;
 use samples::message as make;
+use samples::room::{share, tables_of_a_merge};
 use samples::{random, Dice, Row, Table, GREATEST_STAMP, MOST_ROWS};
 
-/// Tables of 511 rows, to which a row more can be added, and of 512.
+/// A view that began with so many rows that each table of a merge may add one has the largest table that takes a new stamp:
+/// in a group of three it has 510 rows, and then 511.
 pub fn tables(lent: &mut Lent) {
     for turn in 0..60 {
         let mut table = match turn % 3 {
@@ -13,12 +15,16 @@ pub fn tables(lent: &mut Lent) {
         };
         table.mode = 0;
         table.promised = table.view;
-        table.start_rows = 0;
+        table.n = [3, 5, 7][turn / 6 % 3];
+        table.box_number %= table.n;
+        let began_with = MOST_ROWS - tables_of_a_merge(table.n);
+        assert_eq!(share(table.n, began_with), 1);
+        table.start_rows = began_with as u32;
         if turn % 2 == 1 {
             quieten(&mut lent.dice, &mut table);
         }
-        for rows in [MOST_ROWS - 1, MOST_ROWS] {
-            for index in [0, MOST_ROWS / 2, rows, lent.dice.index(rows)] {
+        for rows in [began_with, began_with + 1, MOST_ROWS] {
+            for index in [0, rows / 2, rows, lent.dice.index(rows)] {
                 new_stamp(lent, &table, rows, index);
             }
             held_stamps(lent, &table, rows);
@@ -54,7 +60,8 @@ fn without(table: &Table, rows: usize, index: usize) -> (Table, Row) {
 fn new_stamp(lent: &mut Lent, table: &Table, rows: usize, index: usize) {
     let (rest, row) = without(table, rows, index);
     let image = rest.image();
-    let expected = if rows < MOST_ROWS { 0 } else { 7 };
+    let began_with = rest.start_rows as usize;
+    let expected = if rows == began_with { 0 } else { 7 };
     for message in [
         make::propose_prepare(&row),
         make::propose_outcome(&row, 1),

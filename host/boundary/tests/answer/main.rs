@@ -8,6 +8,7 @@ mod histories;
 mod large;
 mod lent;
 mod refusals;
+mod room;
 mod shares;
 mod starts;
 

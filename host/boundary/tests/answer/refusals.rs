@@ -4,6 +4,7 @@ use crate::lent::{
     Lent, REPLIES_LONG_ENOUGH, REPLIES_TOO_SHORT, TABLES_LONG_ENOUGH, TABLES_TOO_SHORT,
 };
 use samples::message as make;
+use samples::room::{share, GROUPS, START_ROWS};
 use samples::{damage, random, Dice, Row, Table, MOST_ROWS};
 
 /// "The first that applies wins, in this order".
@@ -103,13 +104,17 @@ fn made(dice: &mut Dice, kind: u8, wanted: &[u8]) -> (Table, Vec<u8>) {
 
 /// Its mode is as wanted; if it should be full, it has one row too many, for the message to take.
 fn table_for(dice: &mut Dice, wanted: &[u8]) -> Table {
-    let rows = if wanted.contains(&7) {
-        MOST_ROWS + 1
+    let (n, began_with) = (dice.one_of(&GROUPS), dice.one_of(&START_ROWS));
+    let last = began_with + share(n, began_with);
+    let (start_rows, rows) = if wanted.contains(&7) {
+        let over = dice.one_of(&[last, last + 1, MOST_ROWS]);
+        (began_with, over.min(MOST_ROWS) + 1)
     } else {
-        2 + dice.index(5)
+        (0, 2 + dice.index(5))
     };
     let mut table = random::table(dice, rows);
-    table.start_rows = 0;
+    (table.n, table.box_number) = (n, table.box_number % n);
+    table.start_rows = start_rows as u32;
     table.view = table.view.min(u32::MAX - 3);
     let changing = wanted.contains(&4);
     table.mode = u8::from(changing);
