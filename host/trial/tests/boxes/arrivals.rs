@@ -4,6 +4,7 @@ use crate::calls::{number_at, Calls, Lengths};
 use crate::met::Met;
 use crate::{in_every_group, messages};
 use samples::kinds::NUMBERS;
+use samples::room::tables_of_a_merge;
 use samples::{damage, message as make, random, transactions, Row, MOST_ROWS, TABLE_BYTES};
 
 const LEAST_CALLS: u64 = 50_000;
@@ -14,7 +15,7 @@ const SHORT_REPLIES: [usize; 3] = [0, 1, 23];
 
 /// The kinds of messages with the numbers that the paper has for each, and what was answered; then where a message arrived;
 /// the merges.
-const CASES: [(&str, &[u8]); 20] = [
+const CASES: [(&str, &[u8]); 21] = [
     ("message 1", NUMBERS[1]),
     ("message 2", NUMBERS[2]),
     ("message 3", NUMBERS[3]),
@@ -33,6 +34,7 @@ const CASES: [(&str, &[u8]); 20] = [
     ("no table", &[2]),
     ("beside a damaged table", &[0]),
     ("the table of another box", &[0]),
+    ("a table with room for one row", &[0, 7]),
     ("a table to the last byte", &[0, 7]),
     ("a merge", &[0, 5, 6]),
 ];
@@ -212,35 +214,50 @@ fn history(calls: &mut Calls, met: &mut Met, n: u8, steps: usize) {
     (0..steps).for_each(|_| played.step());
 }
 
-/// A new stamp for boxes of 511 and of 512 rows with the longest bodies, so that the image then ends with the last byte of
-/// the box's table buffer, and the next box's begins right there.
-fn to_the_last_byte(calls: &mut Calls, met: &mut Met, n: u8) {
-    for rows in [MOST_ROWS - 1, MOST_ROWS] {
-        let mut news = Vec::new();
+/// Boxes start a view with the longest rows, and are told of two new stamps and of a held one. Where each table of a merge
+/// may add a row, the first stamp is taken, and no other. With 512 rows the image ends with the last byte of the box's table
+/// buffer, the next box's begins right there, and no stamp is taken.
+fn with_the_longest_rows(calls: &mut Calls, met: &mut Met, n: u8) {
+    let room = TABLE_BYTES * usize::from(n);
+    for (case, rows) in [
+        ("a table with room for one row", room_for_one_row(n)),
+        ("a table to the last byte", MOST_ROWS),
+    ] {
+        let mut table = random::full_table(&mut calls.dice, rows + 2);
+        table.n = n;
+        let [one, other] = [rows + 2, rows + 1].map(|rows| {
+            let place = calls.dice.index(rows);
+            table.rows.remove(place)
+        });
+        let start = make::start_view(1, &make::settled(&table.image(), 1));
+        let held = &table.rows[calls.dice.index(rows)];
+        assert_eq!(calls.start_fresh(n, room), 0);
         for box_number in 0..n {
-            let mut table = random::full_table(&mut calls.dice, rows + 1);
-            news.push(table.rows.remove(calls.dice.index(rows + 1)));
-            (table.n, table.box_number, table.start_rows) = (n, box_number, 0);
-            (table.mode, table.view, table.promised) = (0, 0, 0);
-            calls.hold(box_number, &table.image());
-        }
-        let room = TABLE_BYTES * usize::from(n);
-        for (box_number, row) in (0..n).zip(&news) {
-            for message in [make::propose_prepare(row), make::propose_outcome(row, 1)] {
+            assert_eq!(calls.arrive((room, 24), box_number, &start), 0);
+            for message in [
+                make::propose_prepare(&one),
+                make::propose_outcome(&other, 1),
+                make::propose_prepare(held),
+            ] {
                 let number = calls.arrive((room, 24), box_number, &message);
-                met.count("a table to the last byte", number);
+                met.count(case, number);
                 met.count(&kind_of(&message), number);
             }
         }
     }
 }
 
+/// So many start rows leave one for each table of a merge: of three boxes, 510 leave two.
+fn room_for_one_row(n: u8) -> usize {
+    MOST_ROWS - tables_of_a_merge(n)
+}
+
 fn many_histories(calls: &mut Calls, met: &mut Met, n: u8) {
     for turn in 0..120 {
         history(calls, met, n, 40 + turn);
     }
-    to_the_last_byte(calls, met, n);
-    to_the_last_byte(calls, met, n);
+    with_the_longest_rows(calls, met, n);
+    with_the_longest_rows(calls, met, n);
 }
 
 #[test]
