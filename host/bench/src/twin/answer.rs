@@ -97,9 +97,18 @@ fn to_propose<S: Search>(table: &[u8], header: &Header, new: &Transaction) -> Re
             }
             Ok(Ok((index, row)))
         }
-        Err(_) if header.rows >= MOST_ROWS => Err(7),
+        Err(_) if !has_room(header) => Err(7),
         Err(index) => Ok(Err(index)),
     }
+}
+
+/// Whether a new stamp finds room: the rows added since the view began stay below their share of what the start rows leave.
+fn has_room(header: &Header) -> bool {
+    if header.start_rows >= MOST_ROWS {
+        return false;
+    }
+    let quorum = u32::from(header.n / 2) + 1;
+    header.rows - header.start_rows < (MOST_ROWS - header.start_rows) / quorum
 }
 
 /// Messages 2 and 4: the row of the stamp, in a box that is in that view.
@@ -264,6 +273,8 @@ fn add_row(
 mod tests {
     use super::super::search::{Halving, Walk};
     use super::{answer, TABLE_BYTES};
+    use samples::message as make;
+    use samples::room;
     use samples::{random, Dice, Row, Table, GREATEST_STAMP, MOST_ROWS};
 
     type Answer = fn(&mut [u8], &[u8], &mut [u8]) -> u8;
@@ -357,5 +368,23 @@ mod tests {
         }
         assert!(met.iter().all(|times| *times > 9), "{:?}", met);
         assert!(results.iter().all(|times| *times > 9), "{:?}", results);
+    }
+
+    /// Every table about the last row that there is room for, told of a stamp that it does not hold.
+    #[test]
+    fn both_twins_keep_room_as_the_second_program() {
+        let mut dice = Dice::seeded(2);
+        let (mut taken, mut refused) = (0, 0);
+        for (n, start_rows, rows) in room::edges() {
+            let (table, new) = room::table(&mut dice, n, start_rows, rows);
+            let mut buffer = table.image();
+            buffer.resize(TABLE_BYTES, 0xee);
+            let (prepare, _) = answered(&buffer, &make::propose_prepare(&new), 24);
+            let (outcome, _) = answered(&buffer, &make::propose_outcome(&new, 1), 24);
+            assert_eq!(prepare, outcome);
+            taken += u32::from(prepare == 0);
+            refused += u32::from(prepare == 7);
+        }
+        assert!(taken > 30 && refused > 90, "{} and {}", taken, refused);
     }
 }
