@@ -152,8 +152,12 @@ impl Both {
         self.judged(Call::answering(message), found, word, place)?;
         self.met.count_compared((word >> 16) as usize);
         let number = word & 0xff;
-        if number == 0 && message[0] == 1 && rows_in(table) != rows_before {
+        let is_added = number == 0 && [1, 3].contains(&message[0]) && rows_in(table) != rows_before;
+        if is_added && message[0] == 1 {
             self.count_checked(table, reply);
+        }
+        if is_added || number == 7 {
+            self.met.ends.count(number == 7, table);
         }
         if let Some((table_before, reply_before)) = before {
             let lent = self.lend(dice, &table_before, message, &reply_before);

@@ -1,8 +1,9 @@
 //! How often each call ended with each number, how often an answer came with each count of compared rows, how often a
-//! check said RETRY with a prepared row's stamp, and what the check said to messages 1 wherever their stamps lay, so that
-//! an attack without a difference is no empty one.
+//! check said RETRY with a prepared row's stamp, what the check said to messages 1 wherever their stamps lay, and what came of
+//! new stamps where there was room for one row or for none, so that an attack without a difference is no empty one.
 
 use samples::kinds::NUMBERS as NUMBERS_OF_KINDS;
+use samples::room::Ends;
 use samples::Checked;
 use std::fmt::{self, Display, Formatter};
 
@@ -66,6 +67,8 @@ pub struct Met {
     at_prepared: [u64; CHECKS.len()],
     /// Messages 1 that were checked.
     pub checked: Checked,
+    /// New stamps of messages 1 and 3 about the last row that there is room for.
+    pub ends: Ends,
 }
 
 impl Met {
@@ -92,6 +95,7 @@ impl Met {
         let at_prepared = self.at_prepared.iter_mut().zip(&other.at_prepared);
         at_prepared.for_each(|(count, more)| *count += more);
         self.checked.add(&other.checked);
+        self.ends.add(&other.ends);
     }
 
     pub fn calls(&self) -> u64 {
@@ -124,12 +128,13 @@ impl Met {
             }
         }
         missing.extend(self.checked.missing(least));
+        missing.extend(self.ends.missing(least));
         missing
     }
 }
 
 /// A line for each call, a column for each number; then the answers, with a column for each count; then the answers and
-/// the merges with RETRY at a prepared row's stamp; then what the check said to messages 1.
+/// the merges with RETRY at a prepared row's stamp; then what the check said to messages 1; then what came of new stamps.
 impl Display for Met {
     fn fmt(&self, f: &mut Formatter) -> fmt::Result {
         write!(f, "| call | calls |")?;
@@ -158,6 +163,6 @@ impl Display for Met {
         )?;
         let mut checks = CHECKS.iter().zip(&self.at_prepared);
         checks.try_for_each(|((_, left), count)| write!(f, "\n| {} | {} |", left, count))?;
-        write!(f, "\n\n{}", self.checked)
+        write!(f, "\n\n{}\n\n{}", self.checked, self.ends)
     }
 }

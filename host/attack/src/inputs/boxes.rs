@@ -4,7 +4,9 @@ use super::alterations::altered;
 use super::tables::message_about;
 use super::{ask, buffer, dirt, image, table_length};
 use crate::both::{Both, Difference};
-use samples::{kinds, message, next, random, transactions, Dice, Row, GREATEST_STAMP, MOST_ROWS};
+use samples::room::{self, share, GROUPS, START_ROWS};
+use samples::{kinds, message, next, random, transactions};
+use samples::{Dice, Row, Table, GREATEST_STAMP, MOST_ROWS};
 
 /// Any n and any box, in buffers of any length.
 pub fn fresh(both: &mut Both, dice: &mut Dice) -> Result<(), Difference> {
@@ -86,31 +88,72 @@ fn ask_an_altered_table(
     ask(both, dice, &mut lent, message)
 }
 
-/// A table of very many rows, and messages about those and about new stamps, of which there is room for few or none.
+/// Tables that have room for few new stamps or for none, told of some; and messages of every kind about the last of them.
 pub fn full(both: &mut Both, dice: &mut Dice) -> Result<(), Difference> {
-    let missing = dice.one_of(&[0, 0, 1, 2, 10, 400]);
-    let rows = MOST_ROWS - dice.index(missing + 1);
-    let mut held = random::table(dice, rows);
-    if dice.in_a_hundred(80) {
-        (held.mode, held.promised) = (0, held.view);
+    for _ in 0..3 {
+        let held = nearly_full(dice);
+        filled(both, dice, &held)?;
     }
-    let mut table = held.image();
-    table.resize(table_length(dice).max(table.len()), 0xee);
+    let held = nearly_full(dice);
+    let mut table = filled(both, dice, &held)?;
+    // With these a view begins that has all rows of the table from the start, and room of its own.
     for _ in 0..8 {
         for message in kinds::messages(dice, &held) {
             ask(both, dice, &mut table, &message)?;
         }
-        let new = new_transaction(dice);
-        ask(both, dice, &mut table, &message::propose_prepare(&new))?;
-        let verdict = dice.one_of(&[1, 2]);
-        ask(
-            both,
-            dice,
-            &mut table,
-            &message::propose_outcome(&new, verdict),
-        )?;
+        tell_of_a_new_stamp(both, dice, &mut table)?;
+        tell_of_a_new_stamp(both, dice, &mut table)?;
     }
     both.valid(dice, &table).map(drop)
+}
+
+/// The table in a buffer, after it was told of more new stamps than it mostly has room for.
+fn filled(both: &mut Both, dice: &mut Dice, held: &Table) -> Result<Vec<u8>, Difference> {
+    let mut table = held.image();
+    table.resize(table_length(dice).max(table.len()), 0xee);
+    for _ in 0..4 {
+        tell_of_a_new_stamp(both, dice, &mut table)?;
+    }
+    Ok(table)
+}
+
+/// A table with about as many rows as there is room for in its view, most often one or two less; or with nearly 512, as a
+/// box may hold that filled its table before room was kept.
+fn nearly_full(dice: &mut Dice) -> Table {
+    let (n, any) = (dice.one_of(&GROUPS), dice.index(MOST_ROWS + 1));
+    let listed = dice.one_of(&START_ROWS);
+    let start_rows = dice.one_of(&[0, any, listed]);
+    let last = start_rows + share(n, start_rows);
+    let rows = match dice.index(6) {
+        0 => MOST_ROWS - dice.index(10),
+        1 => last + 1,
+        _ => last.saturating_sub(dice.index(4)),
+    };
+    let rows = rows.clamp(start_rows, MOST_ROWS);
+    let (mut held, _) = room::table(dice, n, start_rows, rows);
+    if dice.in_a_hundred(20) && held.view < u32::MAX {
+        (held.mode, held.promised) = (1, held.view + 1);
+    }
+    held
+}
+
+/// Message 1 or 3 about a new stamp, and once more: then it is held, or refused again.
+fn tell_of_a_new_stamp(
+    both: &mut Both,
+    dice: &mut Dice,
+    table: &mut [u8],
+) -> Result<(), Difference> {
+    let new = new_transaction(dice);
+    let verdict = dice.one_of(&[1, 2]);
+    let mut messages = [
+        message::propose_prepare(&new),
+        message::propose_outcome(&new, verdict),
+    ];
+    dice.shuffle(&mut messages);
+    for message in &messages {
+        ask(both, dice, table, message)?;
+    }
+    Ok(())
 }
 
 /// A transaction that a random table hardly holds.
