@@ -9,9 +9,9 @@ use reference::numbers::first_that_applies;
 use reference::{check, proposal_check, Decision, Model, Number, PrepareResult, Rows, VALLEY};
 use samples::{replies, Record, Row, Table};
 
-/// A box that is soon full, so that this happens often.
+/// A box that is soon full, so that this happens often: from fresh with 6, 4 or 3 rows, in groups of 3, 5 and 7.
 pub const SMALL: Model = Model {
-    rows: 6,
+    rows: 12,
     buffer: VALLEY.buffer,
 };
 

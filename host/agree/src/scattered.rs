@@ -43,7 +43,8 @@ pub fn merge(dice: &mut Dice) -> Case {
     let season = dice.below(1 << 30);
     let n = [3, 5, 7][dice.below(3) as usize];
     let odd = |dice: &mut Dice| u64::from(dice.in_a_hundred(1));
-    let stamps = 6 + u64::from(dice.in_a_hundred(10));
+    // Now and then more than there may be rows.
+    let stamps = if dice.in_a_hundred(10) { 15 } else { 6 };
     let count = u64::from(n) / 2 + 1 + odd(dice);
     let tables = (0..count).map(|place| Table {
         box_number: (place * 2 + odd(dice)) as u8 % n,

@@ -1,7 +1,7 @@
 //! When a merge is refused: 11, and 5, 6 and 7 of the tables that are used.
 
 use super::{holding, lonely, named, transaction};
-use crate::case::Case;
+use crate::case::{Case, SMALL};
 use crate::cases::Named;
 use samples::{Row, Table};
 
@@ -159,18 +159,19 @@ fn rows(stamps: std::ops::RangeInclusive<u64>) -> Vec<Row> {
 
 /// "a merge of more than 512 stamps"
 fn full() -> Vec<Named> {
+    let most = SMALL.rows as u64;
     vec![
         merged(
             "as many stamps as there may be",
-            gathered(3, vec![rows(1..=4), rows(3..=6)]),
+            gathered(3, vec![rows(1..=8), rows(5..=most)]),
         ),
         merged(
             "one stamp too many",
-            gathered(3, vec![rows(1..=4), rows(3..=7)]),
+            gathered(3, vec![rows(1..=8), rows(5..=most + 1)]),
         ),
         merged(
             "too many stamps, some of an older view",
-            older(0, gathered(3, vec![rows(1..=4), rows(3..=7)])),
+            older(0, gathered(3, vec![rows(1..=8), rows(5..=most + 1)])),
         ),
     ]
 }
@@ -179,8 +180,8 @@ fn full() -> Vec<Named> {
 fn in_this_order() -> Vec<Named> {
     let body = |stamp| holding(transaction(stamp, &[], &[(60, stamp)]), 5, 0);
     let with = |first: Vec<Row>, mut second: Vec<Row>| {
-        second.extend(rows(20..=22));
-        gathered(3, vec![[first, rows(12..=14)].concat(), second])
+        second.extend(rows(20..=25));
+        gathered(3, vec![[first, rows(12..=17)].concat(), second])
     };
     let six = (vec![lonely(2, 5, 0)], vec![lonely(2, 6, 0)]);
     let five = (vec![lonely(3, 5, 0)], vec![body(3)]);

@@ -175,7 +175,7 @@ fn other_views() -> Vec<Named> {
     views.into_iter().flat_map(both).collect()
 }
 
-/// "a new stamp with 512 rows held", and where a new row goes.
+/// Where a new row goes. Whether there is room for one is asked in [`super::room`].
 fn new_stamps() -> Vec<Named> {
     let usual = lonely(9, 0, 0);
     let other = transaction(9, &[], &[(9, 8)]);
@@ -184,16 +184,10 @@ fn new_stamps() -> Vec<Named> {
         ("of a stamp before the others", &[10, 12], &usual),
         ("of a stamp between the others", &[8, 10], &usual),
         ("of a stamp behind the others", &[7, 8], &usual),
-        ("with room for one row", &[1, 2, 3, 4, 12], &usual),
-        ("to a full table", &[1, 2, 3, 4, 12, 13], &usual),
+        ("of a stamp that is held", &[7, 9, 10], &usual),
         (
-            "of a stamp that a full table holds",
-            &[1, 2, 3, 4, 9, 13],
-            &usual,
-        ),
-        (
-            "of another body than a full table holds",
-            &[1, 2, 3, 4, 9, 13],
+            "of a stamp that is held with another body",
+            &[7, 9, 10],
             &other,
         ),
     ];

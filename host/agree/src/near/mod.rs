@@ -5,6 +5,7 @@
 //! - [`numbers`]: the order of the numbers
 //! - [`bodies`]: stamps, bodies and registers in messages
 //! - [`messages`]: what a box that holds a row, in every state of it, answers to each message
+//! - [`room`]: how many new stamps a box takes in a view, which document 02 asks for
 //! - [`views`]: messages 5 and 6
 //! - [`checks`]: the check, each inequality at equality and one off it
 //! - [`day_order`]: what document 02 adds to that for messages 1
@@ -20,6 +21,7 @@ mod halving;
 mod merges;
 mod messages;
 mod numbers;
+mod room;
 mod settling;
 mod tables;
 mod views;
@@ -35,6 +37,7 @@ pub fn all() -> Vec<Named> {
         numbers::all,
         bodies::all,
         messages::all,
+        room::all,
         views::all,
         checks::all,
         day_order::all,

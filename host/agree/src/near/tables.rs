@@ -1,7 +1,7 @@
 //! "The table image", "bad n or box" and "small buffer".
 
 use super::{accesses, holding, lonely, named, normal, transaction};
-use crate::case::Case;
+use crate::case::{Case, SMALL};
 use crate::cases::Named;
 use samples::{Row, Table, GREATEST_STAMP};
 
@@ -77,6 +77,8 @@ fn headers() -> Vec<Named> {
 /// "stamps strictly rising", "At most 512 rows", "Not both zero" and the retry stamp.
 fn rows() -> Vec<Named> {
     let of = |stamps: &[u64]| normal(stamps.iter().map(|stamp| lonely(*stamp, 1, 0)).collect());
+    let most = SMALL.rows as u64;
+    let up_to = |last| (1..=last).collect::<Vec<u64>>();
     let with = |row: Row| normal(vec![lonely(1, 1, 0), row, lonely(12, 0, 2)]);
     let retry = |prepare, retry| {
         with(Row {
@@ -85,8 +87,8 @@ fn rows() -> Vec<Named> {
         })
     };
     vec![
-        image("as many rows as there may be", of(&[1, 2, 3, 4, 5, 6])),
-        image("one row too many", of(&[1, 2, 3, 4, 5, 6, 7])),
+        image("as many rows as there may be", of(&up_to(most))),
+        image("one row too many", of(&up_to(most + 1))),
         image("stamp 0", of(&[0, 2])),
         image("the greatest stamp", of(&[2, GREATEST_STAMP])),
         image("a stamp beyond the greatest", of(&[2, GREATEST_STAMP + 1])),

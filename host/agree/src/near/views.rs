@@ -1,7 +1,7 @@
 //! Messages 5 and 6: number 10, and what a start image must be.
 
 use super::{changing, lonely, named, normal};
-use crate::case::Case;
+use crate::case::{Case, SMALL};
 use crate::cases::Named;
 use crate::plain::Sent;
 use samples::{Row, Table};
@@ -114,8 +114,9 @@ fn rows() -> Vec<Named> {
         let rows = vec![lonely(3, 5, 3), lonely(9, 7, outcome)];
         cases.push(of(&format!("outcome {}", outcome), rows));
     }
-    let all_full = (1..=6).map(|stamp| lonely(stamp, 5, 0)).collect();
-    let too_many = (1..=7).map(|stamp| lonely(stamp, 5, 0)).collect();
+    let most = SMALL.rows as u64;
+    let all_full = (1..=most).map(|stamp| lonely(stamp, 5, 0)).collect();
+    let too_many = (1..=most + 1).map(|stamp| lonely(stamp, 5, 0)).collect();
     cases.push(of("as many rows as there may be", all_full));
     cases.push(of("one row too many", too_many));
     cases.push(of("a stamp twice", vec![lonely(9, 5, 0), lonely(9, 5, 0)]));
