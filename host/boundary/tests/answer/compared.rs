@@ -21,7 +21,8 @@ const COUNTS: usize = 11;
 const NUMBERS: usize = 12;
 
 /// The numbers that are met, each with the counts that it can come with. A row that is held was compared itself, so
-/// there is no 0; only 512 rows are full, and a stamp that is not among them is missed after 9 comparisons or 10.
+/// there is no 0; of these tables only that of 512 rows is full, and a stamp that is not among them is missed after 9
+/// comparisons or 10.
 const POSSIBLE: [(usize, RangeInclusive<usize>); 7] = [
     (0, 0..=10),
     (4, 0..=0),
