@@ -56,6 +56,12 @@ the version that the transaction 2:1 wrote; 5@0 is register 5, which nobody had
 written before; 5=7 is register 5, written with the value 7. Commands take a
 stamp as TIME:CLIENT, not as the number.
 
+Of a box that is normal it also says how many rows may still be added in this
+view. A box may add a share of what was left when its view began: 512 less the
+start rows, divided by f+1 and rounded down. So there is room for the merge of
+f+1 tables. In the header in JSON this is share, and room is what is left of it.
+A box that is changing takes no new stamp, whatever its room is.
+
 A result that was declared on a fast count stays tentative in the tables until
 message 2 or a merge makes it final; tentative OK beside a commit is in order.
 One table does not say that an entry is recorded: it is recorded when f+1
@@ -163,6 +169,12 @@ one is refused with 2, 3, 4 or 9, nothing is said, and rows_compared in JSON is
 0. The rows that a box goes over to judge its table, which are all of them, and
 once more to check a new stamp, are not counted.
 
+7 full is given to a new stamp, in messages 1 and 3, once the rows added since
+the view began reach the share of a box: 512 less the start rows, divided by f+1
+and rounded down. The reason says the share, and whether a view change makes
+room. As far as this table can tell, one does if at least f+1 rows are left. A
+box without room still serves the stamps that it holds, reads, and changes view.
+
 The table is written safely: to a new file, synced, and put in the place of the
 old one, before any reply is given. A power cut leaves the old table whole or
 the new one whole. After one, the same message may be answered again and has the
@@ -199,7 +211,8 @@ usage: sprondilu merge --view V --out FILE [--json] TABLE ..
 The table with which view V begins, from the table files of exactly f+1 boxes
 that have promised V: 2 of 3, 3 of 5, 4 of 7. The files stay as they are. The
 order in which they are named does not matter. For one view one merge is sent,
-and no other.
+and no other. 7 full means more than 512 stamps. It does not come of tables in
+which each box kept to its share, which sprondilu answer --help explains.
 
   --view V    the view
   --out FILE  the file to write; one that is there already is not written over

@@ -1,7 +1,10 @@
 //! The fields of a table image that the library has found good: here is no test of any of them.
 
 use crate::json::Json;
-use crate::{names, stamps};
+use crate::{names, room, stamps};
+
+/// "At most 512 rows."
+pub const MOST_ROWS: u32 = 512;
 
 pub const HEADER_BYTES: usize = 24;
 pub const ROW_BYTES: usize = 24;
@@ -59,6 +62,8 @@ impl Header {
             ("view", Json::from(self.view)),
             ("promised_view", Json::from(self.promised)),
             ("start_rows", Json::from(self.start_rows)),
+            ("share", Json::from(room::share(self))),
+            ("room", Json::from(room::left(self))),
             ("length", Json::from(self.length)),
         ])
     }

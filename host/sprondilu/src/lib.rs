@@ -10,6 +10,7 @@
 //! - [`files`]: reading with a limit, writing so that nothing is lost, one run at a time on a table file
 //! - [`image`], [`message`], [`reply`]: the fields of what was found good; [`names`]: the names of the codes
 //! - [`wrong`]: what is wrong with bytes, and at which byte; [`reasons`]: why a call refused, and what stood in the way of OK
+//! - [`room`]: how many rows may still be added in a view
 //! - [`ends`]: how a run ends, [`json`]: answers for programs
 //! - [`demo`]: groups played through the library
 
@@ -25,6 +26,7 @@ pub mod message;
 pub mod names;
 pub mod reasons;
 pub mod reply;
+pub mod room;
 pub mod stamps;
 pub mod words;
 pub mod wrong;

@@ -40,6 +40,9 @@ fn answering(folder: &Folder, stamp: u64) -> Command {
     command
 }
 
+/// A fresh table of a group of three has room for 256 entries, so the runs of a test go to two tables, one after the other.
+const TABLES: u64 = 2;
+
 /// A folder with a fresh table and a link to it.
 fn begun() -> Folder {
     let folder = Folder::new();
@@ -110,24 +113,34 @@ fn rounds(rounds: u64, at_once: u64) {
 
 #[test]
 fn two_runs_at_once_lose_no_entry() {
-    rounds(200, 2);
+    (0..TABLES).for_each(|_| rounds(100, 2));
 }
 
 #[test]
 fn eight_runs_at_once_lose_no_entry() {
-    rounds(60, 8);
+    (0..TABLES).for_each(|_| rounds(30, 8));
 }
 
 /// One of four runs is killed at any time. What the others were told is in the table, and what the killed one wrote is in it
 /// wholly or not at all.
 #[test]
 fn a_killed_run_takes_no_entry_of_another_with_it() {
-    let folder = begun();
     let mut dice = Dice::seeded(601);
+    let killed: usize = (0..TABLES).map(|_| killing_rounds(&mut dice)).sum();
+    assert!(
+        killed > 5,
+        "only {} were killed before they had ended",
+        killed
+    );
+}
+
+/// How many of the runs on one table were killed before they had ended.
+fn killing_rounds(dice: &mut Dice) -> usize {
+    let folder = begun();
     let (mut promised, mut asked) = (BTreeSet::new(), BTreeSet::new());
     let mut killed = 0;
-    for round in 0..120_u64 {
-        let new: Vec<u64> = (0..4).map(|place| 1 + round + place * 120).collect();
+    for round in 0..60_u64 {
+        let new: Vec<u64> = (0..4).map(|place| 1 + round + place * 60).collect();
         asked.extend(&new);
         let victim = dice.index(4);
         // Now and then at once, before it can have ended.
@@ -143,13 +156,9 @@ fn a_killed_run_takes_no_entry_of_another_with_it() {
         assert!(promised.is_subset(&held), "round {}", round);
         assert!(held.is_subset(&asked), "round {}", round);
     }
-    assert!(
-        killed > 5,
-        "only {} were killed before they had ended",
-        killed
-    );
     // Nothing that they left is in the way.
     run(&folder, "answer t m1").done();
+    killed
 }
 
 /// Readers while four runs at once write: each time a whole table, with all that was there the time before.

@@ -2,11 +2,11 @@
 
 use super::{check, Kind};
 use crate::ends::Stop;
-use crate::image::{Row, Table};
+use crate::image::{Header, Row, Table, MOST_ROWS};
 use crate::json::Json;
 use crate::message::Message;
 use crate::words::Words;
-use crate::{names, stamps};
+use crate::{names, room, stamps};
 use std::fmt::Write;
 use std::path::Path;
 
@@ -53,17 +53,31 @@ pub fn in_words(table: &Table) -> String {
     };
     let _ = writeln!(
         text,
-        "{} of at most 512; view {} began with {}; {} bytes",
+        "{} of at most {}; view {} began with {}; {} bytes",
         names::how_many(header.rows as usize, "row"),
+        MOST_ROWS,
         header.view,
         header.start_rows,
         header.length
     );
+    text.push_str(&room_in_words(header));
     if !table.rows.is_empty() {
         text.push('\n');
         text.push_str(&columns(&table.rows));
     }
     text
+}
+
+/// How many rows may still be added in this view. Of a box that has left its view nothing is said: it takes no new stamp.
+fn room_in_words(header: &Header) -> String {
+    match (header.mode, room::left(header)) {
+        (0, 0) => "no room for more rows in this view\n".to_string(),
+        (0, left) => format!(
+            "room for {} in this view\n",
+            names::how_many(left as usize, "more row")
+        ),
+        _ => String::new(),
+    }
 }
 
 /// The rows, a line each, in columns as wide as what stands in them.

@@ -1,10 +1,11 @@
 //! Why a box refused a message.
 
 use super::NOT_SEEN;
-use crate::image::{Row, Table};
+use crate::commands::count::quorum;
+use crate::image::{Header, Row, Table, MOST_ROWS};
 use crate::message::Message;
 use crate::wrong::{self, Wrong};
-use crate::{names, stamps};
+use crate::{names, room, stamps};
 
 /// The reason of a refusal by a box that holds this image, and the byte of the message if it is that which is wrong.
 pub fn reason(number: u8, image: &[u8], message: &[u8]) -> (String, Option<usize>) {
@@ -76,12 +77,36 @@ fn contradiction(row: &Row, message: &Message) -> Option<String> {
     }
 }
 
+/// "a box refuses a new stamp as full once the rows added since its view began reach" its share; and what a view change does.
 fn full(table: &Table, message: &Message) -> String {
+    let header = &table.header;
     format!(
-        "the stamp {} is new, and the table holds {} rows, which is all it can: nothing was stored",
+        "the stamp {} is new, and since view {} began this box has added {}, where it may add {} ({} less {} start rows, \
+         divided by {}, rounded down): nothing was stored; {}",
         message.stamp().map_or(String::new(), stamps::short),
-        table.header.rows
+        header.view,
+        names::how_many(room::added(header) as usize, "row"),
+        room::share(header),
+        MOST_ROWS,
+        header.start_rows,
+        quorum(header.n),
+        after_a_view_change(header)
     )
+}
+
+/// Whether a view change makes room, as far as one table can tell.
+fn after_a_view_change(header: &Header) -> String {
+    match room::after_view_change(header) {
+        0 => format!(
+            "while the {} rows held here stay, no view change makes room, since fewer than {} are left",
+            header.rows,
+            quorum(header.n)
+        ),
+        more => format!(
+            "a view change makes room for {} more, if the view begins with the {} rows held here",
+            more, header.rows
+        ),
+    }
 }
 
 fn unknown(table: &Table, message: &Message) -> String {

@@ -2,7 +2,7 @@
 
 use super::NOT_SEEN;
 use crate::commands::count::quorum;
-use crate::image::{Row, Table};
+use crate::image::{Row, Table, MOST_ROWS};
 use crate::{names, stamps};
 use std::collections::BTreeMap;
 
@@ -144,7 +144,9 @@ fn full(tables: &[Named]) -> String {
         .flat_map(|one| one.table.rows.iter().map(|row| row.stamp))
         .collect();
     format!(
-        "the tables hold {} stamps between them, and one table holds at most 512: nothing was cut",
-        stamps.len()
+        "the tables hold {} stamps between them, and one table holds at most {}: nothing was cut; tables of boxes that kept \
+         room for the merge never hold so many",
+        stamps.len(),
+        MOST_ROWS
     )
 }

@@ -1,10 +1,8 @@
 //! "The table image: contents first, bodies after"
 
 use super::{body, ensure, Good};
-use crate::image::{number_at, u32_at, Header, ACCESS_BYTES, HEADER_BYTES, ROW_BYTES};
+use crate::image::{number_at, u32_at, Header, ACCESS_BYTES, HEADER_BYTES, MOST_ROWS, ROW_BYTES};
 use crate::{names, stamps};
-
-const MOST_ROWS: u32 = 512;
 
 /// A place at which the bytes do not begin with an image by the rules.
 pub fn image(bytes: &[u8]) -> Good {

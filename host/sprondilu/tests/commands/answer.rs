@@ -1,7 +1,7 @@
 //! `answer`
 
 use super::show::assert_reply;
-use crate::common::boxes::{long_table, settled};
+use crate::common::boxes::{in_a_view, long_table, settled};
 use crate::common::json::{Value, READ, STAMP, VERSION};
 use crate::common::ran::{bad_usage, not_tried, refused};
 use crate::common::{answered, fresh, hex, run, Folder, History};
@@ -126,8 +126,8 @@ fn asked(folder: &Folder, history: &mut History) -> (u8, u64) {
 /// The rows compared, counted by hand: how many rows the table has, the message, the number, and the rows compared if a stamp
 /// was searched. The rows have the stamps 1:1, 2:1 and so on. Of three rows 2:1 is compared first. Of 512 it is 257:1; before
 /// it then 129:1, 65:1, 33:1, 17:1, 9:1, 5:1, 3:1, 2:1 and 1:1, and behind it 385:1, 449:1, 481:1, 497:1, 505:1, 509:1, 511:1
-/// and 512:1.
-const COMPARED: [(u64, &str, u8, Option<u64>); 16] = [
+/// and 512:1. Of 255, and of 256, eight lie on the way behind all of them. From 256 on a table of this view has no room.
+const COMPARED: [(u64, &str, u8, Option<u64>); 18] = [
     (0, "propose-prepare 1:1 write 5=7", 0, Some(0)),
     (0, "finalise-prepare 1:1 view 0 OK", 8, Some(0)),
     (1, "propose-prepare 1:1 write 5=7", 0, Some(1)),
@@ -140,6 +140,8 @@ const COMPARED: [(u64, &str, u8, Option<u64>); 16] = [
     (3, "change-view 1", 0, None),
     (3, "change-view 0", 10, None),
     (3, "read 3:1 register 5", 0, None),
+    (255, "propose-prepare 256:1 write 5=7", 0, Some(8)),
+    (256, "propose-prepare 257:1 write 5=7", 7, Some(8)),
     (512, "propose-prepare 1:1 write 5=7", 0, Some(10)),
     (512, "propose-prepare 257:1 write 5=7", 0, Some(1)),
     (512, "propose-prepare 513:1 write 5=7", 7, Some(9)),
@@ -529,6 +531,104 @@ fn assert_refusal_is_replied(folder: &Folder, number: u8) {
     folder.remove("r");
 }
 
+/// n, the rows with which the view began and the rows held; then what the refusal of a new stamp says of them, and of a view
+/// change. By messages no table of three comes beyond 511 rows: the last one was filled by a box that did not keep room.
+const WITHOUT_ROOM: [(u8, u32, u32, &str, &str); 6] = [
+    (
+        3,
+        0,
+        256,
+        "has added 256 rows, where it may add 256 (512 less 0 start rows, divided by 2, rounded down)",
+        "a view change makes room for 128 more, if the view begins with the 256 rows held here",
+    ),
+    (
+        5,
+        0,
+        170,
+        "has added 170 rows, where it may add 170 (512 less 0 start rows, divided by 3, rounded down)",
+        "a view change makes room for 114 more, if the view begins with the 170 rows held here",
+    ),
+    (
+        7,
+        505,
+        506,
+        "has added 1 row, where it may add 1 (512 less 505 start rows, divided by 4, rounded down)",
+        "a view change makes room for 1 more, if the view begins with the 506 rows held here",
+    ),
+    (
+        3,
+        510,
+        511,
+        "has added 1 row, where it may add 1 (512 less 510 start rows, divided by 2, rounded down)",
+        "while the 511 rows held here stay, no view change makes room, since fewer than 2 are left",
+    ),
+    (
+        5,
+        510,
+        510,
+        "has added 0 rows, where it may add 0 (512 less 510 start rows, divided by 3, rounded down)",
+        "while the 510 rows held here stay, no view change makes room, since fewer than 3 are left",
+    ),
+    (
+        3,
+        0,
+        512,
+        "has added 512 rows, where it may add 256 (512 less 0 start rows, divided by 2, rounded down)",
+        "while the 512 rows held here stay, no view change makes room, since fewer than 2 are left",
+    ),
+];
+
+#[test]
+fn a_box_without_room_says_its_share_and_what_a_view_change_does() {
+    let folder = Folder::new();
+    for (n, start_rows, rows, share, view_change) in WITHOUT_ROOM {
+        folder.put("t", &in_a_view(n, start_rows, rows));
+        for words in ["propose-prepare 900:1", "propose-outcome 900:1 abort"] {
+            let line = format!("message {} write 5=7 --out m --replace", words);
+            run(&folder, &line).done();
+            let (reason, _) = refused(&folder, "answer t m", 7);
+            let said = format!(
+                "the stamp 900:1 is new, and since view 7 began this box {}: nothing was stored; {}",
+                share, view_change
+            );
+            assert_eq!(reason, said);
+            assert_refusal_is_replied(&folder, 7);
+        }
+    }
+}
+
+/// "A group with no room left still reads, finalises and changes view." Stamps that are held are served too.
+#[test]
+fn a_box_without_room_serves_all_but_new_stamps() {
+    let folder = Folder::new();
+    for (n, start_rows, rows, _, _) in WITHOUT_ROOM {
+        let image = in_a_view(n, start_rows, rows);
+        for words in [
+            "propose-prepare 9:1 write 5=7",
+            "finalise-prepare 9:1 view 7 OK",
+            "propose-outcome 9:1 commit write 5=7",
+            "read 9:1 register 5",
+            "change-view 8",
+        ] {
+            folder.put("t", &image);
+            run(&folder, &format!("message {} --out m --replace", words)).done();
+            run(&folder, "answer t m").done();
+            assert_eq!(folder.bytes("t"), answered(&image, &folder.bytes("m")).1);
+        }
+        folder.put("t", &image);
+        for words in [
+            "propose-outcome 9:1 commit write 5=7",
+            "finalise-outcome 9:1 view 7 commit",
+        ] {
+            run(&folder, &format!("message {} --out m --replace", words)).done();
+            run(&folder, "answer t m").done();
+        }
+        folder.put("started", &settled(&image, 8));
+        run(&folder, "message start-view 8 started --out m --replace").done();
+        run(&folder, "answer t m").done();
+    }
+}
+
 /// A bad table, a bad message, a full table, and views that are started too late.
 #[test]
 fn refusals_2_3_7_and_10_of_message_6() {
@@ -540,7 +640,7 @@ fn refusals_2_3_7_and_10_of_message_6() {
     let fives = settled(&fresh(5, 0), 9);
     let row = samples::row_of_the_paper(0);
     let prepare = make::propose_prepare(&row);
-    let full = long_table(512);
+    let full = long_table(256);
     let new = make::propose_outcome(&Row { stamp: 5, ..row }, 1);
     let cases: [(&[u8], Vec<u8>, u8, &str); 9] = [
         (&normal[1..], prepare.clone(), 2, "format"),
@@ -548,7 +648,7 @@ fn refusals_2_3_7_and_10_of_message_6() {
         (&normal, prepare[1..].to_vec(), 3, "at byte 0"),
         (&changing, vec![9], 3, "kind is 9"),
         (&normal, make::start_view(9, &fives), 3, "group of 5"),
-        (&full, new, 7, "512 rows"),
+        (&full, new, 7, "256 rows"),
         (
             &changing,
             make::start_view(8, &eight),

@@ -200,6 +200,37 @@ fn more_than_512_stamps_are_refused_and_nothing_is_cut() {
     assert_eq!(folder.bytes("merged")[4..8], [0, 0, 2, 0]);
 }
 
+/// "In a dry week two boxes took different entries, and the view change was refused as full." Now each stops at its share, and the
+/// merge of both has 512 rows.
+#[test]
+fn two_boxes_that_took_different_entries_until_they_were_full_are_merged() {
+    let folder = Folder::new();
+    run(&folder, "message change-view 1 --out change").done();
+    for (name, box_number) in [("zero", 0), ("one", 1)] {
+        let mut table = crate::common::fresh(3, box_number);
+        let mut taken = 0;
+        for number in (0..).map(|entry| 1 + 2 * entry + u64::from(box_number)) {
+            let row = Row {
+                stamp: number,
+                ..samples::row_of_the_paper(0)
+            };
+            folder.put("m", &samples::message::propose_prepare(&row));
+            folder.put(name, &table);
+            let (number, after, _) = crate::common::answered(&table, &folder.bytes("m"));
+            if number != 0 {
+                break;
+            }
+            (table, taken) = (after, taken + 1);
+        }
+        assert_eq!(taken, 256);
+        refused(&folder, &format!("answer {} m", name), 7);
+        run(&folder, &format!("answer {} change", name)).done();
+    }
+    run(&folder, "merge --view 1 --out merged zero one").done();
+    assert_eq!(folder.bytes("merged")[4..8], [0, 0, 2, 0]);
+    assert_eq!(folder.bytes("merged")[16..20], [0, 0, 2, 0]);
+}
+
 #[test]
 fn a_file_that_is_there_is_never_written_over() {
     let folder = Folder::new();

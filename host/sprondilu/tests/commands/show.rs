@@ -1,6 +1,6 @@
 //! `show`
 
-use crate::common::boxes::{settled, spoiled};
+use crate::common::boxes::{in_a_view, settled, spoiled};
 use crate::common::json::{Value, RETRY, STAMP, VERSION};
 use crate::common::ran::{bad_usage, not_tried, refused};
 use crate::common::{run, Folder, History};
@@ -87,6 +87,11 @@ fn assert_header(told: &Value, table: &Table) {
         Some(u64::from(table.start_rows))
     );
     assert_eq!(header.number("length"), Some(table.length() as u64));
+    let (read, _) = reference::Table::parse(&table.image()).expect("a table");
+    let share = reference::room::share(reference::VALLEY, &read) as u64;
+    assert_eq!(header.number("share"), Some(share));
+    let added = table.rows.len() as u64 - u64::from(table.start_rows);
+    assert_eq!(header.number("room"), Some(share.saturating_sub(added)));
 }
 
 #[test]
@@ -153,10 +158,47 @@ fn the_table_of_the_paper() {
         "box 0 of 3\n\
          normal in view 0\n\
          1 row of at most 512; view 0 began with 0; 57 bytes\n\
+         room for 255 more rows in this view\n\
          \n\
          stamp  time  client  prepare       outcome  body\n\
          65537     1       1  tentative OK  none     write 5=7\n"
     );
+}
+
+/// n, the rows with which the view began, the rows held, and what is said of the room. The last table was filled by a box that did
+/// not keep room for the merge.
+const ROOM: [(u8, u32, u32, &str); 8] = [
+    (3, 0, 3, "room for 253 more rows in this view"),
+    (5, 0, 169, "room for 1 more row in this view"),
+    (7, 0, 128, "no room for more rows in this view"),
+    (3, 100, 306, "no room for more rows in this view"),
+    (3, 510, 510, "room for 1 more row in this view"),
+    (3, 511, 511, "no room for more rows in this view"),
+    (5, 509, 509, "room for 1 more row in this view"),
+    (3, 0, 512, "no room for more rows in this view"),
+];
+
+#[test]
+fn a_person_sees_how_much_room_is_left() {
+    let folder = Folder::new();
+    for (n, start_rows, rows, said) in ROOM {
+        let image = in_a_view(n, start_rows, rows);
+        folder.put("a", &image);
+        let line = format!(
+            "\n{} rows of at most 512; view 7 began with {}; {} bytes\n{}\n",
+            rows,
+            start_rows,
+            image.len(),
+            said
+        );
+        let out = run(&folder, "show a").done().out;
+        assert!(out.contains(&line), "{} in {}", line, out);
+        // Between two views a box takes no new stamp.
+        run(&folder, "message change-view 8 --out m --replace").done();
+        run(&folder, "answer a m").done();
+        let out = run(&folder, "show a").done().out;
+        assert!(out.contains("promised view 8") && !out.contains("room"));
+    }
 }
 
 #[test]

@@ -11,15 +11,14 @@ pub struct History {
 }
 
 impl History {
-    /// A fresh box, or now and then one whose table is full or nearly so.
+    /// A fresh box, or now and then one that has no room in its view, or room for one row.
     pub fn seeded(seed: u64) -> History {
         let mut dice = Dice::seeded(seed);
         let n = dice.one_of(&[3, 5, 7]);
         let mut image = super::fresh(n, dice.below(u64::from(n)) as u8);
         let mut transactions = transactions::some(&mut dice);
         if seed % 7 == 0 {
-            let mut table = random::table(&mut dice, 512 - (seed % 2) as usize);
-            (table.mode, table.view, table.promised) = (0, 3, 3);
+            let table = nearly_full(&mut dice, n, seed);
             transactions.extend(table.rows.iter().take(5).cloned());
             image = table.image();
         }
@@ -109,6 +108,27 @@ impl History {
     }
 }
 
+/// A table that has added its share since view 3 began, or all but one row of it. Every third one has 512 rows, which is more than
+/// a share: a box that did not keep room for the merge has filled it.
+fn nearly_full(dice: &mut Dice, n: u8, seed: u64) -> samples::Table {
+    let start_rows = dice.one_of(&[0, 7, 300, 506]);
+    let share = (512 - start_rows) / (u32::from(n) / 2 + 1);
+    let rows = match seed % 3 {
+        0 => start_rows + share,
+        1 => start_rows + share - 1,
+        _ => 512,
+    };
+    samples::Table {
+        box_number: dice.below(u64::from(n)) as u8,
+        n,
+        mode: 0,
+        view: 3,
+        promised: 3,
+        start_rows,
+        ..random::table(dice, rows as usize)
+    }
+}
+
 /// The image with every prepare final and every outcome done, as the view begins with it.
 pub fn settled(image: &[u8], view: u32) -> Vec<u8> {
     let mut image = image.to_vec();
@@ -143,4 +163,14 @@ pub fn long_table(rows: u64) -> Vec<u8> {
         ..samples::row_of_the_paper(1)
     };
     samples::Table::in_view_0((1..=rows).map(row).collect()).image()
+}
+
+/// The same table in a group of n, in view 7, which began with so many of the rows.
+pub fn in_a_view(n: u8, start_rows: u32, rows: u32) -> Vec<u8> {
+    let mut image = long_table(u64::from(rows));
+    image[2] = n;
+    image[8..12].copy_from_slice(&7_u32.to_be_bytes());
+    image[12..16].copy_from_slice(&7_u32.to_be_bytes());
+    image[16..20].copy_from_slice(&start_rows.to_be_bytes());
+    image
 }

@@ -8,7 +8,7 @@ mod meddled;
 mod shim;
 mod spoilt;
 
-use common::boxes::long_table;
+use common::boxes::{long_table, settled};
 use common::{answered, run, Folder};
 use samples::message as make;
 
@@ -21,13 +21,14 @@ pub struct Case {
     pub reply: Vec<u8>,
 }
 
-/// A box with so many rows, and a message that adds one.
+/// A box whose view began with so many rows, and a message that adds one. Up to 510 start rows there is room for it.
 pub fn adding(rows: u64) -> Case {
     let row = samples::Row {
         stamp: 9,
         ..samples::row_of_the_paper(0)
     };
-    case(long_table(rows), make::propose_prepare(&row))
+    let begun = settled(&long_table(rows), 3);
+    case(begun, make::propose_prepare(&row))
 }
 
 pub fn case(old: Vec<u8>, message: Vec<u8>) -> Case {

@@ -88,7 +88,7 @@ impl Checked {
 #[test]
 fn every_other_result_than_ok_has_a_row_in_the_way() {
     let mut met = BTreeMap::new();
-    // Those of every seventh seed have a full table, to which nothing is new.
+    // Those of every seventh seed have a table with room for one row at most.
     for seed in (1..4_000).filter(|seed| seed % 7 != 0) {
         let mut history = History::seeded(seed);
         for _ in 0..40 {
