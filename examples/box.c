@@ -150,6 +150,25 @@ static uint8_t answer_message(struct box *box, const uint8_t *message, size_t le
     return (uint8_t)SPRONDILU_NUMBER_OF(answer);
 }
 
+/*
+ * Whether a view that begins with the rows of this box has room: at least one row for each of the f+1 tables of a
+ * merge. More is not known here: others may bring more rows into the merge. Then the box refuses again, and says so.
+ */
+static bool view_makes_room(const struct box *box)
+{
+    return MOST_ROWS - number_at(box->table + TABLE_ROWS, 4) >= QUORUM;
+}
+
+/* Nothing is dropped silently: the sender hears of it, and so does whoever can make room; if nobody can, the grower. */
+static void tell_of_no_room(const struct box *box)
+{
+    if (view_makes_room(box)) {
+        box_ask_for_view(box->number);
+    } else {
+        box_report(box->number, "the table is full: a new transaction was refused");
+    }
+}
+
 void box_receive(struct box *box, const uint8_t *message, size_t length)
 {
     uint8_t reply[SPRONDILU_REPLY_BYTES];
@@ -172,8 +191,8 @@ void box_receive(struct box *box, const uint8_t *message, size_t length)
     case SPRONDILU_CONTRADICTION: /* the table has not changed; whoever sent it has to stop */
         box_report(box->number, "a message against the rules was refused");
         break;
-    case SPRONDILU_FULL: /* nothing is dropped silently: the sender hears of it, and so does the grower */
-        box_report(box->number, "the table is full: a new transaction was refused");
+    case SPRONDILU_FULL: /* no room for a new stamp in this view; what is held is served as before */
+        tell_of_no_room(box);
         break;
     case SPRONDILU_BAD_MESSAGE:
     case SPRONDILU_CHANGING:
@@ -538,14 +557,19 @@ void resume(struct transaction *t)
     propose(t, t->outcome != NO_OUTCOME ? t->outcome : SPRONDILU_OUTCOME_ABORT);
 }
 
-/* One round, to be repeated after a loss: 4, 8 and 9 are met by message 1 again or, with an outcome, by message 3. */
+/*
+ * One round, to be repeated after a loss: 4, 7, 8 and 9 are met by message 1 again or, with an outcome, by message 3.
+ * Boxes that have no room ask for a view change where one makes room. So an entry waits for that before it is given up.
+ */
 void advance(struct transaction *t)
 {
     prepare(t);
     confirm(t);
     conclude(t);
-    if (how_many(t->full) > BOXES - QUORUM) {
-        give_up(t); /* fewer than f+1 boxes have room for it */
+    bool too_few_have_room = how_many(t->full) > BOXES - QUORUM;
+    t->waited = too_few_have_room ? t->waited + 1 : 0;
+    if (t->waited >= ROUNDS_WITHOUT_ROOM) {
+        give_up(t);
     }
 }
 

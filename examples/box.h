@@ -12,6 +12,10 @@
 #define BOXES 3  /* n */
 #define QUORUM 2 /* f+1 */
 
+/* A table has at most so many rows, and how many it has stands at this place in its image, as a number of 4 bytes. */
+#define MOST_ROWS 512
+#define TABLE_ROWS 4
+
 /* ---- A box. */
 
 struct box {
@@ -42,6 +46,9 @@ void radio_reply(uint8_t box, const uint8_t *reply);
 /* What a technician or the grower has to see. A box without power shows nothing: it starts from its storage later. */
 void box_report(uint8_t box, const char *what);
 
+/* Asks whoever changes views for a change: the box has no room in this view, and one that begins with its rows has. */
+void box_ask_for_view(uint8_t box);
+
 /* ---- A transaction, by its coordinator, which is a handset here. */
 
 struct access {
@@ -54,6 +61,9 @@ struct body {
     uint8_t writes;
     struct access accesses[8]; /* the reads, then the writes; registers rise in each */
 };
+
+/* In so many rounds fewer than f+1 boxes have room for an entry before it is given up: a view change may make room. */
+#define ROUNDS_WITHOUT_ROOM 2
 
 #define NO_OUTCOME 0 /* where there is neither SPRONDILU_OUTCOME_COMMIT nor SPRONDILU_OUTCOME_ABORT */
 
@@ -87,7 +97,8 @@ struct transaction {
     bool done[BOXES];
     bool recorded;    /* f+1 have accepted the commit in one view: it stands, whatever becomes of the handset */
     enum told told;   /* what the grower was told last */
-    bool full[BOXES]; /* who had no room for this stamp: the grower has to hear of it */
+    bool full[BOXES]; /* who had no room for this stamp when it was asked last */
+    unsigned waited;  /* rounds, one behind the other, in which fewer than f+1 boxes had room for it */
     bool begun;       /* stamp and body are stored, so that message 1 may go out */
     bool stopped;     /* a rule was broken, or a reply changed on its way: nothing more is sent */
 };

@@ -4,7 +4,8 @@
  *
  *   cc -std=c11 -O2 -I include examples/box.c examples/story.c target/staticlib/libsprondilu.a -o target/box
  *
- * It prints a line for each step and, at the end, each box's image, and ends with 0 only if all came out as it should.
+ * It prints a line for each step, and each box's image before the tables are filled. It ends with 0 only if all came
+ * out as it should.
  */
 #include "box.h"
 
@@ -139,10 +140,30 @@ static bool has_reported(uint8_t box)
     return has;
 }
 
+static bool to_ask[BOXES]; /* whether a box has reason to ask for a view change */
+static unsigned asked[BOXES];
+
+void box_ask_for_view(uint8_t box)
+{
+    char line[120];
+    snprintf(line, sizeof line, "box %u has no room in this view, and asks for a view change", box);
+    step(to_ask[box], line);
+    asked[box]++;
+}
+
+/* Whether a box has asked so often. From here on it has no reason to. */
+static bool has_asked(uint8_t box, unsigned times)
+{
+    bool has = asked[box] == times;
+    asked[box] = 0;
+    to_ask[box] = false;
+    return has;
+}
+
 /* ---- In place of a handset: what it has stored, and what its grower was told of each entry. */
 
-#define ENTRIES 12 /* A to L, at the times 1 to 12 */
-#define LAST_VIEW 6
+#define ENTRIES 14 /* A to N, at the times 1 to 14 */
+#define LAST_VIEW 9
 #define WILL ": will be recorded, if the handset lives"
 #define BROKEN ": recorded, but a rule was broken, somebody has to see to it"
 #define NOT ": not recorded, to be entered again"
@@ -245,6 +266,8 @@ static struct transaction k = {.stamp = STAMP(11, 3), .body = {0, 1, {{13, 4}}}}
 static struct transaction k_again = {.stamp = STAMP(11, 3), .body = {0, 1, {{13, 9}}}};
 static struct transaction l = {.stamp = STAMP(12, 4), .body = {0, 1, {{14, 8}}}};
 static struct transaction l_elsewhere = {.stamp = STAMP(12, 4), .body = {0, 1, {{14, 3}}}};
+static struct transaction m = {.stamp = STAMP(13, 1), .body = {0, 1, {{15, 9}}}};
+static struct transaction n = {.stamp = STAMP(14, 1), .body = {0, 1, {{16, 2}}}};
 
 /* What has become of a transaction, in a line, which has to be the expected one. Who is stopped has told so. */
 static void show(const char *name, const struct transaction *t, const char *expected)
@@ -432,35 +455,48 @@ static void giving_up(void)
     show("F", &f, "F: 2 replies in view 1, 0 confirmations, OK not declared; abort accepted by 3, done by 3" NOT);
 }
 
-/* As many transactions as a box has room for, in its memory alone: a restart knows nothing of them. */
-static void fill(uint8_t box)
+static unsigned rows_of(uint8_t box)
 {
-    uint8_t message[20] = {SPRONDILU_PROPOSE_PREPARE, [10] = 1, [11] = 63}; /* no read, one write: of register 63 */
-    uint8_t reply[SPRONDILU_REPLY_BYTES];
-    uint64_t time = 100;
-    do {
-        put_number(message + 1, STAMP(time, 3), 8);
-        time++;
-    } while (sprondilu_answer(boxes[box].table, SPRONDILU_TABLE_BYTES, message, sizeof message, reply,
-                              sizeof reply) == SPRONDILU_DONE);
-    to_report[box] = "the table is full: a new transaction was refused";
+    return (unsigned)number_at(boxes[box].table + TABLE_ROWS, 4);
 }
 
 /*
- * Behind A to G, at the places 0 to 6, lie 505 rows of later stamps, and H belongs between them. By halving its stamp
- * is compared with the rows at 256, 128, 64, 32, 16, 8 and 4, which is E's, then at 6, which is G's, and at 7: nine.
+ * As many transactions of a client as a box has room for, each a write of a register of the client's own; how many that
+ * were. They are in the box's memory alone until it stores its table: a restart before that knows nothing of them.
  */
-static void full_tables(void)
+static unsigned fill(uint8_t box, uint8_t client)
+{
+    uint8_t message[20] = {SPRONDILU_PROPOSE_PREPARE, [10] = 1, [11] = (uint8_t)(50 + client)};
+    uint8_t reply[SPRONDILU_REPLY_BYTES];
+    unsigned before = rows_of(box);
+    uint64_t time = 100;
+    do {
+        put_number(message + 1, STAMP(time, client), 8);
+        time++;
+    } while (sprondilu_answer(boxes[box].table, SPRONDILU_TABLE_BYTES, message, sizeof message, reply,
+                              sizeof reply) == SPRONDILU_DONE);
+    to_ask[box] = true;
+    return rows_of(box) - before;
+}
+
+/*
+ * View 1 began with A to E. So a box may add (512 - 5) / 2 rows in it, rounded down: 253, of which F and G are two.
+ * Behind A to G, at the places 0 to 6, lie 251 rows of later stamps, and H belongs between them. By halving its stamp
+ * is compared with the rows at 129, 64, 32, 16, 8 and 4, which is E's, then at 6, which is G's, and at 7: eight.
+ */
+static void no_room_in_this_view(void)
 {
     uint64_t before[BOXES] = {0, boxes[1].rows_compared, boxes[2].rows_compared};
-    fill(1);
-    fill(2);
+    step(fill(1, 3) == 251 && fill(2, 3) == 251, "boxes 1 and 2 take 251 entries, and have no room for H in this view");
+    advance(&h);
+    show("H", &h, "H: 1 reply in view 1, 0 confirmations, no result; nothing accepted by 0, done by 0");
+    step(h.full[1] && h.full[2], "too few boxes have room for H: it waits for a view change");
     advance(&h);
     show("H", &h, "H: 1 reply in view 1, 0 confirmations, no result; abort accepted by 1, done by 0" NOT);
-    step(has_reported(1) && has_reported(2) && h.full[1] && h.full[2], "too few boxes have room for H: it is given up");
-    step(has_compared(1, before[1], 18) && has_compared(2, before[2], 18),
-         "messages 1 and 3 were refused; for each of them boxes 1 and 2 have compared 9 of their 512 rows");
-    step(restart(1) && restart(2), "boxes 1 and 2 have room again");
+    step(has_asked(1, 3) && has_asked(2, 3), "no view began: H is given up");
+    step(has_compared(1, before[1], 24) && has_compared(2, before[2], 24),
+         "messages 1, 1 and 3 were refused; for each of them boxes 1 and 2 have compared 8 of their 258 rows");
+    step(restart(1) && restart(2), "boxes 1 and 2 are restarted without these entries, and have room again");
     advance(&h);
     show("H", &h, "H: 1 reply in view 1, 0 confirmations, no result; abort accepted by 3, done by 3" NOT);
 }
@@ -607,6 +643,57 @@ static void once_more(void)
          "I's commit is sent once more; each box has compared 3 of its 12 rows for message 3, and 3 for message 4");
 }
 
+/*
+ * View 6 began with 12 rows, so a box may add (512 - 12) / 2 = 250 in it. Boxes 1 and 2 take the same entries. View 7
+ * begins with 262 rows, so a box may add (512 - 262) / 2 = 125 in it. M is one of them.
+ */
+static void a_view_makes_room(void)
+{
+    step(fill(1, 5) == 250 && fill(2, 5) == 250, "boxes 1 and 2 take 250 entries, the same ones");
+    advance(&m);
+    show("M", &m, "M: 1 reply in view 6, 0 confirmations, no result; nothing accepted by 0, done by 0");
+    step(has_asked(1, 1) && has_asked(2, 1), "M's grower is told nothing yet: a view change makes room");
+    bool merged = merge_next_view(1, promised_by(1));
+    step(merged && start_view(0) && start_view(1) && start_view(2) && rows_of(0) == 262,
+         "all begin view 7 with the merge of the tables of boxes 1 and 2, which has 262 rows");
+    advance(&m);
+    show("M", &m, "M: 3 replies in view 7, 0 confirmations, OK declared; commit accepted by 3, done by 3: recorded");
+}
+
+/* A dry week: boxes 1 and 2 take different entries. Each has kept room for those of the other, so they are merged. */
+static void a_dry_week(void)
+{
+    step(fill(1, 6) == 124 && fill(2, 7) == 124, "boxes 1 and 2 take 124 entries more, but not the same ones");
+    advance(&n);
+    show("N", &n, "N: 1 reply in view 7, 0 confirmations, no result; nothing accepted by 0, done by 0");
+    step(has_asked(1, 1) && has_asked(2, 1), "N waits for a view change");
+    reach[0] = OUT_OF_REACH;
+    bool merged = merge_next_view(2, promised_by(2));
+    reach[0] = IN_REACH;
+    step(merged && start_view(0) && start_view(1) && start_view(2) && rows_of(0) == 511,
+         "all begin view 8 with the merge of the tables of boxes 1 and 2, which has 511 rows");
+}
+
+/* One row is left, and a view has room only if at least f+1 are: now the grower hears of it. All else goes on. */
+static void no_room_left(void)
+{
+    bool reported_all = true;
+    for (uint8_t box = 0; box < BOXES; box++) {
+        to_report[box] = "the table is full: a new transaction was refused";
+    }
+    advance(&n);
+    for (uint8_t box = 0; box < BOXES; box++) {
+        reported_all = has_reported(box) && reported_all;
+    }
+    show("N", &n, "N: 1 reply in view 7, 0 confirmations, no result; abort accepted by 0, done by 0" NOT);
+    step(reported_all, "no box has room for N, and no view change makes room: N is given up");
+    conclude(&m);
+    step(all_read(15, m.stamp, 9), "M's commit is sent once more; register 15 is read in each: 9, as M wrote it");
+    bool merged = merge_next_view(0, promised_by(0));
+    step(merged && start_view(0) && start_view(1) && start_view(2) && rows_of(0) == 511,
+         "all begin view 9 with the merge of the tables of boxes 0 and 1: a view change goes on too");
+}
+
 /* A line for the header, one for each row, and the bodies. */
 static void print_image(uint8_t box)
 {
@@ -615,6 +702,14 @@ static void print_image(uint8_t box)
     for (size_t place = 0; place < length; place++) {
         printf("%02x%s", boxes[box].table[place], place % 24 == 23 || place + 1 == length ? "\n" : " ");
     }
+}
+
+/* What is too long to print. */
+static void print_sum(uint8_t box)
+{
+    size_t length = image_length(boxes[box].table);
+    printf("the table of box %u has %u rows, and its image the check sum %08" PRIx32 "\n", box, rows_of(box),
+           check_sum(0, boxes[box].table, length));
 }
 
 int main(void)
@@ -630,7 +725,7 @@ int main(void)
     failing_flash();
     one_result();
     giving_up();
-    full_tables();
+    no_room_in_this_view();
     more_views();
     stored_is_not_recorded();
     two_views_are_not_one();
@@ -641,6 +736,12 @@ int main(void)
     once_more();
     for (uint8_t box = 0; box < BOXES; box++) {
         print_image(box);
+    }
+    a_view_makes_room();
+    a_dry_week();
+    no_room_left();
+    for (uint8_t box = 0; box < BOXES; box++) {
+        print_sum(box);
     }
     printf("%s\n", all_as_expected ? "all as expected" : "not all as expected");
     return all_as_expected ? 0 : 1;

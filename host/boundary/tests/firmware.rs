@@ -177,6 +177,36 @@ impl Group {
         decision
     }
 
+    /// As many entries of a client as a box has room for, each a write of a register of the client's own; how many that were.
+    fn fill(&mut self, box_number: usize, client: u8) -> usize {
+        let body = body(&[], &[(50 + client, 0)]);
+        let is_taken = |time: &u64| {
+            let (stamp, body) = (stamp(*time, u64::from(client)), body.clone());
+            self.answer(box_number, &Message::ProposePrepare { stamp, body })
+                .0
+                == 0
+        };
+        (100..).take_while(is_taken).count()
+    }
+
+    /// These boxes have no room for a stamp, neither for message 1 nor for an abort.
+    fn have_no_room(&mut self, boxes: &[usize], stamp: u64, body: &Body) {
+        let (outcome, body) = (Outcome::Abort, body.clone());
+        let asked = Message::ProposePrepare {
+            stamp,
+            body: body.clone(),
+        };
+        let given_up = Message::ProposeOutcome {
+            stamp,
+            outcome,
+            body,
+        };
+        for box_number in boxes {
+            assert_eq!(self.answer(*box_number, &asked).0, 7);
+            assert_eq!(self.answer(*box_number, &given_up).0, 7);
+        }
+    }
+
     /// Boxes promise a view, and the tables of two of them are merged: the number, and the output.
     fn merge(&mut self, view: u32, boxes: &[usize], two: [usize; 2]) -> (u8, Vec<u8>) {
         self.hear(boxes, &Message::ChangeView { view });
@@ -297,8 +327,8 @@ fn tell_of_the_broken_rule(group: &mut Group) {
     group.hear(&[0, 1, 2], &start);
 }
 
-/// The story of the page, told to the second program: the images in the end.
-fn told() -> Vec<Vec<u8>> {
+/// The story of the page up to the images that it prints, told to the second program.
+fn told() -> Group {
     let mut group = Group::fresh();
     tell_of_view_0(&mut group);
     tell_of_the_change(&mut group);
@@ -310,7 +340,43 @@ fn told() -> Vec<Vec<u8>> {
     group.hear(&[0, 1, 2], &start);
     tell_of_what_was_declared(&mut group);
     tell_of_the_broken_rule(&mut group);
-    (0..3).map(|box_number| group.image(box_number)).collect()
+    group
+}
+
+/// M, for which a view change makes room. Boxes 1 and 2 have taken the same entries.
+fn tell_of_room(group: &mut Group) {
+    assert_eq!((group.fill(1, 5), group.fill(2, 5)), (250, 250));
+    let m = body(&[], &[(15, 9)]);
+    assert_eq!(group.prepare(&[0], stamp(13, 1), &m), Decision::Wait);
+    group.have_no_room(&[1, 2], stamp(13, 1), &m);
+    let start = group.merged(7, &[1, 2], [1, 2]);
+    group.hear(&[0, 1, 2], &start);
+    let decision = group.prepare(&[0, 1, 2], stamp(13, 1), &m);
+    assert_eq!(decision, Decision::Fast(PrepareResult::Ok));
+    group.conclude(&[0, 1, 2], stamp(13, 1), 7, Outcome::Commit, &m);
+}
+
+/// N, for which none does: boxes 1 and 2 have taken different entries. The group goes on with M, and with a view.
+fn tell_of_the_dry_week(group: &mut Group) {
+    assert_eq!((group.fill(1, 6), group.fill(2, 7)), (124, 124));
+    let n = body(&[], &[(16, 2)]);
+    assert_eq!(group.prepare(&[0], stamp(14, 1), &n), Decision::Wait);
+    group.have_no_room(&[1, 2], stamp(14, 1), &n);
+    let start = group.merged(8, &[2, 1], [2, 1]);
+    group.hear(&[0, 1, 2], &start);
+    group.have_no_room(&[0, 1, 2], stamp(14, 1), &n);
+    let m = body(&[], &[(15, 9)]);
+    group.conclude(&[0, 1, 2], stamp(13, 1), 8, Outcome::Commit, &m);
+    let start = group.merged(9, &[0, 1], [0, 1]);
+    group.hear(&[0, 1, 2], &start);
+}
+
+/// CRC-32, as the example has it of each image that is too long to print.
+fn check_sum(bytes: &[u8]) -> u32 {
+    let next = |sum: u32| sum >> 1 ^ if sum & 1 == 1 { 0xedb8_8320 } else { 0 };
+    !bytes.iter().fold(!0, |sum, byte| {
+        (0..8).fold(sum ^ u32::from(*byte), |sum, _| next(sum))
+    })
 }
 
 /// The images that the example prints: behind `box 0:` and so on, lines of bytes.
@@ -331,10 +397,10 @@ fn images(printed: &str) -> Vec<Vec<u8>> {
 }
 
 #[test]
-fn the_tables_in_the_end_are_those_of_the_second_program() {
+fn the_tables_that_are_printed_are_those_of_the_second_program() {
     let images = images(&printed("box_images"));
     let told = told();
-    assert_eq!(told.len(), 3);
+    let told: Vec<Vec<u8>> = (0..3).map(|box_number| told.image(box_number)).collect();
     assert_eq!(images, told);
     for (box_number, image) in images.iter().enumerate() {
         let (table, _) = Table::parse(image).expect("an image");
@@ -343,10 +409,26 @@ fn the_tables_in_the_end_are_those_of_the_second_program() {
     }
 }
 
+#[test]
+fn the_full_tables_in_the_end_are_those_of_the_second_program() {
+    let mut group = told();
+    tell_of_room(&mut group);
+    tell_of_the_dry_week(&mut group);
+    let printed = printed("box_full");
+    for box_number in 0..3 {
+        let line = format!(
+            "\nthe table of box {} has 511 rows, and its image the check sum {:08x}\n",
+            box_number,
+            check_sum(&group.image(box_number))
+        );
+        assert!(printed.contains(&line), "{}", line);
+    }
+}
+
 // ---- A wrong example is noticed, by itself.
 
 /// A file of the example, words that stand in it once, and what they are bent to.
-const BENT: [(&str, &str, &str); 46] = [
+const BENT: [(&str, &str, &str); 50] = [
     // a reply goes out though the table was not stored
     (
         "box.c",
@@ -581,11 +663,27 @@ const BENT: [(&str, &str, &str); 46] = [
         "t->begun = t->begun || handset_store(t);",
         "t->begun = handset_store(t) || true;",
     ),
+    // a box without room asks for no view, though one makes room
+    ("box.c", "if (view_makes_room(box)) {", "if (view_makes_room(box) && false) {"),
+    // the grower never hears that the table is full
+    ("box.c", "if (view_makes_room(box)) {", "if (view_makes_room(box) || true) {"),
+    // one row that is left is taken for room
+    (
+        "box.c",
+        "number_at(box->table + TABLE_ROWS, 4) >= QUORUM;",
+        "number_at(box->table + TABLE_ROWS, 4) > 0;",
+    ),
     // a transaction for which there is no room is not given up
     (
         "box.c",
-        "if (how_many(t->full) > BOXES - QUORUM) {",
-        "if (how_many(t->full) > BOXES) {",
+        "bool too_few_have_room = how_many(t->full) > BOXES - QUORUM;",
+        "bool too_few_have_room = how_many(t->full) > BOXES;",
+    ),
+    // it is given up before a view change can make room
+    (
+        "box.c",
+        "if (t->waited >= ROUNDS_WITHOUT_ROOM) {",
+        "if (t->waited > 0) {",
     ),
     // any reply numbered 0 is taken for a promise
     (
