@@ -55,6 +55,8 @@ SPRONDILU_ASSERT(sizeof(size_t) == 8, "libsprondilu.a takes lengths of 64 bits")
 /*
  * The numbers. Each is given exactly in the circumstances that the comment above it has, in 01's words. The first that
  * applies wins, in this order: 1, 2, 3, 4, 9, 10, 11, 8, 5, 6, 7.
+ * What 01 says of SPRONDILU_FULL and a new stamp, 02 amends: "a box refuses a new stamp as full once the rows added since
+ * its view began reach 512 less the start rows, divided by f+1 and rounded down". What 01 says of a merge stays.
  */
 
 /* done: none below applies */
@@ -217,7 +219,14 @@ uint64_t sprondilu_valid(const uint8_t *bytes, size_t bytes_len);
  *   SPRONDILU_UNKNOWN        messages 2 and 4: what they finalise is not in the table
  *   SPRONDILU_OTHER_BODY     messages 1 and 3: the stamp is held with another body
  *   SPRONDILU_CONTRADICTION  message 2: another final result is held; messages 3 and 4: the opposite outcome is held
- *   SPRONDILU_FULL           messages 1 and 3: the stamp is new and 512 rows are held
+ *   SPRONDILU_FULL           messages 1 and 3: the stamp is new, and the rows added since the box's view began reach its
+ *                            share, which is 512 less the rows that the view began with, divided by f+1 and rounded down
+ *
+ * The rows added are all rows less those that the view began with, whichever message added them and whatever became of
+ * them. Here f+1 is 2 of 3 boxes, 3 of 5 or 4 of 7. In view 0 of a group of three the share is 256, of five 170, of seven
+ * 128. So the tables of a merge fit into one. A stamp that is held, and messages 2 and 4 to 7, never get SPRONDILU_FULL. A
+ * table with more rows than its share is no bad table, and takes no new stamp. A view that begins with S rows has room
+ * exactly if 512 - S is at least f+1. So a view change makes room again, until at most f rows are left.
  *
  * If it returns SPRONDILU_SMALL_BUFFER, no byte of either buffer has changed, so there is no reply to send.
  * Otherwise the first 24 bytes of the reply buffer are the reply, to be sent back as they are, and no other byte of that
@@ -279,6 +288,9 @@ uint64_t sprondilu_answer_compared(uint8_t *table, size_t table_len, const uint8
  * The last three look only at the tables of the greatest last normal view, as the merge itself does. Each looks at all
  * stamps of them before the next one is asked: SPRONDILU_OTHER_BODY at any stamp wins over SPRONDILU_CONTRADICTION at any
  * other.
+ *
+ * A run may be of anything, so each of these may come. But SPRONDILU_FULL does not come, nor do the two before it, if the
+ * run is of tables that boxes of one group had, which was fresh and in which everybody keeps 01's rules (docs/FIRMWARE.md).
  *
  * If done, the output buffer begins with the merged image, which does not depend on the order of the tables, and no other
  * byte has changed: what the buffer held is neither looked at nor cleared. The image is to be sent in message 6 for that
