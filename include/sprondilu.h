@@ -150,7 +150,7 @@ SPRONDILU_ASSERT(sizeof(size_t) == 8, "libsprondilu.a takes lengths of 64 bits")
  *   SPRONDILU_OK             none of these
  * So "no entry may be slipped under one already accepted" (02). In the table in which RETRY was found, the same body
  * gets SPRONDILU_OK at every stamp above the retry stamp, or SPRONDILU_ABSTAIN because of a prepared row that writes
- * above a version that was read.
+ * above a version that was read; but the row of the RETRY is added, and a box without room for another refuses it.
  * A result that is held is answered and not checked again. Where only an outcome is held, commit gets SPRONDILU_OK and
  * abort SPRONDILU_ABORT. A merge checks by 01's older rules, and may accept what message 1 would refuse, since "a
  * result already declared final must not be lost when a later stamp came after it" (02).

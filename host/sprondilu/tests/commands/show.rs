@@ -157,8 +157,7 @@ fn the_table_of_the_paper() {
         run(&folder, "show a").done().out,
         "box 0 of 3\n\
          normal in view 0\n\
-         1 row of at most 512; view 0 began with 0; 57 bytes\n\
-         room for 255 more rows in this view\n\
+         1 row of at most 512; view 0 began with 0; room for 255 more in this view; 57 bytes\n\
          \n\
          stamp  time  client  prepare       outcome  body\n\
          65537     1       1  tentative OK  none     write 5=7\n"
@@ -168,14 +167,14 @@ fn the_table_of_the_paper() {
 /// n, the rows with which the view began, the rows held, and what is said of the room. The last table was filled by a box that did
 /// not keep room for the merge.
 const ROOM: [(u8, u32, u32, &str); 8] = [
-    (3, 0, 3, "room for 253 more rows in this view"),
-    (5, 0, 169, "room for 1 more row in this view"),
-    (7, 0, 128, "no room for more rows in this view"),
-    (3, 100, 306, "no room for more rows in this view"),
-    (3, 510, 510, "room for 1 more row in this view"),
-    (3, 511, 511, "no room for more rows in this view"),
-    (5, 509, 509, "room for 1 more row in this view"),
-    (3, 0, 512, "no room for more rows in this view"),
+    (3, 0, 3, "room for 253 more in this view"),
+    (5, 0, 169, "room for 1 more in this view"),
+    (7, 0, 128, "no room for more in this view"),
+    (3, 100, 306, "no room for more in this view"),
+    (3, 510, 510, "room for 1 more in this view"),
+    (3, 511, 511, "no room for more in this view"),
+    (5, 509, 509, "room for 1 more in this view"),
+    (3, 0, 512, "no room for more in this view"),
 ];
 
 #[test]
@@ -185,11 +184,11 @@ fn a_person_sees_how_much_room_is_left() {
         let image = in_a_view(n, start_rows, rows);
         folder.put("a", &image);
         let line = format!(
-            "\n{} rows of at most 512; view 7 began with {}; {} bytes\n{}\n",
+            "\n{} rows of at most 512; view 7 began with {}; {}; {} bytes\n",
             rows,
             start_rows,
-            image.len(),
-            said
+            said,
+            image.len()
         );
         let out = run(&folder, "show a").done().out;
         assert!(out.contains(&line), "{} in {}", line, out);
