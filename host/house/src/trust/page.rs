@@ -80,7 +80,10 @@ fn promised() -> Vec<String> {
         item(&contracts),
         statement(0, "demand 3 over the rules"),
         statement(1, "demand 3 in buffers and calls"),
-        statement(2, "that no merge is refused as full, which P2 asks for, in buffers and calls"),
+        statement(
+            2,
+            "that no merge is refused as full, which P2 asks for, in buffers and calls",
+        ),
     ]
 }
 

@@ -53,7 +53,7 @@ pub fn in_words(table: &Table) -> String {
     };
     let _ = writeln!(
         text,
-        "{} of at most {}; view {} began with {}; {}{} bytes",
+        "{} of at most {}; view {} began with {}{}\n{} bytes",
         names::how_many(header.rows as usize, "row"),
         MOST_ROWS,
         header.view,
@@ -71,8 +71,8 @@ pub fn in_words(table: &Table) -> String {
 /// How many rows may still be added in this view. Of a box that has left its view nothing is said: it takes no new stamp.
 fn room_in_words(header: &Header) -> String {
     match (header.mode, room::left(header)) {
-        (0, 0) => "no room for more in this view; ".to_string(),
-        (0, left) => format!("room for {} more in this view; ", left),
+        (0, 0) => "; no room for more in this view".to_string(),
+        (0, left) => format!("; room for {} more in this view", left),
         _ => String::new(),
     }
 }

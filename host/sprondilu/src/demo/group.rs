@@ -15,6 +15,8 @@ use std::fmt::Write;
 /// How far words stand in below a heading, how much further an answer stands, and how long a line is.
 const INDENT: &str = "   ";
 const ANSWER: &str = "    ";
+/// A table stands a little to the left of answers, so that its lines fit a screen.
+const TABLE: &str = "   ";
 const WIDTH: usize = 80;
 
 pub struct Group {
@@ -278,7 +280,7 @@ impl Group {
     /// A table, as `show` shows it.
     fn show(&mut self, image: &[u8]) {
         for line in commands::show::in_words(&Table::of(image)).lines() {
-            let words = format!("{}{}{}", INDENT, ANSWER, line);
+            let words = format!("{}{}{}", INDENT, TABLE, line);
             let _ = writeln!(self.played.text, "{}", words.trim_end());
         }
     }

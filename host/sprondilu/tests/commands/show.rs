@@ -157,7 +157,8 @@ fn the_table_of_the_paper() {
         run(&folder, "show a").done().out,
         "box 0 of 3\n\
          normal in view 0\n\
-         1 row of at most 512; view 0 began with 0; room for 255 more in this view; 57 bytes\n\
+         1 row of at most 512; view 0 began with 0; room for 255 more in this view\n\
+         57 bytes\n\
          \n\
          stamp  time  client  prepare       outcome  body\n\
          65537     1       1  tentative OK  none     write 5=7\n"
@@ -184,7 +185,7 @@ fn a_person_sees_how_much_room_is_left() {
         let image = in_a_view(n, start_rows, rows);
         folder.put("a", &image);
         let line = format!(
-            "\n{} rows of at most 512; view 7 began with {}; {}; {} bytes\n",
+            "\n{} rows of at most 512; view 7 began with {}; {}\n{} bytes\n",
             rows,
             start_rows,
             said,
