@@ -1,10 +1,10 @@
 //! Several runs at once on one table file: none loses an entry of another, killed or not, and whoever reads meanwhile sees a whole
 //! table.
 //!
-//! That these tests can fail was tried on a copy. Without the lock of `files`, about 170 of the 400 entries of two runs at once
-//! were lost, and about 240 of the 480 of eight, and four of these tests failed in each of ten trials, in the first round or soon
-//! after. Without the second look at the name under the lock the same four failed; and without the exclusive second name for a
-//! new file, the last one.
+//! That these tests can fail was tried on a copy. Without the lock of `files`, while one table still took all entries, about 170
+//! of the 400 of two runs at once were lost, and about 240 of the 480 of eight, and four of these tests failed in each of ten
+//! trials, in the first round or soon after. With two tables the same four failed in each of five. Without the second look at the
+//! name under the lock the same four failed; and without the exclusive second name for a new file, the last one.
 
 mod common;
 
