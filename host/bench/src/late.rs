@@ -46,6 +46,14 @@ if all later ones had come before it. They have written what it read, so that it
 
 /// Entries that ran one after the other, the one in the middle taken out and proposed.
 fn table_and_message(rows: usize) -> (Table, Vec<u8>) {
+    let mut table = one_after_the_other(rows);
+    let late = taken_out(&mut table, rows / 2);
+    (table, message::propose_prepare(&late))
+}
+
+/// A table of so many rows, all committed and with the longest bodies, each of which has read the newest versions of the
+/// registers that it reads.
+pub fn one_after_the_other(rows: usize) -> Table {
     let mut dice = Dice::seeded(3);
     let mut table = committed(1, rows);
     let mut newest = [0; 64];
@@ -57,8 +65,7 @@ fn table_and_message(rows: usize) -> (Table, Vec<u8>) {
             newest[usize::from(write.register)] = stamp;
         }
     }
-    let late = taken_out(&mut table, rows / 2);
-    (table, message::propose_prepare(&late))
+    table
 }
 
 #[cfg(test)]

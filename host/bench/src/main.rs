@@ -18,6 +18,7 @@ mod insert;
 mod instructions;
 mod late;
 mod merge;
+mod newest;
 mod passing;
 mod retry;
 mod search;
@@ -27,6 +28,7 @@ mod tables;
 mod times;
 mod twin;
 mod valid;
+mod worst;
 
 use answer::Answering;
 use compared::Comparing;
@@ -34,6 +36,7 @@ use count::Counting;
 use insert::Inserting;
 use late::ComingLate;
 use merge::Merging;
+use newest::ReadingNewest;
 use passing::Passing;
 use retry::Retrying;
 use search::Searching;
@@ -42,6 +45,7 @@ use std::{env, process};
 use times::Medians;
 use twin::search::{Halving, Walk};
 use valid::Judging;
+use worst::ReadingOldest;
 
 /// Work that all sides do on the same bytes.
 pub trait Work {
@@ -217,6 +221,7 @@ const SECTIONS: [Section; 9] = [
             named::<Passing<true>>(),
             named::<Passing<false>>(),
             named::<ComingLate>(),
+            named::<ReadingNewest>(),
             named::<Retrying>(),
         ],
     },
@@ -230,6 +235,7 @@ const SECTIONS: [Section; 9] = [
             named::<Merging<true, 3>>(),
             named::<Merging<true, 5>>(),
             named::<Merging<true, 7>>(),
+            named::<ReadingOldest<true, 3>>(),
         ],
     },
     Section {
@@ -238,6 +244,7 @@ const SECTIONS: [Section; 9] = [
             named::<Merging<false, 3>>(),
             named::<Merging<false, 5>>(),
             named::<Merging<false, 7>>(),
+            named::<ReadingOldest<false, 7>>(),
         ],
     },
     Section {
