@@ -1,6 +1,6 @@
 //! A box's answer to a message of each kind: what all sides do to a table that is full, or nearly so.
 
-use crate::{Side, Work, LIBRARY, SECOND, TWIN, WALK};
+use crate::{Side, Work, EXPERT, LIBRARY, SECOND, TWIN, WALK};
 use samples::{message, random, Dice, Row, Table, GREATEST_STAMP, TABLE_BYTES};
 
 const REPLY_LENGTH: usize = 24;
@@ -51,7 +51,7 @@ impl<const KIND: u8> Work for Answering<KIND> {
         [64, 256, 512]
     };
     const CALL: Option<&'static str> = Some("sprondilu_answer");
-    const SIDES: &'static [Side] = &[LIBRARY, TWIN, SECOND, WALK];
+    const SIDES: &'static [Side] = &[LIBRARY, TWIN, SECOND, EXPERT, WALK];
     const ABOUT: &'static str = about(KIND);
 
     fn of(rows: usize) -> Answering<KIND> {

@@ -1,6 +1,6 @@
 //! The coordinator's count: what all sides make of the replies of a whole group.
 
-use crate::{Side, Work, BYTES, LIBRARY, SECOND, TWIN};
+use crate::{Side, Work, BYTES, EXPERT, LIBRARY, SECOND, TWIN};
 use samples::replies::{laid, Record};
 
 /// Replies of all boxes of a group. Either all agree, or each is RETRY with a stamp of its own.
@@ -39,9 +39,9 @@ impl<const SAME: bool, const RECORDS: bool> Work for Counting<SAME, RECORDS> {
         "sprondilu_count"
     });
     const SIDES: &'static [Side] = if RECORDS {
-        &[LIBRARY, TWIN, SECOND, BYTES]
+        &[LIBRARY, TWIN, SECOND, EXPERT, BYTES]
     } else {
-        &[LIBRARY, TWIN, SECOND]
+        &[LIBRARY, TWIN, SECOND, EXPERT]
     };
     const ABOUT: &'static str = match (SAME, RECORDS) {
         (true, false) => {

@@ -19,10 +19,28 @@ pub fn for_one(work: &Named, side: &Side, size: usize) -> u64 {
 
 /// The same by a given program, which may be of another commit. None if that one does not know the work.
 pub fn by_program(program: &Path, work: &Named, side: &Side, size: usize) -> Option<u64> {
+    with_words_before(program, &[], work, side, size)
+}
+
+/// The same by this program for a side that it is told of by these words before those of the work.
+pub fn for_one_after(words: &[&str], work: &Named, side: &Side, size: usize) -> u64 {
+    let program = env::current_exe().expect("the path of this program");
+    let counted = with_words_before(&program, words, work, side, size);
+    counted.unwrap_or_else(|| refuse("this program does not know its own works"))
+}
+
+fn with_words_before(
+    program: &Path,
+    words: &[&str],
+    work: &Named,
+    side: &Side,
+    size: usize,
+) -> Option<u64> {
     let times = (work.times_counted)(size);
     let of_run = |times: usize| {
         let (size, times) = (size.to_string(), times.to_string());
-        of_run(program, &[work.name, side.name, &size, &times])
+        let words = [words, &[work.name, side.name, &size, &times]].concat();
+        of_run(program, &words)
     };
     Some((of_run(times)? - of_run(0)?) / times as u64)
 }

@@ -1,18 +1,22 @@
-//! The proved library beside its twin in plain safe Rust and beside the second program, in one run: validity of an
-//! image, a box's answer to a message of each kind, also if every row has to be looked through, if it comes late, or if the
-//! answer is RETRY, and with the rows that its search compared, the merge, the coordinator's count, a row added to a
-//! table, and a stamp searched in one. What matters are ratios: all sides are built for release and work on the same
-//! bytes on the same machine, in turns.
+//! The proved library beside its twin in plain safe Rust, beside the second program, and beside an expert, which is safe Rust
+//! written for speed alone, in one run: validity of an image, a box's answer to a message of each kind, also if every row
+//! has to be looked through, if it comes late, or if the answer is RETRY, and with the rows that its search compared, the
+//! merge, the coordinator's count, a row added to a table, and a stamp searched in one. What matters are ratios: all sides
+//! are built for release and work on the same bytes on the same machine, in turns.
 //!
 //! `bench` measures times, has valgrind count instructions, looks how deep the library's calls go on the stack, and prints
 //! tables in Markdown. `bench WORK SIDE SIZE TIMES`, as `bench insert library 511 50`, only does that work so many times, on
 //! one side, for whoever counts its instructions. `bench stack` looks at the stack alone. `bench before PROGRAM` has the
-//! instructions of the library counted beside those of an earlier commit, whose `bench` is that program. `bench gate LOG`
-//! prints the times that a log of the gate has. `tools/bench` does all of it.
+//! instructions of the library counted beside those of an earlier commit, whose `bench` is that program. `bench expert
+//! PATH` measures the expert beside the library of an earlier commit, which is loaded from the shared object at that path.
+//! `bench gate LOG` prints the times that a log of the gate has. `tools/bench` does all of it.
 
 mod answer;
+mod asked;
+mod base;
 mod compared;
 mod count;
+mod expert;
 mod gate;
 mod insert;
 mod instructions;
@@ -147,6 +151,19 @@ pub const SECOND: Side = Side {
     held_body: None,
 };
 
+/// What the calls could take, written for speed and not for proofs.
+pub const EXPERT: Side = Side {
+    name: "expert",
+    valid_answer: expert::image::valid_answer,
+    answer: expert::answer::answer,
+    answer_word: None,
+    merge: expert::merge::merge,
+    count: expert::count::count,
+    count_records: Some(expert::count::count_records),
+    add_row: None,
+    held_body: None,
+};
+
 /// The twin, but for a merge by another algorithm.
 pub const CURSORS: Side = Side {
     name: "cursors",
@@ -177,8 +194,8 @@ pub struct Named {
     call: Option<&'static str>,
     sides: &'static [Side],
     times_counted: fn(usize) -> usize,
-    medians: fn(usize, usize) -> Medians,
-    one_side: fn(&str, &str, &str),
+    medians: fn(&[Side], usize, usize) -> Medians,
+    one_side: fn(&[Side], &str, &str, &str),
     deepest: fn() -> usize,
 }
 
@@ -285,12 +302,17 @@ fn main() {
         (["gate", log], _) => gate::print(log),
         (["stack"], _) => tables::print_stack(),
         (["before", program], _) => tables::print_before(Path::new(program)),
-        ([_, side, size, times], Some(work)) => (work.one_side)(side, size, times),
+        (["expert", path], _) => asked::print(path),
+        (["expert", path, name, side, size, times], _) => match named(name) {
+            Some(work) => asked::one_side(path, work, side, size, times),
+            None => refuse("there is no such work"),
+        },
+        ([_, side, size, times], Some(work)) => (work.one_side)(work.sides, side, size, times),
         _ => {
             let names: Vec<&str> = works().map(|work| work.name).collect();
             refuse(&format!(
-                "give no word; or 'stack'; or 'before' and another bench; or 'gate' and a file; or one of {}, a side, a size \
-                 and how often",
+                "give no word; or 'stack'; or 'before' and another bench; or 'expert' and a library; or 'gate' and a file; or \
+                 one of {}, a side, a size and how often",
                 names.join(", ")
             ))
         }
@@ -306,12 +328,12 @@ fn times_counted<W: Work>(size: usize) -> usize {
 }
 
 /// Does the work so many times and nothing else that depends on how many.
-fn one_side<W: Work>(name: &str, size: &str, times: &str) {
+fn one_side<W: Work>(sides: &[Side], name: &str, size: &str, times: &str) {
     let size = number(size, &W::SIZES);
     let times = number(times, &(0..=MOST_TIMES).collect::<Vec<usize>>());
     let mut work = W::of(size);
     work.get_ready(MOST_TIMES);
-    match W::SIDES.iter().find(|side| side.name == name) {
+    match sides.iter().find(|side| side.name == name) {
         Some(side) => work.done_by(*side, times),
         None => refuse("no such side does this work"),
     }
@@ -337,7 +359,7 @@ mod tests {
     fn all_sides_do_what_is_measured_as_the_second_program() {
         for work in works() {
             for size in work.sizes {
-                let medians = (work.medians)(size, 1);
+                let medians = (work.medians)(work.sides, size, 1);
                 assert_eq!(medians.nanoseconds.len(), work.sides.len());
             }
         }

@@ -1,6 +1,6 @@
 //! The merge: what all sides make of the tables of f+1 boxes.
 
-use crate::{Side, Work, CURSORS, LIBRARY, SECOND, TWIN, WALK};
+use crate::{Side, Work, CURSORS, EXPERT, LIBRARY, SECOND, TWIN, WALK};
 use samples::{Access, Dice, Row, Table, TABLE_BYTES};
 use std::ops::Range;
 
@@ -19,7 +19,7 @@ pub struct Merging<const SAME: bool, const BOXES: u8> {
 impl<const SAME: bool, const BOXES: u8> Work for Merging<SAME, BOXES> {
     const NAME: &'static str = name(SAME, BOXES);
     const CALL: Option<&'static str> = Some("sprondilu_merge");
-    const SIDES: &'static [Side] = &[LIBRARY, TWIN, SECOND, CURSORS, WALK];
+    const SIDES: &'static [Side] = &[LIBRARY, TWIN, SECOND, EXPERT, CURSORS, WALK];
     const ABOUT: &'static str = about(SAME, BOXES);
 
     fn of(rows: usize) -> Merging<SAME, BOXES> {

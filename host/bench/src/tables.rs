@@ -1,9 +1,10 @@
 //! All that is measured, printed as tables in Markdown.
 
-use crate::{instructions, stack, works, Named, Section, Side, LIBRARY};
+use crate::times::Medians;
+use crate::{instructions, stack, works, Named, Section, Side, EXPERT, LIBRARY};
 use std::path::Path;
 
-const ROUNDS: usize = 101;
+pub const ROUNDS: usize = 101;
 
 /// How long a line of the page may be.
 const LINE: usize = 118;
@@ -20,11 +21,17 @@ pub fn print_all(sections: &[Section]) {
         println!();
         print_row(&headings(&section.works[0]));
         print_rule(&headings(&section.works[0]));
-        section.works.iter().for_each(print_figures);
+        let counted: Vec<Counted> = section.works.iter().map(print_figures).collect();
         println!();
+        if section.works[0].unit == "rows" {
+            print_growth(section.works, &counted);
+        }
     }
     print_stack();
 }
+
+/// Instructions of each side of a work, for the least size and for the greatest.
+type Counted = [Vec<f64>; 2];
 
 /// What a work is, as an item of a list whose lines fit a page.
 fn described(work: &Named) -> String {
@@ -55,17 +62,20 @@ fn headings(work: &Named) -> Vec<String> {
     cells
 }
 
-fn print_figures(work: &Named) {
-    for size in work.sizes {
+/// Prints the lines of a work.
+fn print_figures(work: &Named) -> Counted {
+    let [first, _, last] = work.sizes.map(|size| {
         eprintln!("bench: {} of {} {}", work.name, size, work.unit);
-        print_row(&figures(work, size));
-    }
+        let medians = (work.medians)(work.sides, size, ROUNDS);
+        let counted = |side| instructions::for_one(work, side, size) as f64;
+        let counted: Vec<f64> = work.sides.iter().map(counted).collect();
+        print_row(&figures(work, size, medians, counted.clone()));
+        counted
+    });
+    [first, last]
 }
 
-fn figures(work: &Named, size: usize) -> Vec<String> {
-    let medians = (work.medians)(size, ROUNDS);
-    let counted = |side| instructions::for_one(work, side, size) as f64;
-    let counted: Vec<f64> = work.sides.iter().map(counted).collect();
+fn figures(work: &Named, size: usize, medians: Medians, counted: Vec<f64>) -> Vec<String> {
     let name = name_with_spread(work.name, medians.spread);
     let mut cells = vec![name, size.to_string(), grouped(medians.bytes)];
     for measured in [medians.nanoseconds, counted] {
@@ -80,8 +90,36 @@ fn figures(work: &Named, size: usize) -> Vec<String> {
     cells
 }
 
+/// How the instructions of the library and of the expert grow with the rows, in a table of its own.
+fn print_growth(works: &[Named], counted: &[Counted]) {
+    let grown = |side: &&Side| [LIBRARY.name, EXPERT.name].contains(&side.name);
+    let sides = || works[0].sides.iter().filter(grown);
+    let mut headings: Vec<String> = vec!["work".into(), "rows".into()];
+    headings.extend(sides().map(|side| format!("growth of {}", side.name)));
+    print_row(&headings);
+    print_rule(&headings);
+    for (work, [least, greatest]) in works.iter().zip(counted) {
+        let (from, to) = (work.sizes[0], work.sizes[work.sizes.len() - 1]);
+        let mut cells = vec![work.name.into(), format!("{} to {}", from, to)];
+        for (place, side) in work.sides.iter().enumerate() {
+            if grown(&side) {
+                let power = growth((from, to), (least[place], greatest[place]));
+                cells.push(format!("{:.2}", power));
+            }
+        }
+        print_row(&cells);
+    }
+    println!();
+}
+
+/// With which power of the size a figure grows, from the one size to the other: 1 if it grows as the size does, 2 if as its
+/// square.
+fn growth((from, to): (usize, usize), (least, greatest): (f64, f64)) -> f64 {
+    (greatest / least).ln() / (to as f64 / from as f64).ln()
+}
+
 /// Whoever reads the figures, as they come or on the page, is told of times that are not to be trusted.
-fn name_with_spread(name: &str, spread: f64) -> String {
+pub fn name_with_spread(name: &str, spread: f64) -> String {
     if spread <= STEADY_SPREAD {
         return name.into();
     }
@@ -183,7 +221,7 @@ pub fn grouped(number: usize) -> String {
 
 #[cfg(test)]
 mod tests {
-    use super::{before_and_after, described, grouped, headings, name_with_spread, LINE};
+    use super::{before_and_after, described, grouped, growth, headings, name_with_spread, LINE};
     use crate::works;
 
     const PAGE: &str = include_str!("../../../docs/BENCHMARKS.md");
@@ -240,9 +278,18 @@ mod tests {
     #[test]
     fn each_ratio_names_its_baseline() {
         let valid = works().next().expect("a work");
-        let expected = "work, rows, bytes, library ns, twin ns, second ns, ns: library / twin, ns: library / second, \
-            library instructions, twin instructions, second instructions, instructions: library / twin, \
-            instructions: library / second";
+        let expected = "work, rows, bytes, library ns, twin ns, second ns, expert ns, ns: library / twin, \
+            ns: library / second, ns: library / expert, library instructions, twin instructions, second instructions, \
+            expert instructions, instructions: library / twin, instructions: library / second, \
+            instructions: library / expert";
         assert_eq!(headings(valid).join(", "), expected);
+    }
+
+    #[test]
+    fn growth_is_the_power_of_the_size() {
+        let power = |figures| format!("{:.2}", growth((64, 512), figures));
+        assert_eq!(power((1_000.0, 1_000.0)), "0.00");
+        assert_eq!(power((1_000.0, 8_000.0)), "1.00");
+        assert_eq!(power((1_000.0, 64_000.0)), "2.00");
     }
 }

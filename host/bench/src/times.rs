@@ -14,12 +14,12 @@ pub struct Medians {
     pub spread: f64,
 }
 
-pub fn medians<W: Work>(size: usize, rounds: usize) -> Medians {
+pub fn medians<W: Work>(sides: &[Side], size: usize, rounds: usize) -> Medians {
     let mut work = W::of(size);
     let times = W::times_a_round(size);
-    let mut taken: Vec<Vec<f64>> = vec![Vec::with_capacity(rounds); W::SIDES.len()];
+    let mut taken: Vec<Vec<f64>> = vec![Vec::with_capacity(rounds); sides.len()];
     for _ in 0..rounds {
-        for (side, taken) in W::SIDES.iter().zip(&mut taken) {
+        for (side, taken) in sides.iter().zip(&mut taken) {
             taken.push(nanoseconds(&mut work, *side, times));
         }
     }

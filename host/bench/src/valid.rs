@@ -1,6 +1,6 @@
 //! Validity of an image: what all sides judge.
 
-use crate::{Side, Work};
+use crate::{Side, Work, EXPERT, LIBRARY, SECOND, TWIN};
 use samples::{random, Dice};
 
 /// The image of a table by the rules whose rows all have the longest bodies.
@@ -13,6 +13,7 @@ pub struct Judging {
 impl Work for Judging {
     const NAME: &'static str = "valid";
     const CALL: Option<&'static str> = Some("sprondilu_valid");
+    const SIDES: &'static [Side] = &[LIBRARY, TWIN, SECOND, EXPERT];
     const ABOUT: &'static str = "\
 `sprondilu_valid` of the library judges an image, against the same walk in safe Rust. The input is a table by the
 rules whose rows have 4 reads and 4 writes each, lent whole. All sides judge the same bytes, in turns. No buffer was
