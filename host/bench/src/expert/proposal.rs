@@ -112,7 +112,9 @@ impl<'a> Wanted<'a> {
             return false;
         }
         let (reads, writes) = accesses(table, head);
-        if self.written & (registers(reads) | registers(writes)) != 0 {
+        // Once a committed row is in the way, the greatest stamp is known, and only an ABORT can still change the result.
+        let is_open = !found.committed_in_the_way;
+        if is_open && self.written & (registers(reads) | registers(writes)) != 0 {
             found.in_the_way(standing, u64_at(head, 0));
         }
         self.is_stale(writes, head) && found.stale(standing)
