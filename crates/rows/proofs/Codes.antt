@@ -2,15 +2,15 @@
 use mathlib.Core.Path.{_≡_, refl, sym, ap, ap₂, _∙_}
 use mathlib.Core.Bool.{true, false}
 use mathlib.Core.Logic.{_≢_, _⊎_, inl, inr}
-use Prim.Native.Nat.{ℕ, suc, _≤_, _<_}
+use Prim.Native.Nat.{ℕ, suc, _+_, _%_, _≤_, _<_}
 use native.Mathlib.Omega.{arith}
-use lib.Dec.{eqb}
-use borrow.Author.Tests.{eqb-true, eqb-false, leb-true, le-leb}
+use lib.Dec.{eqb, leb}
+use borrow.Author.Tests.{eqb-true, eqb-false, leb-true, le-leb, lt-ltb, ne-eqb}
 use Rattle.rules.specs.Tests.{both, either}
 use Rattle.rules.specs.Tables.{Result, Result.OK, Result.ABORT, Result.ABSTAIN, Result.RETRY, Prepare, Prepare.noPrepare, Prepare.tentative, Prepare.final, Verdict, Verdict.commit, Verdict.abort, Outcome, Outcome.noOutcome, Outcome.noted, Outcome.done, resultCode, prepareCode, prepareRetry, verdictCode, outcomeCode, resultByRule, retryByRule, somethingHeld}
-use Rattle.rules.proofs.Logic.{both-left, both-right, same?}
+use Rattle.rules.proofs.Logic.{impossible, cases, both-left, both-right, both-true, same?}
 use Rattle.rows.specs.Fields.{resultNumbered, prepareNumbered, verdictNumbered, outcomeNumbered, retryByCode}
-use Rattle.rows.specs.Inner.FieldTests.{codesByRule}
+use Rattle.rows.specs.Inner.FieldTests.{codesByRule, statePlain}
 
 -- ---- what a code was made of is read from it
 
@@ -139,3 +139,21 @@ coded c q o k h =
       held = sym (codes-of (prepareNumbered c q) (outcomeNumbered o)) ∙ ap₂ codesByRule a d ∙ k;
       byRule = sym (retry-of-code (prepareNumbered c q)) ∙ ap₂ retryByCode a b ∙ h;
     }
+
+-- ---- a state that is plainly good keeps the rules
+
+pub plain-state : (p q o : ℕ) → statePlain p q o ≡ true → both (codesByRule p o) (retryByCode p q) ≡ true
+unfolding statePlain codesByRule retryByCode either
+plain-state p q o h = go (cases (eqb (p % 4) 0)) (cases (eqb q 0))
+  where
+    go : (eqb (p % 4) 0 ≡ true) ⊎ (eqb (p % 4) 0 ≡ false) → (eqb q 0 ≡ true) ⊎ (eqb q 0 ≡ false) → both (codesByRule p o) (retryByCode p q) ≡ true
+    go (inl e) k = impossible h (rw e)
+    go (inr e) (inr k) = impossible h (rw (e, k))
+    go (inr e) (inl k) =
+        let n : p % 4 ≢ 0 = eqb-false _ _ e in
+        let b : both (leb p 7) (leb o 4) ≡ true = rw (e, k) at h in
+        let l : p ≤ 7 = leb-true _ _ (both-left _ _ b) in
+        let four : eqb p 4 ≡ false = ne-eqb p 4 (λ x. n (rw x)) in
+        let eight : eqb p 8 ≡ false = ne-eqb p 8 (λ x. n (rw x)) in
+        let some : 0 < p = omega arith in
+        both-true (both-true (le-leb p 8 (omega arith)) (both-true (both-right _ _ b) (lt-ltb 0 (p + o) (omega arith)))) (rw (four, eight) k)

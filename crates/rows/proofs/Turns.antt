@@ -1,6 +1,6 @@
 -- One turn of each loop over what stands in bytes.
 use mathlib.Core.Path.{_≡_}
-use mathlib.Core.Bool.{true}
+use mathlib.Core.Bool.{Bool, true}
 use mathlib.Core.List.{List}
 use Prim.Native.Nat.{ℕ, suc, _+_, _-_, _*_, _≤_, _<_}
 use native.Mathlib.Nat.{zero-add}
@@ -11,7 +11,7 @@ use lib.ListN.{length}
 use borrow.Author.Tests.{ltb-true, leb-true, eqb-true, lt-ltb, le-leb}
 use Rattle.rules.specs.Tests.{both}
 use Rattle.rules.specs.Stamps.{isStamp, isRegister, countsByRule, accessesByRule, contentsByRule}
-use Rattle.rules.proofs.Logic.{both-left, both-right, same-test}
+use Rattle.rules.proofs.Logic.{both-left, both-right, both-true, both-whole, same-test}
 use Rattle.rows.specs.declared.row.RowFields.{RowFields}
 use Rattle.rows.specs.Fields.{fieldsAt}
 use Rattle.rows.specs.Inner.FieldTests.{fieldsByRule}
@@ -29,21 +29,43 @@ below-next x most =
     (λ h. let l : x < most + 1 = ltb-true x (most + 1) h in le-leb x most (omega arith))
     (λ h. let l : x ≤ most = leb-true x most h in lt-ltb x (most + 1) (omega arith))
 
+-- a register from low on is below 64 only if low is at most 64
+last-tells : (low register : ℕ) (number more : Bool) →
+    both (leb low 64) (both (both (leb low register) (both (ltb register 64) number)) more)
+    ≡ both (both (leb low register) number) (both (leb (suc register) 64) more)
+last-tells low register number more = same-test _ _ there back
+  where
+    there : both (leb low 64) (both (both (leb low register) (both (ltb register 64) number)) more) ≡ true → both (both (leb low register) number) (both (leb (suc register) 64) more) ≡ true
+    there h =
+        let x = both-left _ _ (both-right _ _ h) in
+        let y = both-right _ _ x in
+        let l : register < 64 = ltb-true _ _ (both-left _ _ y) in
+        both-true (both-true (both-left _ _ x) (both-right _ _ y)) (both-true (le-leb (suc register) 64 (omega arith)) (both-right _ _ (both-right _ _ h)))
+
+    back : both (both (leb low register) number) (both (leb (suc register) 64) more) ≡ true → both (leb low 64) (both (both (leb low register) (both (ltb register 64) number)) more) ≡ true
+    back h =
+        let x = both-left _ _ h in
+        let y = both-right _ _ h in
+        let low-is : low ≤ register = leb-true _ _ (both-left _ _ x) in
+        let l : suc register ≤ 64 = leb-true _ _ (both-left _ _ y) in
+        both-true (le-leb low 64 (omega arith)) (both-true (both-true (both-left _ _ x) (both-true (lt-ltb register 64 (omega arith)) (both-right _ _ x))) (both-right _ _ y))
+
 -- ---- accesses, i of them passed
 
+-- the registers passed end below low; that they are registers is asked of the last of them alone
 pub accesses-turn : (s : List ℕ) (from n i low most : ℕ) → i < n →
     let a = accessAt s (9 * (from + i)) in
-    accessesByRule (most + 1) low (accessesAt s (9 * (from + i)) (n - i))
-    ≡ both (both (leb low (a .register)) (both (ltb (a .register) 64) (leb (a .number) most))) (accessesByRule (most + 1) (a .register + 1) (accessesAt s (9 * (from + (i + 1))) (n - (i + 1))))
+    both (leb low 64) (accessesByRule (most + 1) low (accessesAt s (9 * (from + i)) (n - i)))
+    ≡ both (both (leb low (a .register)) (leb (a .number) most)) (both (leb (a .register + 1) 64) (accessesByRule (most + 1) (a .register + 1) (accessesAt s (9 * (from + (i + 1))) (n - (i + 1)))))
 unfolding accessesByRule accessesAt isRegister
 accesses-turn s from n i low most h =
     let e : n - i ≡ suc (n - (i + 1)) = omega arith in
     let p : 9 * (from + (i + 1)) ≡ 9 * (from + i) + 9 = omega arith in
-    rw (e, p, below-next, add-one (accessAt s (9 * (from + i)) .register))
+    rw (e, p, below-next, add-one (accessAt s (9 * (from + i)) .register)) (last-tells low _ _ _)
 
-pub accesses-end : (s : List ℕ) (at n low limit : ℕ) → n ≡ 0 → accessesByRule limit low (accessesAt s at n) ≡ true
+pub accesses-end : (s : List ℕ) (at n low limit : ℕ) → n ≡ 0 → both (leb low 64) (accessesByRule limit low (accessesAt s at n)) ≡ leb low 64
 unfolding accessesByRule accessesAt
-accesses-end s at n low limit e = rw e
+accesses-end s at n low limit e = rw (e, both-whole)
 
 -- ---- rows, i of them passed
 
@@ -70,14 +92,17 @@ pub contents-are : (s : List ℕ) (reads writes stamp : ℕ) → 0 < stamp →
 unfolding contentsByRule bodyAt
 contents-are s reads writes stamp h = let e : stamp - 1 + 1 ≡ stamp = omega arith in rw (e, zero-add)
 
+pub fields-counts : (f : RowFields) → fieldsByRule f ≡ true → (f .reads ≤ 4) × (f .writes ≤ 4)
+unfolding fieldsByRule countsByRule
+fields-counts f h =
+    let counts = both-right _ _ (both-left _ _ h) in
+    (leb-true _ _ (both-left _ _ counts), leb-true _ _ (both-left _ _ (both-right _ _ counts)))
+
 pub fields-facts : (f : RowFields) → fieldsByRule f ≡ true → (0 < f .stamp) × (f .reads + f .writes ≤ 8)
-unfolding fieldsByRule isStamp countsByRule
+unfolding fieldsByRule isStamp
 fields-facts f h =
-    let names = both-left _ _ h in
-    let counts = both-right _ _ names in
-    let r : f .reads ≤ 4 = leb-true _ _ (both-left _ _ counts) in
-    let w : f .writes ≤ 4 = leb-true _ _ (both-left _ _ (both-right _ _ counts)) in
-    (ltb-true _ _ (both-left _ _ (both-left _ _ names)), omega arith)
+    let (r, w) = fields-counts f h in
+    (ltb-true _ _ (both-left _ _ (both-left _ _ (both-left _ _ h))), omega arith)
 
 pub row-room : (s : List ℕ) (f : RowFields) (last due end : ℕ) → rowByRuleAt s f last due end ≡ true → due + sizeOf f ≤ end
 unfolding rowByRuleAt placeByRule bodyByRuleAt

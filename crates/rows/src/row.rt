@@ -11,7 +11,7 @@ ghost use Rattle.rules.specs.Stamps.{isStamp, countsByRule};
 ghost use Rattle.rows.specs.Bytes.{bodyLength};
 ghost use Rattle.rows.specs.Fields.{rowLength, fieldsAt, fieldsBytes, retryByCode};
 ghost use Rattle.rows.specs.Inner.ChangedFields.{withPrepareByte, withOutcomeByte};
-ghost use Rattle.rows.specs.Inner.FieldTests.{codesByRule, fieldsByRule};
+ghost use Rattle.rows.specs.Inner.FieldTests.{codesByRule, statePlain, fieldsByRule};
 ghost use Rattle.rows.specs.Inner.Rows.{BodyInside, bodyPart, placeByRule};
 
 // The bytes of a row's fields.
@@ -181,10 +181,29 @@ fn stamp_and_counts_valid(row: RowFields) -> bool
     false
 }
 
-// The two bytes, and the retry stamp that goes with them.
+// A state that is plainly good, as most are: a prepare other than RETRY, tentative or final, with any outcome, and no retry stamp.
+fn state_plain(prepare: u8, retry: u64, outcome: u8) -> bool
+    ensures { λ r. ⌜ r ≡ statePlain prepare retry outcome ⌝ }
+{
+    if prepare % 4 == 0 {
+        return false;
+    }
+    if retry != 0 {
+        return false;
+    }
+    if 7 < prepare {
+        return false;
+    }
+    outcome <= 4
+}
+
+// The two bytes, and the retry stamp that goes with them. A state that is not plainly good goes through its tests in order.
 fn state_valid(row: RowFields) -> bool
     ensures { λ r. ⌜ r ≡ both (codesByRule (row .prepare) (row .outcome)) (retryByCode (row .prepare) (row .retry)) ⌝ }
 {
+    if state_plain(row.prepare, row.retry, row.outcome) {
+        return true;
+    }
     if codes_valid(row.prepare, row.outcome) {
         return retry_valid(row.prepare, row.retry);
     }

@@ -12,11 +12,11 @@ ghost use Rattle.rows.specs.Inner.Rows.{placeByRule, bodyByRuleAt, rowBy
 
 // A row's body, whose counts are good and whose stamp is not 0.
 fn body_valid(image: &[u8], row: RowFields, end: usize) -> bool
-    requires { ⌜ (end ≤ length (now image)) × (row .reads + row .writes ≤ 8) × (0 < row .stamp) ⌝ }
+    requires { ⌜ (end ≤ length (now image)) × (row .reads ≤ 4) × (row .writes ≤ 4) × (0 < row .stamp) ⌝ }
     ensures { λ r. ⌜ r ≡ bodyByRuleAt (now (image .entry)) row end ⌝ }
 {
     if row::body_inside(row, end) {
-        return body::contents_valid(
+        return body::contents_valid_by_counts(
             row::body_of(image, row),
             row.reads as usize,
             row.writes as usize,
@@ -57,11 +57,12 @@ pub fn rows_valid(image: &[u8], begin: usize, rows: usize, end: usize) -> bool
     let mut i: usize = 0;
     while i < rows {
         let row = row::row_at(image, begin, i);
+        let next = due + row::body_length(row.reads, row.writes);
         if !row_valid(image, row, last, due, end) {
             return false;
         }
         last = row.stamp;
-        due += row::body_length(row.reads, row.writes);
+        due = next;
         i += 1;
     }
     due == end

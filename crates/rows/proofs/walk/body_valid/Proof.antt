@@ -29,17 +29,17 @@ inside c =
 body-of-requires : tie.Need-body-of-requires
 body-of-requires c κs = inside c
 
-cast-contents-valid : tie.Need-cast-contents-valid
-cast-contents-valid c = search needs
+cast-contents-valid-by-counts : tie.Need-cast-contents-valid-by-counts
+cast-contents-valid-by-counts c = search needs
 
-cast-contents-valid-2 : tie.Need-cast-contents-valid-2
-cast-contents-valid-2 c = search needs
+cast-contents-valid-by-counts-2 : tie.Need-cast-contents-valid-by-counts-2
+cast-contents-valid-by-counts-2 c = search needs
 
-contents-valid-requires : tie.Need-contents-valid-requires
-contents-valid-requires c κs =
+contents-valid-by-counts-requires : tie.Need-contents-valid-by-counts-requires
+contents-valid-by-counts-requires c κs =
     let p = c .before .before .before .before .before .before in
     let l : length (now (c .before .before .body-of .result)) ≡ sizeOf (p .args .row) = ap length (c .before .before .body-of .ensures) ∙ length-body-part (now (p .args .image)) (p .args .row) (inside (c .before .before .before)) in
-    (omega arith, p .pre .1, p .pre .2)
+    (omega arith, p .pre .1, p .pre .2, p .pre .3)
 
 returns : tie.Need-returns
 unfolding bodyByRuleAt
@@ -47,8 +47,8 @@ returns c =
     let p = c .before .before .before .before .before .before .before in
     let row = p .args .row in
     let s = now (p .args .image) in
-    let e : c .contents-valid .result ≡ contentsByRule (row .stamp) (bodyAt s (row .offset) (row .reads) (row .writes)) =
-    c .contents-valid .ensures
+    let e : c .contents-valid-by-counts .result ≡ contentsByRule (row .stamp) (bodyAt s (row .offset) (row .reads) (row .writes)) =
+    c .contents-valid-by-counts .ensures
     ∙ ap (λ (x : List ℕ). contentsByRule (row .stamp) (bodyAt x 0 (row .reads) (row .writes))) (c .before .before .before .body-of .ensures)
     ∙ ap (contentsByRule (row .stamp)) (body-of-part s row (inside (c .before .before .before .before))) in
     both-yes _ _ _ _ (c .before .before .before .before .before .body-inside .ensures) (c .before .before .before .before .if1 .taken) e
@@ -63,8 +63,8 @@ body-valid-spec =
     (tie.spec
     body-inside-requires
     body-of-requires
-    cast-contents-valid
-    cast-contents-valid-2
-    contents-valid-requires
+    cast-contents-valid-by-counts
+    cast-contents-valid-by-counts-2
+    contents-valid-by-counts-requires
     returns
     returns-2)

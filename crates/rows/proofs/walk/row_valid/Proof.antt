@@ -4,7 +4,7 @@ use borrow.Author.Needs.{needs}
 use Rattle.rules.proofs.Logic.{both-left}
 use Rattle.rules.proofs.Chains.{chain}
 use Rattle.rows.specs.Inner.Rows.{rowByRuleAt}
-use Rattle.rows.proofs.Turns.{fields-facts}
+use Rattle.rows.proofs.Turns.{fields-counts, fields-facts}
 use Rattle.rows.proofs.walk.row_valid.Statement.{statement}
 use Rattle.rows.proofs.walk.row_valid.Tie as tie
 
@@ -15,8 +15,8 @@ body-valid-requires : tie.Need-body-valid-requires
 body-valid-requires c κs =
     let p = c .before .before .before in
     let h = both-left _ _ (sym (c .before .head-valid .ensures) ∙ c .if1 .taken) in
-    let f = fields-facts (p .args .row) h in
-    (p .pre, f .1, f .0)
+    let n = fields-counts (p .args .row) h in
+    (p .pre, n .0, n .1, fields-facts (p .args .row) h .0)
 
 returns : tie.Need-returns
 unfolding rowByRuleAt

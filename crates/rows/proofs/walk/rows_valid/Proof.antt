@@ -55,22 +55,20 @@ loop-holds c = (omega arith, omega arith, rw (add-zero, sub-zero))
 row-at-requires : tie.Need-row-at-requires Inv-loop μ-loop
 row-at-requires c κs = omega arith
 
+body-length-requires : tie.Need-body-length-requires Inv-loop μ-loop
+body-length-requires c κs = tt
+
+add-next : tie.Need-add-next Inv-loop μ-loop
+add-next c = omega (arith, c .body-length .ensures .1)
+
 row-valid-requires : tie.Need-row-valid-requires Inv-loop μ-loop
-row-valid-requires c κs = c .before .before .before .before .pre .1
+row-valid-requires c κs = c .before .before .before .before .before .pre .1
 
 returns : tie.Need-returns Inv-loop μ-loop
 unfolding both
 returns c =
     let e : rowByRuleAt _ _ _ _ _ ≡ false = sym (c .before .row-valid .ensures) ∙ not-true _ (c .if1 .taken) in
-    sym (walked (c .before .before .before .before) ∙ turn (c .before .before .before) ∙ rw (← c .before .before .row-at .ensures, e))
-
-body-length-requires : tie.Need-body-length-requires Inv-loop μ-loop
-body-length-requires c κs = tt
-
-add-due-2 : tie.Need-add-due-2 Inv-loop μ-loop
-add-due-2 c =
-    let e = row-room _ _ _ _ _ (sym (c .before .before .row-valid .ensures) ∙ not-false _ (c .before .if1 .left)) in
-    omega arith
+    sym (walked (c .before .before .before .before .before) ∙ turn (c .before .before .before .before) ∙ rw (← c .before .before .before .row-at .ensures, e))
 
 add-i : tie.Need-add-i Inv-loop μ-loop
 add-i c = omega arith
@@ -81,9 +79,10 @@ loop-less c = omega arith
 loop-again : tie.Need-loop-again Inv-loop μ-loop
 unfolding both
 loop-again c =
-    let h = sym (c .before .before .row-valid .ensures) ∙ not-false _ (c .before .if1 .left) in
+    let h = sym (c .before .row-valid .ensures) ∙ not-false _ (c .if1 .left) in
     let room = row-room _ _ _ _ _ h in
-    (omega arith, omega arith, turn (c .before .before .before .before) ∙ rw (← c .before .before .before .row-at .ensures, h, c .body-length .ensures .0))
+    let size = c .before .before .body-length .ensures .0 in
+    (omega arith, omega arith, turn (c .before .before .before .before) ∙ rw (← c .before .before .before .row-at .ensures, h, size))
 
 returns-2 : tie.Need-returns-2 Inv-loop μ-loop
 returns-2 c =
@@ -101,10 +100,10 @@ rows-valid-spec =
     add-due
     loop-holds
     row-at-requires
+    body-length-requires
+    add-next
     row-valid-requires
     returns
-    body-length-requires
-    add-due-2
     add-i
     loop-less
     loop-again
