@@ -2,7 +2,7 @@
 use mathlib.Core.Path.{_≡_}
 use mathlib.Core.Bool.{Bool, true}
 use mathlib.Core.List.{List}
-use Prim.Native.Nat.{ℕ, suc, _+_, _-_, _*_, _≤_, _<_}
+use Prim.Native.Nat.{ℕ, suc, _+_, _-_, _*_, _^_, _≤_, _<_}
 use native.Mathlib.Nat.{zero-add}
 use native.Mathlib.Numerals.{add-one}
 use native.Mathlib.Omega.{arith}
@@ -17,17 +17,11 @@ use Rattle.rows.specs.Fields.{fieldsAt}
 use Rattle.rows.specs.Inner.FieldTests.{fieldsByRule}
 use Rattle.rows.specs.Read.{accessAt, accessesAt, bodyAt}
 use Rattle.rows.specs.Inner.Rows.{sizeOf, bodyPart, BodyInside, placeByRule, bodyByRuleAt, rowByRuleAt}
+use Rattle.wire.specs.Inner.ByteLists.{AllBytes}
+use Rattle.wire.proofs.Numbers.{numberAt-below}
 use Rattle.wire.proofs.Parts.{length-part}
 use Rattle.rows.proofs.Walks.{rowsWalk}
 use Rattle.rows.proofs.Bodies.{body-in-part}
-
-below-next : (x most : ℕ) → ltb x (most + 1) ≡ leb x most
-below-next x most =
-    same-test
-    (ltb x (most + 1))
-    (leb x most)
-    (λ h. let l : x < most + 1 = ltb-true x (most + 1) h in le-leb x most (omega arith))
-    (λ h. let l : x ≤ most = leb-true x most h in lt-ltb x (most + 1) (omega arith))
 
 -- a register from low on is below 64 only if low is at most 64
 last-tells : (low register : ℕ) (number more : Bool) →
@@ -52,16 +46,15 @@ last-tells low register number more = same-test _ _ there back
 
 -- ---- accesses, i of them passed
 
--- the registers passed end below low; that they are registers is asked of the last of them alone
-pub accesses-turn : (s : List ℕ) (from n i low most : ℕ) → i < n →
-    let a = accessAt s (9 * (from + i)) in
-    both (leb low 64) (accessesByRule (most + 1) low (accessesAt s (9 * (from + i)) (n - i)))
-    ≡ both (both (leb low (a .register)) (leb (a .number) most)) (both (leb (a .register + 1) 64) (accessesByRule (most + 1) (a .register + 1) (accessesAt s (9 * (from + (i + 1))) (n - (i + 1)))))
+-- whether they are registers is asked of the last of them alone
+pub accesses-turn : (s : List ℕ) (at next n i low limit : ℕ) → i < n → at + 9 ≡ next →
+    let a = accessAt s at in
+    both (leb low 64) (accessesByRule limit low (accessesAt s at (n - i)))
+    ≡ both (both (leb low (a .register)) (ltb (a .number) limit)) (both (leb (a .register + 1) 64) (accessesByRule limit (a .register + 1) (accessesAt s next (n - (i + 1)))))
 unfolding accessesByRule accessesAt isRegister
-accesses-turn s from n i low most h =
+accesses-turn s at next n i low limit h q =
     let e : n - i ≡ suc (n - (i + 1)) = omega arith in
-    let p : 9 * (from + (i + 1)) ≡ 9 * (from + i) + 9 = omega arith in
-    rw (e, p, below-next, add-one (accessAt s (9 * (from + i)) .register)) (last-tells low _ _ _)
+    rw (e, ← q, add-one (accessAt s at .register)) (last-tells low _ _ _)
 
 pub accesses-end : (s : List ℕ) (at n low limit : ℕ) → n ≡ 0 → both (leb low 64) (accessesByRule limit low (accessesAt s at n)) ≡ leb low 64
 unfolding accessesByRule accessesAt
@@ -85,12 +78,17 @@ rows-end s at n last due end e = rw e
 
 -- ---- what tests that held say, for the code behind them
 
--- a body's two halves, by the greatest number that each may have
-pub contents-are : (s : List ℕ) (reads writes stamp : ℕ) → 0 < stamp →
+-- a body's two halves
+pub contents-are : (s : List ℕ) (reads writes stamp : ℕ) →
     contentsByRule stamp (bodyAt s 0 reads writes)
-    ≡ both (accessesByRule (stamp - 1 + 1) 0 (accessesAt s (9 * 0) reads)) (accessesByRule (0xffff_ffff_ffff_ffff + 1) 0 (accessesAt s (9 * reads) writes))
+    ≡ both (accessesByRule stamp 0 (accessesAt s 0 reads)) (accessesByRule (2 ^ 64) 0 (accessesAt s (9 * reads) writes))
 unfolding contentsByRule bodyAt
-contents-are s reads writes stamp h = let e : stamp - 1 + 1 ≡ stamp = omega arith in rw (e, zero-add)
+contents-are s reads writes stamp = rw zero-add
+
+-- any 8 bytes are a value that may be written
+pub value-fits : (s : List ℕ) (at : ℕ) → AllBytes s → at + 9 ≤ length s → ltb (accessAt s at .number) (2 ^ 64) ≡ true
+unfolding accessAt
+value-fits s at a l = lt-ltb _ _ (numberAt-below s (at + 1) 8 a (omega arith))
 
 pub fields-counts : (f : RowFields) → fieldsByRule f ≡ true → (f .reads ≤ 4) × (f .writes ≤ 4)
 unfolding fieldsByRule countsByRule

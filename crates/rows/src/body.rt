@@ -1,6 +1,6 @@
 // A body, lent as the part of a table or of a message where it lies: its accesses one by one, and whether they keep the rules.
 ghost use mathlib.Core.Path.{_≡_};
-ghost use Prim.Native.Nat.{_+_, _*_, _≤_, _<_};
+ghost use Prim.Native.Nat.{_+_, _*_, _^_, _≤_, _<_};
 ghost use lib.ListN.{length};
 ghost use Rattle.rules.specs.Stamps.{countsByRule, accessesByRule, contentsByRule};
 ghost use Rattle.rows.specs.Read.{accessAt, accessesAt, bodyAt};
@@ -36,20 +36,20 @@ pub fn counts_valid(reads: u8, writes: u8) -> bool
     0 < reads + writes
 }
 
-// Registers rise and stay below 64, and no number is above `most`, in the `n` accesses from an index on. Of registers that rise the last tells for all that they are below 64.
-fn accesses_valid(body: &[u8], from: usize, n: usize, most: u64) -> bool
-    requires { ⌜ 9 * (from + n) ≤ length (now body) ⌝ }
-    ensures { λ r. ⌜ r ≡ accessesByRule (most + 1) 0 (accessesAt (now (body .entry)) (9 * from) n) ⌝ }
+// Registers of the first `n` accesses rise and stay below 64, and each version is below the stamp. Of registers that rise the last tells for all that they are below 64.
+fn reads_valid(body: &[u8], n: usize, stamp: u64) -> bool
+    requires { ⌜ 9 * n ≤ length (now body) ⌝ }
+    ensures { λ r. ⌜ r ≡ accessesByRule stamp 0 (accessesAt (now (body .entry)) 0 n) ⌝ }
 {
     let mut low: usize = 0;
     let mut i: usize = 0;
     while i < n {
-        let a = access_at(body, from + i);
-        let register = a.register as usize;
+        let read = access_at(body, i);
+        let register = read.register as usize;
         if register < low {
             return false;
         }
-        if most < a.number {
+        if stamp <= read.number {
             return false;
         }
         low = register + 1;
@@ -58,13 +58,31 @@ fn accesses_valid(body: &[u8], from: usize, n: usize, most: u64) -> bool
     low <= 64
 }
 
+// The same of the `n` accesses from an index on, which may have any values.
+fn writes_valid(body: &[u8], from: usize, n: usize) -> bool
+    requires { ⌜ 9 * (from + n) ≤ length (now body) ⌝ }
+    ensures { λ r. ⌜ r ≡ accessesByRule (2 ^ 64) 0 (accessesAt (now (body .entry)) (9 * from) n) ⌝ }
+{
+    let mut least: usize = 0;
+    let mut i: usize = 0;
+    while i < n {
+        let written = access_at(body, from + i).register as usize;
+        if written < least {
+            return false;
+        }
+        least = written + 1;
+        i += 1;
+    }
+    least <= 64
+}
+
 // The accesses of a whole body whose counts are known: versions below the stamp, any value.
 pub fn contents_valid(body: &[u8], reads: usize, writes: usize, stamp: u64) -> bool
     requires { ⌜ (9 * (reads + writes) ≤ length (now body)) × (reads + writes ≤ 8) × (0 < stamp) ⌝ }
     ensures { λ r. ⌜ r ≡ contentsByRule stamp (bodyAt (now (body .entry)) 0 reads writes) ⌝ }
 {
-    if accesses_valid(body, 0, reads, stamp - 1) {
-        return accesses_valid(body, reads, writes, 0xffff_ffff_ffff_ffff);
+    if reads_valid(body, reads, stamp) {
+        return writes_valid(body, reads, writes);
     }
     false
 }

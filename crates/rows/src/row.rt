@@ -182,26 +182,26 @@ fn stamp_and_counts_valid(row: RowFields) -> bool
 }
 
 // A state that is plainly good, as most are: a prepare other than RETRY, tentative or final, with any outcome, and no retry stamp.
-fn state_plain(prepare: u8, retry: u64, outcome: u8) -> bool
-    ensures { λ r. ⌜ r ≡ statePlain prepare retry outcome ⌝ }
+fn state_plain(row: RowFields) -> bool
+    ensures { λ r. ⌜ r ≡ statePlain (row .prepare) (row .retry) (row .outcome) ⌝ }
 {
-    if prepare % 4 == 0 {
+    if row.prepare % 4 == 0 {
         return false;
     }
-    if retry != 0 {
+    if row.retry != 0 {
         return false;
     }
-    if 7 < prepare {
+    if 7 < row.prepare {
         return false;
     }
-    outcome <= 4
+    row.outcome <= 4
 }
 
 // The two bytes, and the retry stamp that goes with them. A state that is not plainly good goes through its tests in order.
 fn state_valid(row: RowFields) -> bool
     ensures { λ r. ⌜ r ≡ both (codesByRule (row .prepare) (row .outcome)) (retryByCode (row .prepare) (row .retry)) ⌝ }
 {
-    if state_plain(row.prepare, row.retry, row.outcome) {
+    if state_plain(row) {
         return true;
     }
     if codes_valid(row.prepare, row.outcome) {
