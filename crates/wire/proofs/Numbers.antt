@@ -11,6 +11,7 @@ use lib.Seq.{take-add, drop-drop}
 use Rattle.wire.specs.Parts.{part, replaced}
 use Rattle.wire.specs.Numbers.{number, bytes, numberAt}
 use Rattle.wire.specs.Inner.ByteLists.{AllBytes}
+use Rattle.wire.specs.Inner.Turned.{lowestFirst, turnedRound}
 use Rattle.wire.proofs.Parts.{length-part, part-part, part-replaced}
 
 pub power-positive : (width : ℕ) → 0 < 256 ^ width
@@ -140,6 +141,52 @@ unfolding numberAt
 numberAt-halves s at high low h =
     let n : length (part s (at + high) low) ≡ low = length-part s (at + high) low h in
     rw (take-add high low (drop at s), drop-drop high at s, number-joined (part s at high) (part s (at + high) low), n)
+
+-- a number of four bytes, byte by byte
+numberAt-four : (s : List ℕ) (at : ℕ) → at + 4 ≤ length s → numberAt s at 4 ≡ getD s at 0 * 16777216 + (getD s (at + 1) 0 * 65536 + (getD s (at + 2) 0 * 256 + getD s (at + 3) 0))
+numberAt-four s at l =
+    let second : at + 1 + 1 ≡ at + 2 = omega arith in
+    let third : at + 2 + 1 ≡ at + 3 = omega arith in
+    rw (
+      numberAt-halves s at 1 3 (omega arith),
+      numberAt-halves s (at + 1) 1 2 (omega arith),
+      second,
+      numberAt-halves s (at + 2) 1 1 (omega arith),
+      third,
+      numberAt-one s at,
+      numberAt-one s (at + 1),
+      numberAt-one s (at + 2),
+      numberAt-one s (at + 3),
+    )
+
+-- so is the one whose first byte counts least, turned round
+lowest : (a r : ℕ) → a < 256 → (a + 256 * r) % 256 ≡ a
+lowest a r l = omega arith
+
+above-one : (a r : ℕ) → a < 256 → (a + 256 * r) / 256 ≡ r
+above-one a r l = omega arith
+
+above-two : (a r : ℕ) → a < 65536 → (a + 65536 * r) / 65536 ≡ r
+above-two a r l = omega arith
+
+above-three : (a r : ℕ) → a < 16777216 → (a + 16777216 * r) / 16777216 ≡ r
+above-three a r l = omega arith
+
+turned-bytes : (a b c d : ℕ) → a < 256 → b < 256 → c < 256 → d < 256 → turnedRound (a + 256 * b + 65536 * c + 16777216 * d) ≡ a * 16777216 + (b * 65536 + (c * 256 + d))
+unfolding turnedRound
+turned-bytes a b c d la lb lc ld =
+    let x = a + 256 * b + 65536 * c + 16777216 * d in
+    let one : x ≡ a + 256 * (b + 256 * (c + 256 * d)) = omega arith in
+    let two : x ≡ a + 256 * b + 65536 * (c + 256 * d) = omega arith in
+    let first : x % 256 ≡ a = ap (λ y. y % 256) one ∙ lowest a _ la in
+    let second : x / 256 % 256 ≡ b = ap (λ y. y / 256 % 256) one ∙ ap (λ y. y % 256) (above-one a _ la) ∙ lowest b _ lb in
+    let third : x / 65536 % 256 ≡ c = ap (λ y. y / 65536 % 256) two ∙ ap (λ y. y % 256) (above-two (a + 256 * b) _ (omega arith)) ∙ lowest c d lc in
+    let fourth : x / 16777216 ≡ d = above-three (a + 256 * b + 65536 * c) d (omega arith) in
+    rw (first, second, third, fourth, add-assoc, add-assoc)
+
+pub turned-number : (s : List ℕ) (at : ℕ) → ((i : ℕ) → getD s i 0 < 256) → at + 4 ≤ length s → turnedRound (lowestFirst s at) ≡ numberAt s at 4
+unfolding lowestFirst
+turned-number s at h l = rw (numberAt-four s at l) (turned-bytes _ _ _ _ (h at) (h (at + 1)) (h (at + 2)) (h (at + 3)))
 
 -- a number of any width that was written is read back
 pub read-back : (s : List ℕ) (at width x : ℕ) → x < 256 ^ width → at ≤ length s → numberAt (replaced s at (bytes width x)) at width ≡ x

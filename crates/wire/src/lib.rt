@@ -1,13 +1,14 @@
 // Big-endian numbers in a lent slice, and parts of a slice copied, moved and cleared.
 //
 // Nothing here knows what the bytes are for. Whoever writes says by `replaced` which bytes took the place of which; all others stay.
-// A number is read and written by one function for every width, so that its proof is one proof.
+// A number is read and written by one function for every width, so that its proof is one proof. Only the numbers of four bytes, as every row has one, are read in a way of their own.
 ghost use mathlib.Core.Path.{_≡_};
 ghost use mathlib.Core.List.{_++_};
 ghost use Prim.Native.Nat.{_+_, _≤_, _<_, _^_};
 ghost use lib.ListN.{length, replicate};
 ghost use Rattle.wire.specs.Parts.{part, replaced};
 ghost use Rattle.wire.specs.Numbers.{numberAt, bytes};
+ghost use Rattle.wire.specs.Inner.Turned.{lowestFirst, turnedRound};
 
 // What the high half of an 8-byte number counts: 256 to the fourth.
 const HALF: u64 = 4294967296;
@@ -48,11 +49,27 @@ pub fn u16_at(s: &[u8], at: usize) -> u16
     number_at(s, at, 2) as u16
 }
 
+// The four bytes from `at` with the first as the lowest. Of a sum in this order, without a loop, the compiler makes one load wherever the number is used. Of the other it does so only where the number is used in one place.
+fn lowest_first(s: &[u8], at: usize) -> u64
+    requires { ⌜ at + 4 ≤ length (now s) ⌝ }
+    ensures { λ r. ⌜ (r ≡ lowestFirst (now (s .entry)) at) × (r < 256 ^ 4) ⌝ }
+{
+    wide(s[at]) + 256 * wide(s[at + 1]) + 65536 * wide(s[at + 2]) + 16777216 * wide(s[at + 3])
+}
+
+// A number of four bytes with its bytes in the opposite order, of which the compiler makes one instruction.
+fn turned(x: u64) -> u64
+    requires { ⌜ x < 256 ^ 4 ⌝ }
+    ensures { λ r. ⌜ (r ≡ turnedRound x) × (r < 256 ^ 4) ⌝ }
+{
+    x % 256 * 16777216 + x / 256 % 256 * 65536 + x / 65536 % 256 * 256 + x / 16777216
+}
+
 pub fn u32_at(s: &[u8], at: usize) -> u32
     requires { ⌜ at + 4 ≤ length (now s) ⌝ }
     ensures { λ r. ⌜ r ≡ numberAt (now (s .entry)) at 4 ⌝ }
 {
-    number_at(s, at, 4) as u32
+    turned(lowest_first(s, at)) as u32
 }
 
 // In two halves, since the compiler makes one load of each half and then one of both, and of eight single bytes it does not.
