@@ -1,8 +1,9 @@
 -- One step of a loop over accesses or rows: the one at hand, and the others.
-use mathlib.Core.Path.{_≡_}
-use mathlib.Core.List.{List, [], _∷_}
-use Prim.Native.Nat.{ℕ, suc, _+_, _-_, _*_, _≤_, _<_}
+use mathlib.Core.Path.{_≡_, ap}
+use mathlib.Core.List.{List, [], _∷_, _++_}
+use Prim.Native.Nat.{ℕ, zero, suc, _+_, _-_, _*_, _≤_, _<_}
 use native.Mathlib.Omega.{arith}
+use Rattle.rules.specs.Tables.{Row}
 use Rattle.rows.specs.Fields.{fieldsAt}
 use Rattle.rows.specs.Read.{accessAt, accessOf, accessesAt, rowOf, rowsAt}
 
@@ -35,3 +36,16 @@ rows-all s begin n i z =
     let e : n - i ≡ n = omega arith in
     let p : begin + 24 * i ≡ begin = omega arith in
     rw (e, p)
+
+-- the first rows, and the others
+rows-parts : (s : List ℕ) (at m n : ℕ) → rowsAt s at (m + n) ≡ rowsAt s at m ++ rowsAt s (at + 24 * m) n
+unfolding rowsAt
+rows-parts s at zero n = let e : 0 + n ≡ n = omega arith in let p : at + 24 * 0 ≡ at = omega arith in rw (e, p)
+rows-parts s at (suc m) n =
+    let e : suc m + n ≡ suc (m + n) = omega arith in
+    let p : at + 24 + 24 * m ≡ at + 24 * suc m = omega arith in
+    rw e (ap (λ (rows : List Row). rowOf s (fieldsAt s at) ∷ rows) (rw p at (rows-parts s (at + 24) m n)))
+
+-- the rows before i, and those from i on
+pub rows-apart : (s : List ℕ) (begin n i : ℕ) → i ≤ n → rowsAt s begin n ≡ rowsAt s begin i ++ rowsAt s (begin + 24 * i) (n - i)
+rows-apart s begin n i h = let e : i + (n - i) ≡ n = omega arith in rw e at (rows-parts s begin i (n - i))

@@ -1,16 +1,19 @@
 // The check of messages 1, by which entries follow the day's order: one pass over the rows of a lent image, from the last to the first.
 use crate::accesses;
 use crate::clashes;
+use crate::floor;
 use crate::pass;
 use crate::pass::Checked;
 use crate::pass::Seen;
 use rows::row;
 use rows::row::RowFields;
 ghost use mathlib.Core.Path.{_≡_};
+ghost use mathlib.Core.Bool.{true};
 ghost use Prim.Native.Nat.{_+_, _*_, _≤_};
 ghost use lib.Dec.{ltb};
 ghost use lib.ListN.{length};
 ghost use Rattle.rules.specs.Tests.{both};
+ghost use Rattle.rules.specs.Tables.{rising};
 ghost use Rattle.rules.specs.DayOrder.{stale, dayA, common, dayB, dayCheck};
 ghost use Rattle.rows.specs.Read.{accessesAt, rowOf, rowsAt, bodyAt};
 ghost use Rattle.rows.specs.Inner.Rows.{BodyInside, RowsInside};
@@ -105,11 +108,12 @@ pub fn check(
     reads: usize,
     writes: usize,
 ) -> Checked
-    requires { ⌜ RowsInside (now image) begin rows × (9 * (reads + writes) ≤ length (now body)) ⌝ }
+    requires { ⌜ RowsInside (now image) begin rows × (9 * (reads + writes) ≤ length (now body)) × (rising 0 (rowsAt (now image) begin rows) ≡ true) ⌝ }
     ensures { λ r. ⌜ r ≡ checkedAs (dayCheck (rowsAt (now (image .entry)) begin rows) stamp (bodyAt (now (body .entry)) 0 reads writes)) ⌝ }
 {
     let readmarks = accesses::marks_of(body, 0, reads);
     let writtenmarks = accesses::marks_of(body, reads, writes);
+    let floor = floor::floor(body, reads, stamp);
     let mut seen = Seen {
         advice: 0,
         abort: false,
@@ -120,6 +124,9 @@ pub fn check(
     while 0 < i {
         i -= 1;
         let row = row::row_at(image, begin, i);
+        if row.stamp <= floor {
+            return pass::answer(seen);
+        }
         seen = with_row(
             seen,
             image,
@@ -131,6 +138,9 @@ pub fn check(
             &readmarks,
             &writtenmarks,
         );
+        if seen.abort {
+            return pass::answer(seen);
+        }
     }
     pass::answer(seen)
 }

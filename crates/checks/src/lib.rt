@@ -4,5 +4,6 @@
 pub mod accesses;
 pub mod clashes;
 pub mod day;
+pub mod floor;
 pub mod newest;
 pub mod pass;

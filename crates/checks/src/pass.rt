@@ -1,11 +1,14 @@
 // The check: one pass over the rows of a lent image, from the last to the first, with four running answers. It is the merge's; that of messages 1 keeps the same answers (`day`).
 use crate::clashes;
+use crate::floor;
 use rows::row;
 use rows::row::RowFields;
 ghost use mathlib.Core.Path.{_≡_};
+ghost use mathlib.Core.Bool.{true};
 ghost use Prim.Native.Nat.{_+_, _*_, _≤_};
 ghost use lib.Dec.{eqb};
 ghost use lib.ListN.{length};
+ghost use Rattle.rules.specs.Tables.{rising};
 ghost use Rattle.rules.specs.Check.{ruleA, ruleB, check};
 ghost use Rattle.rows.specs.Read.{rowOf, rowsAt, bodyAt};
 ghost use Rattle.rows.specs.Inner.Rows.{BodyInside, RowsInside};
@@ -154,9 +157,10 @@ pub fn check(
     reads: usize,
     writes: usize,
 ) -> Checked
-    requires { ⌜ RowsInside (now image) begin rows × (9 * (reads + writes) ≤ length (now body)) ⌝ }
+    requires { ⌜ RowsInside (now image) begin rows × (9 * (reads + writes) ≤ length (now body)) × (rising 0 (rowsAt (now image) begin rows) ≡ true) ⌝ }
     ensures { λ r. ⌜ r ≡ checkedAs (check (rowsAt (now (image .entry)) begin rows) stamp (bodyAt (now (body .entry)) 0 reads writes)) ⌝ }
 {
+    let floor = floor::floor(body, reads, stamp);
     let mut seen = Seen {
         advice: 0,
         abort: false,
@@ -167,7 +171,13 @@ pub fn check(
     while 0 < i {
         i -= 1;
         let row = row::row_at(image, begin, i);
+        if row.stamp <= floor {
+            return answer(seen);
+        }
         seen = with_row(seen, image, row, stamp, body, reads, writes);
+        if seen.abort {
+            return answer(seen);
+        }
     }
     answer(seen)
 }

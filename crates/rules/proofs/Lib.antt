@@ -10,6 +10,7 @@ pub mod Check
 pub mod DayOrder
 pub mod Room
 pub mod Rows
+pub mod Floor
 pub mod Tables
 pub mod Answers
 pub mod Taken

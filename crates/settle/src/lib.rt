@@ -25,7 +25,7 @@ ghost use Rattle.settle.specs.Inner.Turns.{hasStamp, waits, checkedBy, c
 
 // Gives the row at an index what the check says of it, final.
 fn check_row(out: &mut [u8], index: usize)
-    requires { ⌜ Holds formatOne (now out) × (index < headerAt (now out) .rows) × (every hasStamp (tableAt formatOne (now out) .rows) ≡ true) ⌝ }
+    requires { ⌜ Holds formatOne (now out) × (index < headerAt (now out) .rows) × (every hasStamp (tableAt formatOne (now out) .rows) ≡ true) × (rising 0 (tableAt formatOne (now out) .rows) ≡ true) ⌝ }
     ensures { λ _. ⌜ now (out .exit) ≡ edited formatOne (onRow index (checkedBy (tableAt formatOne (now (out .entry)) .rows))) (now (out .entry)) ⌝ }
 {
     let rows = header::read(out).rows as usize;

@@ -10,7 +10,7 @@ use Rattle.wire.proofs.Numbers.{all-of}
 use Rattle.rows.specs.Fields.{fieldsAt, retryByCode}
 use Rattle.rows.proofs.Turns.{length-body-part}
 use Rattle.table.specs.Images.{formatOne}
-use Rattle.edit.proofs.Holding.{one-starts, holds-least, holds-row-inside}
+use Rattle.edit.proofs.Holding.{holds-rows-at, one-starts, holds-least, holds-row-inside}
 use Rattle.settle.proofs.CheckedInPlace.{body-there, rows-there, checked-storable, checked-edited}
 use Rattle.settle.proofs.check_row.Statement.{statement}
 use Rattle.settle.proofs.check_row.Tie as tie
@@ -45,7 +45,7 @@ check-requires c κs =
     let p = k .before in
     let s = now (p .args .out) in
     let l = length-body-part s (fieldsAt s (24 + 24 * p .args .index)) (body-there s (known k) (p .pre .0) (p .args .index) (p .pre .1)) in
-    rw ((c .before .before .before .before .before .before .before) .read .ensures, (c .before .before) .body-of .ensures, (c .before .before .before .before) .row-at .ensures) (rows-there s (known k) (p .pre .0), omega (arith, l))
+    rw ((c .before .before .before .before .before .before .before) .read .ensures, (c .before .before) .body-of .ensures, (c .before .before .before .before) .row-at .ensures) (rows-there s (known k) (p .pre .0), omega (arith, l), rw (holds-rows-at formatOne s) at (p .pre .3))
 
 -- what the check gives can be stored
 storable : (c : tie.After-check) → (c .check .result .code + 4 ≤ 8) × (retryByCode (c .check .result .code + 4) (c .check .result .retry) ≡ true)

@@ -44,7 +44,7 @@ row-waits-requires c κs =
 check-row-requires : tie.Need-check-row-requires Inv-loop μ-loop
 check-row-requires c κs =
     let t = (c .before .before .before .before .before) .loop .inv .2 in
-    (t .holds, inside _ _ _ _ _ _ _ t ((c .before .before .before .before) .loop-test .taken), t .stamped)
+    (t .holds, inside _ _ _ _ _ _ _ t ((c .before .before .before .before) .loop-test .taken), t .stamped, t .rise)
 
 add-i : tie.Need-add-i Inv-loop μ-loop
 add-i c = let l = (c .before .before .before) .loop-test .taken in omega arith

@@ -9,7 +9,7 @@ use Rattle.table.proofs.Images.{valley-sound}
 use Rattle.table.specs.Images.{formatOne}
 use Rattle.edit.proofs.Holding.{holds-rows-at, one-starts, holds-least}
 use Rattle.seek.proofs.HeldRows.{image-holds}
-use Rattle.seek.proofs.SoughtRows.{rows-inside}
+use Rattle.seek.proofs.SoughtRows.{rows-inside, rows-rise}
 use Rattle.transact.proofs.prepare.check_new.Statement.{statement}
 use Rattle.transact.proofs.prepare.check_new.Tie as tie
 
@@ -31,7 +31,7 @@ cast-check-3 c = search needs
 check-requires : tie.Need-check-requires
 check-requires c κs = let p = (c .before .before .before .before .before .before .before) in
     let l = length-body-part (now (p .args .message)) (p .args .row) (p .pre .1) in
-    rw ((c .before .before .before .before) .read .ensures, (c .before .before) .body-of .ensures) (rows-inside valley (now (p .args .table)) valley-sound (p .pre .0), omega (arith, l))
+    rw ((c .before .before .before .before) .read .ensures, (c .before .before) .body-of .ensures) (rows-inside valley (now (p .args .table)) valley-sound (p .pre .0), omega (arith, l), rows-rise valley (now (p .args .table)) valley-sound (p .pre .0))
 
 returns : tie.Need-returns
 unfolding proposalCheck
