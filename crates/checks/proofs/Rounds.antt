@@ -2,12 +2,12 @@
 use mathlib.Core.Path.{_≡_, refl, sym, ap, _∙_}
 use mathlib.Core.Bool.{Bool, true, false, cond, _||_}
 use mathlib.Core.List.{List, [], _∷_, _++_}
-use mathlib.Core.Logic.{_⊎_, inl, inr}
+use mathlib.Core.Logic.{_⊎_, inl, inr, ⊎-elim}
 use Prim.Native.Nat.{ℕ, _+_, _-_, _*_, _≤_, _<_}
 use native.Mathlib.Nat.{zero-add}
 use native.Mathlib.Omega.{arith}
 use lib.Dec.{eqb, ltb, leb}
-use borrow.Author.Tests.{lt-ltb, le-ltb, eqb-true, lt-leb}
+use borrow.Author.Tests.{lt-ltb, le-ltb, eqb-true, lt-leb, leb-true}
 use Rattle.rules.specs.Tests.{both, either, any, kept, those, greatest}
 use Rattle.rules.specs.Stamps.{Body}
 use Rattle.rules.specs.Tables.{Result.ABORT, Row, outcomeCode, rising}
@@ -17,7 +17,7 @@ use Rattle.rules.specs.Inner.Clashes.{clash}
 use Rattle.rules.specs.Inner.Floor.{floorOf}
 use Rattle.rules.specs.Messages as messages
 use Rattle.rules.specs.Messages.{found, nothingFound, writeOf}
-use Rattle.rules.proofs.Logic.{impossible, cases, both-left, both-right, both-false, either-left, either-right, either-false}
+use Rattle.rules.proofs.Logic.{impossible, cases, both-left, both-right, both-false, either-cases, either-left, either-right, either-false}
 use Rattle.rules.proofs.Check.{overwrites-below, Counting}
 use Rattle.rules.proofs.Floor.{Silent, floor-silent, abort-sure}
 use Rattle.rows.specs.declared.row.RowFields.{RowFields}
@@ -27,7 +27,7 @@ use Rattle.rows.specs.Inner.Rows.{BodyInside, bodyPart}
 use Rattle.rows.proofs.Turns.{body-of-part}
 use Rattle.checks.specs.declared.pass.Seen.{Seen}
 use Rattle.checks.specs.Inner.Given.{checkedAs}
-use Rattle.checks.specs.Inner.Passed.{seenOf, raised, withNamed, later, rowClashes, seenWith, answerOf, foundIn}
+use Rattle.checks.specs.Inner.Passed.{seenOf, nothingSeen, raised, withNamed, later, rowClashes, seenWith, answerOf, foundIn}
 use Rattle.checks.proofs.StateBytes.{committed-byte}
 use Rattle.checks.proofs.Steps.{rows-step, rows-none, rows-all, rows-apart}
 use Rattle.checks.proofs.Registers.{writes-in, common-parts}
@@ -69,7 +69,7 @@ module _ (A B : Rule) (s : ℕ) (x : Body) where
       (B (λ q. true) s x r)
       (committed-only r))
 
-  pub seen-none : seenOf A B s x [] ≡ record { advice = 0; abort = false; retry = false; abstain = false }
+  pub seen-none : seenOf A B s x [] ≡ nothingSeen
   unfolding seenOf any retryStamp those greatest
   seen-none = refl
 
@@ -168,7 +168,7 @@ module _ (A B : Rule) (a-counts : Counting A) (b-counts : Counting B) (image : L
   SeenFrom i seen = seen ≡ seenOf A B s x (rowsAt image (begin + 24 * i) (n - i))
 
   -- nothing was passed
-  pub pass-begins : SeenFrom n (record { advice = 0; abort = false; retry = false; abstain = false })
+  pub pass-begins : SeenFrom n nothingSeen
   pass-begins = sym (ap (seenOf A B s x) (rows-none image _ n) ∙ seen-none A B s x)
 
   -- one more row
@@ -180,7 +180,7 @@ module _ (A B : Rule) (a-counts : Counting A) (b-counts : Counting B) (image : L
   pass-ends i seen z e = ap (λ (q : Seen). checkedAs (answerOf q)) (e ∙ ap (seenOf A B s x) (rows-all image begin n i z)) ∙ ap checkedAs (answer-check A B s x (rowsAt image begin n))
 
   -- the row at hand lies at or below the floor: the rows passed say all that there is to say
-  pub pass-stops : Silent A → Silent B → rising 0 (rowsAt image begin n) ≡ true → (i : ℕ) (seen : Seen) → 0 < i → i ≤ n → fieldsAt image (begin + 24 * (i - 1)) .stamp ≤ floorOf s (x .reads) → SeenFrom i seen →
+  pass-stops : Silent A → Silent B → rising 0 (rowsAt image begin n) ≡ true → (i : ℕ) (seen : Seen) → 0 < i → i ≤ n → fieldsAt image (begin + 24 * (i - 1)) .stamp ≤ floorOf s (x .reads) → SeenFrom i seen →
       checkedAs (answerOf seen) ≡ checkedAs (checkBy A B (rowsAt image begin n) s x)
   unfolding rowOf
   pass-stops silent-a silent-b rise i seen l h low e =
@@ -188,13 +188,18 @@ module _ (A B : Rule) (a-counts : Counting A) (b-counts : Counting B) (image : L
       ap checkedAs (ap answerOf e ∙ answer-check A B s x _ ∙ sym (ap (λ (rows : List Row). checkBy A B rows s x) split ∙ floor-silent A B s x silent-a silent-b 0 (rowsAt image begin (i - 1)) (rowOf image (fieldsAt image (begin + 24 * (i - 1)))) (rowsAt image (begin + 24 * i) (n - i)) (rw split at rise) low))
 
   -- an ABORT is sure, whatever the rows before say
-  pub pass-sure : (i : ℕ) (seen : Seen) → i ≤ n → seen .abort ≡ true → SeenFrom i seen → checkedAs (answerOf seen) ≡ checkedAs (checkBy A B (rowsAt image begin n) s x)
+  pass-sure : (i : ℕ) (seen : Seen) → i ≤ n → seen .abort ≡ true → SeenFrom i seen → checkedAs (answerOf seen) ≡ checkedAs (checkBy A B (rowsAt image begin n) s x)
   unfolding answerOf seenOf
   pass-sure i seen h sure e =
       let behind = rowsAt image (begin + 24 * i) (n - i) in
       let fires : any (A committed s x) behind ≡ true = sym (ap (λ (q : Seen). q .abort) e) ∙ sure in
       let says : answerOf seen ≡ ABORT = rw sure in
       ap checkedAs (says ∙ sym (ap (λ (rows : List Row). checkBy A B rows s x) (rows-apart image begin n i h) ∙ abort-sure A B s x (rowsAt image begin i) behind fires))
+
+  -- the pass is over, for either reason
+  pub pass-over : Silent A → Silent B → rising 0 (rowsAt image begin n) ≡ true → (i : ℕ) (seen : Seen) → 0 < i → i ≤ n → either (seen .abort) (leb (fieldsAt image (begin + 24 * (i - 1)) .stamp) (floorOf s (x .reads))) ≡ true → SeenFrom i seen →
+      checkedAs (answerOf seen) ≡ checkedAs (checkBy A B (rowsAt image begin n) s x)
+  pass-over silent-a silent-b rise i seen l h over e = ⊎-elim (λ sure. pass-sure i seen h sure e) (λ low. pass-stops silent-a silent-b rise i seen l h (leb-true _ _ low) e) (either-cases _ _ over)
 
 -- ---- message 7
 

@@ -7,6 +7,7 @@ ghost use lib.ListN.{length};
 ghost use Rattle.rules.specs.DayOrder.{stale};
 ghost use Rattle.rules.specs.Inner.Clashes.{clash};
 ghost use Rattle.rows.specs.Read.{accessesAt, bodyAt};
+ghost use Rattle.checks.specs.Inner.RegisterWrites.{Marked};
 
 // Whether one of the reads of a body is of a version below `w` and of a register that a transaction at `w` writes. Nothing is asked of the reader's own stamp.
 pub fn stale(w: u64, writer: &[u8], from: usize, writes: usize, reader: &[u8], reads: usize) -> bool
@@ -26,7 +27,26 @@ pub fn stale(w: u64, writer: &[u8], from: usize, writes: usize, reader: &[u8], r
     false
 }
 
-// Whether a transaction clashes with another one. Only the one with the greater stamp can have read too early, so one side is looked at.
+// Whether a read is stale by the writes of a row. They are looked up among the marks of what is read, and compared only where one is marked.
+pub fn stale_marked(
+    w: u64,
+    held: &[u8],
+    read: usize,
+    wrote: usize,
+    body: &[u8],
+    reads: usize,
+    marks: &[bool; 64],
+) -> bool
+    requires { ⌜ (9 * (read + wrote) ≤ length (now held)) × (9 * reads ≤ length (now body)) ⌝ }
+    ensures { λ r. ⌜ (Marked (now (marks .entry)) (accessesAt (now (body .entry)) 0 reads) → r ≡ stale w (accessesAt (now (held .entry)) (9 * read) wrote) (accessesAt (now (body .entry)) 0 reads)) ⌝ }
+{
+    if accesses::any_marked(held, read, wrote, marks) {
+        return stale(w, held, read, wrote, body, reads);
+    }
+    false
+}
+
+// Whether a transaction clashes with another one. Only the one with the greater stamp can have read too early, so one side is looked at: its reads are marked if it is the first.
 pub fn clashes(
     stamp: u64,
     body: &[u8],
@@ -36,12 +56,13 @@ pub fn clashes(
     held: &[u8],
     read: usize,
     wrote: usize,
+    marks: &[bool; 64],
 ) -> bool
     requires { ⌜ (9 * (reads + writes) ≤ length (now body)) × (9 * (read + wrote) ≤ length (now held)) ⌝ }
-    ensures { λ r. ⌜ r ≡ clash stamp (bodyAt (now (body .entry)) 0 reads writes) other (bodyAt (now (held .entry)) 0 read wrote) ⌝ }
+    ensures { λ r. ⌜ (Marked (now (marks .entry)) (accessesAt (now (body .entry)) 0 reads) → r ≡ clash stamp (bodyAt (now (body .entry)) 0 reads writes) other (bodyAt (now (held .entry)) 0 read wrote)) ⌝ }
 {
     if other < stamp {
-        return stale(other, held, read, wrote, body, reads);
+        return stale_marked(other, held, read, wrote, body, reads, marks);
     }
     if stamp < other {
         return stale(stamp, body, reads, writes, held, read);

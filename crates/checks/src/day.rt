@@ -6,7 +6,6 @@ use crate::pass;
 use crate::pass::Checked;
 use crate::pass::Seen;
 use rows::row;
-use rows::row::RowFields;
 ghost use mathlib.Core.Path.{_≡_};
 ghost use mathlib.Core.Bool.{true};
 ghost use Prim.Native.Nat.{_+_, _*_, _≤_};
@@ -14,31 +13,13 @@ ghost use lib.Dec.{ltb};
 ghost use lib.ListN.{length};
 ghost use Rattle.rules.specs.Tests.{both};
 ghost use Rattle.rules.specs.Tables.{rising};
-ghost use Rattle.rules.specs.DayOrder.{stale, dayA, common, dayB, dayCheck};
+ghost use Rattle.rules.specs.DayOrder.{dayA, common, dayB, dayCheck};
+ghost use Rattle.rows.specs.Fields.{rowLength, fieldsAt};
 ghost use Rattle.rows.specs.Read.{accessesAt, rowOf, rowsAt, bodyAt};
 ghost use Rattle.rows.specs.Inner.Rows.{BodyInside, RowsInside};
 ghost use Rattle.checks.specs.Inner.Given.{checkedAs};
 ghost use Rattle.checks.specs.Inner.RegisterWrites.{Marked};
 ghost use Rattle.checks.specs.Inner.Passed.{seenWith};
-
-// Whether a read is stale by the writes of a row. They are looked up among the marks of what is read, and compared only where one is marked.
-fn stale(
-    w: u64,
-    held: &[u8],
-    read: usize,
-    wrote: usize,
-    body: &[u8],
-    reads: usize,
-    marks: &[bool; 64],
-) -> bool
-    requires { ⌜ (9 * (read + wrote) ≤ length (now held)) × (9 * reads ≤ length (now body)) ⌝ }
-    ensures { λ r. ⌜ (Marked (now (marks .entry)) (accessesAt (now (body .entry)) 0 reads) → r ≡ stale w (accessesAt (now (held .entry)) (9 * read) wrote) (accessesAt (now (body .entry)) 0 reads)) ⌝ }
-{
-    if accesses::any_marked(held, read, wrote, marks) {
-        return clashes::stale(w, held, read, wrote, body, reads);
-    }
-    false
-}
 
 // Whether a transaction at `other` lies above the stamp and reads or writes a register that is written. Its reads and its writes stand one behind the other, and are looked up among the marks of what is written.
 fn later(
@@ -64,7 +45,8 @@ fn later(
 fn with_row(
     seen: Seen,
     image: &[u8],
-    row: RowFields,
+    begin: usize,
+    index: usize,
     stamp: u64,
     body: &[u8],
     reads: usize,
@@ -72,16 +54,17 @@ fn with_row(
     readmarks: &[bool; 64],
     writtenmarks: &[bool; 64],
 ) -> Seen
-    requires { ⌜ BodyInside (now image) row × (9 * (reads + writes) ≤ length (now body)) ⌝ }
-    ensures { λ r. ⌜ (Marked (now (readmarks .entry)) (accessesAt (now (body .entry)) 0 reads) → Marked (now (writtenmarks .entry)) (accessesAt (now (body .entry)) (9 * reads) writes) → r ≡ seenWith dayA dayB stamp (bodyAt (now (body .entry)) 0 reads writes) (rowOf (now (image .entry)) row) seen) ⌝ }
+    requires { ⌜ (begin + rowLength * index + rowLength ≤ length (now image)) × BodyInside (now image) (fieldsAt (now image) (begin + rowLength * index)) × (9 * (reads + writes) ≤ length (now body)) ⌝ }
+    ensures { λ r. ⌜ (Marked (now (readmarks .entry)) (accessesAt (now (body .entry)) 0 reads) → Marked (now (writtenmarks .entry)) (accessesAt (now (body .entry)) (9 * reads) writes) → r ≡ seenWith dayA dayB stamp (bodyAt (now (body .entry)) 0 reads writes) (rowOf (now (image .entry)) (fieldsAt (now (image .entry)) (begin + rowLength * index))) seen) ⌝ }
 {
-    if !pass::accepted(row.prepare, row.outcome) {
+    if !pass::row_accepted(image, begin, index) {
         return seen;
     }
+    let row = row::row_at(image, begin, index);
     let held = row::body_of(image, row);
     let read = row.reads as usize;
     let wrote = row.writes as usize;
-    let a = stale(row.stamp, held, read, wrote, body, reads, readmarks);
+    let a = clashes::stale_marked(row.stamp, held, read, wrote, body, reads, readmarks);
     let b = later(
         stamp,
         body,
@@ -114,23 +97,18 @@ pub fn check(
     let readmarks = accesses::marks_of(body, 0, reads);
     let writtenmarks = accesses::marks_of(body, reads, writes);
     let floor = floor::floor(body, reads, stamp);
-    let mut seen = Seen {
-        advice: 0,
-        abort: false,
-        retry: false,
-        abstain: false,
-    };
+    let mut seen = pass::nothing_seen();
     let mut i = rows;
     while 0 < i {
         i -= 1;
-        let row = row::row_at(image, begin, i);
-        if row.stamp <= floor {
+        if pass::over(seen, row::row_at(image, begin, i).stamp, floor) {
             return pass::answer(seen);
         }
         seen = with_row(
             seen,
             image,
-            row,
+            begin,
+            i,
             stamp,
             body,
             reads,
@@ -138,9 +116,6 @@ pub fn check(
             &readmarks,
             &writtenmarks,
         );
-        if seen.abort {
-            return pass::answer(seen);
-        }
     }
     pass::answer(seen)
 }

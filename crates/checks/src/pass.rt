@@ -1,19 +1,22 @@
 // The check: one pass over the rows of a lent image, from the last to the first, with four running answers. It is the merge's; that of messages 1 keeps the same answers (`day`).
+use crate::accesses;
 use crate::clashes;
 use crate::floor;
 use rows::row;
-use rows::row::RowFields;
 ghost use mathlib.Core.Path.{_≡_};
 ghost use mathlib.Core.Bool.{true};
 ghost use Prim.Native.Nat.{_+_, _*_, _≤_};
-ghost use lib.Dec.{eqb};
+ghost use lib.Dec.{eqb, leb};
 ghost use lib.ListN.{length};
+ghost use Rattle.rules.specs.Tests.{either};
 ghost use Rattle.rules.specs.Tables.{rising};
-ghost use Rattle.rules.specs.Check.{ruleA, ruleB, check};
-ghost use Rattle.rows.specs.Read.{rowOf, rowsAt, bodyAt};
+ghost use Rattle.rules.specs.Check.{accepted, ruleA, ruleB, check};
+ghost use Rattle.rows.specs.Fields.{rowLength, fieldsAt};
+ghost use Rattle.rows.specs.Read.{accessesAt, rowOf, rowsAt, bodyAt};
 ghost use Rattle.rows.specs.Inner.Rows.{BodyInside, RowsInside};
 ghost use Rattle.checks.specs.Inner.Given.{checkedAs};
-ghost use Rattle.checks.specs.Inner.Passed.{acceptedBytes, raised, withNamed, rowClashes, seenWith, answerOf};
+ghost use Rattle.checks.specs.Inner.RegisterWrites.{Marked};
+ghost use Rattle.checks.specs.Inner.Passed.{acceptedBytes, raised, withNamed, rowClashes, seenWith, nothingSeen, answerOf};
 
 // The check's result as a row has it: its code and its retry stamp.
 pub struct Checked {
@@ -42,19 +45,31 @@ pub fn accepted(prepare: u8, outcome: u8) -> bool
     prepare == 1 || prepare == 5
 }
 
-// Whether a row is accepted and clashes with the transaction.
+// Whether the row at an index is accepted. Of one that is not nothing else is loaded, and a merge at work passes many that still wait.
+pub fn row_accepted(image: &[u8], begin: usize, index: usize) -> bool
+    requires { ⌜ begin + rowLength * index + rowLength ≤ length (now image) ⌝ }
+    ensures { λ r. ⌜ r ≡ accepted (rowOf (now (image .entry)) (fieldsAt (now (image .entry)) (begin + rowLength * index))) ⌝ }
+{
+    let row = row::row_at(image, begin, index);
+    accepted(row.prepare, row.outcome)
+}
+
+// Whether the row at an index is accepted and clashes with the transaction, of which the reads are marked.
 fn row_clashes(
     image: &[u8],
-    row: RowFields,
+    begin: usize,
+    index: usize,
     stamp: u64,
     body: &[u8],
     reads: usize,
     writes: usize,
+    marks: &[bool; 64],
 ) -> bool
-    requires { ⌜ BodyInside (now image) row × (9 * (reads + writes) ≤ length (now body)) ⌝ }
-    ensures { λ r. ⌜ r ≡ rowClashes stamp (bodyAt (now (body .entry)) 0 reads writes) (rowOf (now (image .entry)) row) ⌝ }
+    requires { ⌜ (begin + rowLength * index + rowLength ≤ length (now image)) × BodyInside (now image) (fieldsAt (now image) (begin + rowLength * index)) × (9 * (reads + writes) ≤ length (now body)) ⌝ }
+    ensures { λ r. ⌜ (Marked (now (marks .entry)) (accessesAt (now (body .entry)) 0 reads) → r ≡ rowClashes stamp (bodyAt (now (body .entry)) 0 reads writes) (rowOf (now (image .entry)) (fieldsAt (now (image .entry)) (begin + rowLength * index)))) ⌝ }
 {
-    if accepted(row.prepare, row.outcome) {
+    if row_accepted(image, begin, index) {
+        let row = row::row_at(image, begin, index);
         return clashes::clashes(
             stamp,
             body,
@@ -64,6 +79,7 @@ fn row_clashes(
             row::body_of(image, row),
             row.reads as usize,
             row.writes as usize,
+            marks,
         );
     }
     false
@@ -107,16 +123,19 @@ pub fn with_named(seen: Seen, other: u64, outcome: u8, a: bool, b: bool) -> Seen
 fn with_row(
     seen: Seen,
     image: &[u8],
-    row: RowFields,
+    begin: usize,
+    index: usize,
     stamp: u64,
     body: &[u8],
     reads: usize,
     writes: usize,
+    marks: &[bool; 64],
 ) -> Seen
-    requires { ⌜ BodyInside (now image) row × (9 * (reads + writes) ≤ length (now body)) ⌝ }
-    ensures { λ r. ⌜ r ≡ seenWith ruleA ruleB stamp (bodyAt (now (body .entry)) 0 reads writes) (rowOf (now (image .entry)) row) seen ⌝ }
+    requires { ⌜ (begin + rowLength * index + rowLength ≤ length (now image)) × BodyInside (now image) (fieldsAt (now image) (begin + rowLength * index)) × (9 * (reads + writes) ≤ length (now body)) ⌝ }
+    ensures { λ r. ⌜ (Marked (now (marks .entry)) (accessesAt (now (body .entry)) 0 reads) → r ≡ seenWith ruleA ruleB stamp (bodyAt (now (body .entry)) 0 reads writes) (rowOf (now (image .entry)) (fieldsAt (now (image .entry)) (begin + rowLength * index))) seen) ⌝ }
 {
-    if row_clashes(image, row, stamp, body, reads, writes) {
+    if row_clashes(image, begin, index, stamp, body, reads, writes, marks) {
+        let row = row::row_at(image, begin, index);
         return with_named(
             seen,
             row.stamp,
@@ -126,6 +145,25 @@ fn with_row(
         );
     }
     seen
+}
+
+// What is known before the first row.
+pub fn nothing_seen() -> Seen
+    ensures { λ r. ⌜ r ≡ nothingSeen ⌝ }
+{
+    Seen {
+        advice: 0,
+        abort: false,
+        retry: false,
+        abstain: false,
+    }
+}
+
+// Whether a pass is over before the row at a stamp: an ABORT is sure whatever else is met, or no row from here down can speak.
+pub fn over(seen: Seen, stamp: u64, floor: u64) -> bool
+    ensures { λ r. ⌜ r ≡ either (seen .abort) (leb stamp floor) ⌝ }
+{
+    seen.abort || stamp <= floor
 }
 
 // What all rows together say: A comes first, then B, then C.
@@ -160,24 +198,16 @@ pub fn check(
     requires { ⌜ RowsInside (now image) begin rows × (9 * (reads + writes) ≤ length (now body)) × (rising 0 (rowsAt (now image) begin rows) ≡ true) ⌝ }
     ensures { λ r. ⌜ r ≡ checkedAs (check (rowsAt (now (image .entry)) begin rows) stamp (bodyAt (now (body .entry)) 0 reads writes)) ⌝ }
 {
+    let marks = accesses::marks_of(body, 0, reads);
     let floor = floor::floor(body, reads, stamp);
-    let mut seen = Seen {
-        advice: 0,
-        abort: false,
-        retry: false,
-        abstain: false,
-    };
+    let mut seen = nothing_seen();
     let mut i = rows;
     while 0 < i {
         i -= 1;
-        let row = row::row_at(image, begin, i);
-        if row.stamp <= floor {
+        if over(seen, row::row_at(image, begin, i).stamp, floor) {
             return answer(seen);
         }
-        seen = with_row(seen, image, row, stamp, body, reads, writes);
-        if seen.abort {
-            return answer(seen);
-        }
+        seen = with_row(seen, image, begin, i, stamp, body, reads, writes, &marks);
     }
     answer(seen)
 }

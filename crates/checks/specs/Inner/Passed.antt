@@ -1,5 +1,5 @@
 -- What rows that were passed say, as the code keeps it while it goes on.
-use mathlib.Core.Bool.{Bool, true, not, cond}
+use mathlib.Core.Bool.{Bool, true, false, not, cond}
 use mathlib.Core.List.{List}
 use Prim.Native.Nat.{ℕ, max}
 use lib.Dec.{eqb, ltb, leb}
@@ -24,6 +24,10 @@ seenOf A B s x rows =
       retry = any (B committed s x) rows;
       abstain = any (λ r. either (A prepared s x r) (B prepared s x r)) rows;
     }
+
+-- no row was passed
+abbrev pub nothingSeen : Seen
+nothingSeen = record { advice = 0; abort = false; retry = false; abstain = false }
 
 -- "Committed: outcome 3. Prepared: prepare byte 1 or 5 and outcome 0, 1 or 2.": either, by a row's two bytes
 unfoldable pub acceptedBytes : ℕ → ℕ → Bool

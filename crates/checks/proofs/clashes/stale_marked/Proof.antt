@@ -5,8 +5,8 @@ use borrow.Author.Needs.{needs}
 use denote.Ref.{now}
 use Rattle.rows.specs.Read.{accessesAt}
 use Rattle.checks.proofs.Marks.{unmarked-stale}
-use Rattle.checks.proofs.day.stale.Statement.{statement}
-use Rattle.checks.proofs.day.stale.Tie as tie
+use Rattle.checks.proofs.clashes.stale_marked.Statement.{statement}
+use Rattle.checks.proofs.clashes.stale_marked.Tie as tie
 
 any-marked-requires : tie.Need-any-marked-requires
 any-marked-requires c κs = search needs
@@ -22,5 +22,5 @@ returns-2 c m =
     let a = c .before .before .before .before .args in
     sym (unmarked-stale (now (a .marks)) (accessesAt (now (a .held)) (9 * a .read) (a .wrote)) (accessesAt (now (a .body)) 0 (a .reads)) m (sym (c .before .any-marked .ensures) ∙ c .if1 .left) (a .w))
 
-pub stale-spec : {M : Type 1} → statement M
-stale-spec = tie.close (tie.spec any-marked-requires stale-requires returns returns-2)
+pub stale-marked-spec : {M : Type 1} → statement M
+stale-marked-spec = tie.close (tie.spec any-marked-requires stale-requires returns returns-2)
