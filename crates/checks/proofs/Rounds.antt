@@ -1,13 +1,13 @@
 -- What the rows say, with one more row; and that all of them together say what the check says.
 use mathlib.Core.Path.{_≡_, refl, sym, ap, _∙_}
 use mathlib.Core.Bool.{Bool, true, false, cond, _||_}
-use mathlib.Core.List.{List, [], _∷_, _++_}
-use mathlib.Core.Logic.{_⊎_, inl, inr, ⊎-elim}
+use mathlib.Core.List.{List, [], _∷_}
+use mathlib.Core.Logic.{_⊎_, inl, inr}
 use Prim.Native.Nat.{ℕ, _+_, _-_, _*_, _≤_, _<_}
 use native.Mathlib.Nat.{zero-add}
 use native.Mathlib.Omega.{arith}
 use lib.Dec.{eqb, ltb, leb}
-use borrow.Author.Tests.{lt-ltb, le-ltb, eqb-true, lt-leb, leb-true}
+use borrow.Author.Tests.{lt-ltb, le-ltb, eqb-true, lt-leb}
 use Rattle.rules.specs.Tests.{both, either, any, kept, those, greatest}
 use Rattle.rules.specs.Stamps.{Body}
 use Rattle.rules.specs.Tables.{Result.ABORT, Row, outcomeCode, rising}
@@ -17,19 +17,20 @@ use Rattle.rules.specs.Inner.Clashes.{clash}
 use Rattle.rules.specs.Inner.Floor.{floorOf}
 use Rattle.rules.specs.Messages as messages
 use Rattle.rules.specs.Messages.{found, nothingFound, writeOf}
-use Rattle.rules.proofs.Logic.{impossible, cases, both-left, both-right, both-false, either-cases, either-left, either-right, either-false}
+use Rattle.rules.proofs.Logic.{impossible, cases, both-left, both-right, both-false, either-left, either-right, either-false}
 use Rattle.rules.proofs.Check.{overwrites-below, Counting}
 use Rattle.rules.proofs.Floor.{Silent, floor-silent, abort-sure}
 use Rattle.rows.specs.declared.row.RowFields.{RowFields}
 use Rattle.rows.specs.Fields.{fieldsAt}
 use Rattle.rows.specs.Read.{accessesAt, bodyAt, rowOf, rowsAt}
+use Rattle.rows.specs.Inner.Places.{lower}
 use Rattle.rows.specs.Inner.Rows.{BodyInside, bodyPart}
 use Rattle.rows.proofs.Turns.{body-of-part}
 use Rattle.checks.specs.declared.pass.Seen.{Seen}
 use Rattle.checks.specs.Inner.Given.{checkedAs}
 use Rattle.checks.specs.Inner.Passed.{seenOf, nothingSeen, raised, withNamed, later, rowClashes, seenWith, answerOf, foundIn}
 use Rattle.checks.proofs.StateBytes.{committed-byte}
-use Rattle.checks.proofs.Steps.{rows-step, rows-none, rows-all, rows-apart}
+use Rattle.checks.proofs.Steps.{rows-step, rows-none, rows-behind}
 use Rattle.checks.proofs.Registers.{writes-in, common-parts}
 
 -- ---- the check
@@ -175,31 +176,19 @@ module _ (A B : Rule) (a-counts : Counting A) (b-counts : Counting B) (image : L
   pub pass-goes-on : (i : ℕ) (seen : Seen) → 0 < i → i ≤ n → SeenFrom i seen → SeenFrom (i - 1) (seenWith A B s x (rowOf image (fieldsAt image (begin + 24 * (i - 1)))) seen)
   pass-goes-on i seen l h e = rw e (sym (ap (seenOf A B s x) (rows-step image begin n i l h) ∙ seen-step A B s x a-counts b-counts _ _))
 
-  -- all rows were passed
-  pub pass-ends : (i : ℕ) (seen : Seen) → i ≡ 0 → SeenFrom i seen → checkedAs (answerOf seen) ≡ checkedAs (checkBy A B (rowsAt image begin n) s x)
-  pass-ends i seen z e = ap (λ (q : Seen). checkedAs (answerOf q)) (e ∙ ap (seenOf A B s x) (rows-all image begin n i z)) ∙ ap checkedAs (answer-check A B s x (rowsAt image begin n))
-
-  -- the row at hand lies at or below the floor: the rows passed say all that there is to say
-  pass-stops : Silent A → Silent B → rising 0 (rowsAt image begin n) ≡ true → (i : ℕ) (seen : Seen) → 0 < i → i ≤ n → fieldsAt image (begin + 24 * (i - 1)) .stamp ≤ floorOf s (x .reads) → SeenFrom i seen →
-      checkedAs (answerOf seen) ≡ checkedAs (checkBy A B (rowsAt image begin n) s x)
-  unfolding rowOf
-  pass-stops silent-a silent-b rise i seen l h low e =
-      let split : rowsAt image begin n ≡ rowsAt image begin (i - 1) ++ (rowOf image (fieldsAt image (begin + 24 * (i - 1))) ∷ rowsAt image (begin + 24 * i) (n - i)) = rw (rows-step image begin n i l h) at (rows-apart image begin n (i - 1) (omega arith)) in
-      ap checkedAs (ap answerOf e ∙ answer-check A B s x _ ∙ sym (ap (λ (rows : List Row). checkBy A B rows s x) split ∙ floor-silent A B s x silent-a silent-b 0 (rowsAt image begin (i - 1)) (rowOf image (fieldsAt image (begin + 24 * (i - 1)))) (rowsAt image (begin + 24 * i) (n - i)) (rw split at rise) low))
+  -- the rows that were not passed lie below the floor: those that were say all that there is to say
+  pub pass-ends : Silent A → Silent B → rising 0 (rowsAt image begin n) ≡ true → (i : ℕ) (seen : Seen) → i ≤ n → i ≤ lower (rowsAt image begin n) (floorOf s (x .reads)) → SeenFrom i seen → checkedAs (answerOf seen) ≡ checkedAs (checkBy A B (rowsAt image begin n) s x)
+  unfolding lower
+  pass-ends silent-a silent-b rise i seen h below e =
+      ap checkedAs (ap answerOf e ∙ answer-check A B s x _ ∙ sym (floor-silent A B s x silent-a silent-b 0 i (rowsAt image begin n) rise below ∙ ap (λ (rows : List Row). checkBy A B rows s x) (rows-behind image begin n i h)))
 
   -- an ABORT is sure, whatever the rows before say
-  pass-sure : (i : ℕ) (seen : Seen) → i ≤ n → seen .abort ≡ true → SeenFrom i seen → checkedAs (answerOf seen) ≡ checkedAs (checkBy A B (rowsAt image begin n) s x)
+  pub pass-sure : (i : ℕ) (seen : Seen) → i ≤ n → seen .abort ≡ true → SeenFrom i seen → checkedAs (answerOf seen) ≡ checkedAs (checkBy A B (rowsAt image begin n) s x)
   unfolding answerOf seenOf
   pass-sure i seen h sure e =
-      let behind = rowsAt image (begin + 24 * i) (n - i) in
-      let fires : any (A committed s x) behind ≡ true = sym (ap (λ (q : Seen). q .abort) e) ∙ sure in
+      let fires : any (A committed s x) (rowsAt image (begin + 24 * i) (n - i)) ≡ true = sym (ap (λ (q : Seen). q .abort) e) ∙ sure in
       let says : answerOf seen ≡ ABORT = rw sure in
-      ap checkedAs (says ∙ sym (ap (λ (rows : List Row). checkBy A B rows s x) (rows-apart image begin n i h) ∙ abort-sure A B s x (rowsAt image begin i) behind fires))
-
-  -- the pass is over, for either reason
-  pub pass-over : Silent A → Silent B → rising 0 (rowsAt image begin n) ≡ true → (i : ℕ) (seen : Seen) → 0 < i → i ≤ n → either (seen .abort) (leb (fieldsAt image (begin + 24 * (i - 1)) .stamp) (floorOf s (x .reads))) ≡ true → SeenFrom i seen →
-      checkedAs (answerOf seen) ≡ checkedAs (checkBy A B (rowsAt image begin n) s x)
-  pass-over silent-a silent-b rise i seen l h over e = ⊎-elim (λ sure. pass-sure i seen h sure e) (λ low. pass-stops silent-a silent-b rise i seen l h (leb-true _ _ low) e) (either-cases _ _ over)
+      ap checkedAs (says ∙ sym (abort-sure A B s x i (rowsAt image begin n) (rw (rows-behind image begin n i h) fires)))
 
 -- ---- message 7
 

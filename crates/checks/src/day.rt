@@ -96,14 +96,11 @@ pub fn check(
 {
     let readmarks = accesses::marks_of(body, 0, reads);
     let writtenmarks = accesses::marks_of(body, reads, writes);
-    let floor = floor::floor(body, reads, stamp);
+    let silent = floor::silent_rows(image, begin, rows, body, reads, stamp);
     let mut seen = pass::nothing_seen();
     let mut i = rows;
-    while 0 < i {
+    while silent < i {
         i -= 1;
-        if pass::over(seen, row::row_at(image, begin, i).stamp, floor) {
-            return pass::answer(seen);
-        }
         seen = with_row(
             seen,
             image,
@@ -116,6 +113,9 @@ pub fn check(
             &readmarks,
             &writtenmarks,
         );
+        if seen.abort {
+            return pass::answer(seen);
+        }
     }
     pass::answer(seen)
 }

@@ -6,9 +6,8 @@ use rows::row;
 ghost use mathlib.Core.Path.{_≡_};
 ghost use mathlib.Core.Bool.{true};
 ghost use Prim.Native.Nat.{_+_, _*_, _≤_};
-ghost use lib.Dec.{eqb, leb};
+ghost use lib.Dec.{eqb};
 ghost use lib.ListN.{length};
-ghost use Rattle.rules.specs.Tests.{either};
 ghost use Rattle.rules.specs.Tables.{rising};
 ghost use Rattle.rules.specs.Check.{accepted, ruleA, ruleB, check};
 ghost use Rattle.rows.specs.Fields.{rowLength, fieldsAt};
@@ -159,13 +158,6 @@ pub fn nothing_seen() -> Seen
     }
 }
 
-// Whether a pass is over before the row at a stamp: an ABORT is sure whatever else is met, or no row from here down can speak.
-pub fn over(seen: Seen, stamp: u64, floor: u64) -> bool
-    ensures { λ r. ⌜ r ≡ either (seen .abort) (leb stamp floor) ⌝ }
-{
-    seen.abort || stamp <= floor
-}
-
 // What all rows together say: A comes first, then B, then C.
 pub fn answer(seen: Seen) -> Checked
     ensures { λ r. ⌜ r ≡ checkedAs (answerOf seen) ⌝ }
@@ -199,15 +191,15 @@ pub fn check(
     ensures { λ r. ⌜ r ≡ checkedAs (check (rowsAt (now (image .entry)) begin rows) stamp (bodyAt (now (body .entry)) 0 reads writes)) ⌝ }
 {
     let marks = accesses::marks_of(body, 0, reads);
-    let floor = floor::floor(body, reads, stamp);
+    let silent = floor::silent_rows(image, begin, rows, body, reads, stamp);
     let mut seen = nothing_seen();
     let mut i = rows;
-    while 0 < i {
+    while silent < i {
         i -= 1;
-        if over(seen, row::row_at(image, begin, i).stamp, floor) {
+        seen = with_row(seen, image, begin, i, stamp, body, reads, writes, &marks);
+        if seen.abort {
             return answer(seen);
         }
-        seen = with_row(seen, image, begin, i, stamp, body, reads, writes, &marks);
     }
     answer(seen)
 }

@@ -1,21 +1,23 @@
--- A check may end at its floor: what lies there or below is silent, by the merge's rules and by the day's. And it may end where an ABORT is sure.
+-- A check may end at its floor: what lies below it is silent, by the merge's rules and by the day's. And it may end where an ABORT is sure.
 use mathlib.Core.Path.{_≡_, refl, _∙_}
 use mathlib.Core.Bool.{Bool, true, false}
 use mathlib.Core.Logic.{_⊎_, inl, inr}
-use mathlib.Core.List.{List, [], _∷_, _++_, List·Memᴰ·head, List·Memᴰ·tail, List·Memᴰ·cases-cons, List·Memᴰ·not-nil}
-use Prim.Native.Nat.{ℕ, _≤_, _<_, min}
+use mathlib.Core.List.{List, [], _∷_, List·Memᴰ·cases-cons, List·Memᴰ·not-nil}
+use Prim.Native.Nat.{ℕ, zero, suc, _+_, _≤_, _<_, min}
 use native.Mathlib.Omega.{arith}
-use Rattle.rules.specs.Tests.{either, any, those}
+use lib.Dec.{ltb}
+use lib.ListN.{drop}
+use borrow.Author.Tests.{ltb-true, ltb-false, le-ltb}
+use Rattle.rules.specs.Tests.{either, any, those, count}
 use Rattle.rules.specs.Stamps.{Access, Body}
 use Rattle.rules.specs.Tables.{Result.ABORT, Row, rising}
 use Rattle.rules.specs.Check.{committed, prepared, accepted, Rule, ruleA, ruleB, retryStamp, checkBy}
 use Rattle.rules.specs.DayOrder.{dayA, dayB}
 use Rattle.rules.specs.Inner.Floor.{floorOf}
-use Rattle.rules.proofs.Logic.{cases, both-right, either-second}
-use Rattle.rules.proofs.Lists.{_∈_, any-append}
+use Rattle.rules.proofs.Logic.{cases, both-left, both-right, either-second}
+use Rattle.rules.proofs.Lists.{_∈_}
 use Rattle.rules.proofs.Check.{overwrites-at, Above, b-above}
 use Rattle.rules.proofs.DayOrder.{stale-at, day-b-above}
-use Rattle.rules.proofs.Rows.{rising-above}
 
 -- ---- the floor
 
@@ -71,25 +73,48 @@ day-b-silent = above-silent dayB day-b-above
 
 -- ---- what may be left out
 
+-- rising rows from a stamp on have none below it
+none-below : (f low : ℕ) (rows : List Row) → f ≤ low → rising low rows ≡ true → count (λ q. ltb (q .stamp) f) rows ≡ 0
+unfolding rising count
+none-below f low [] l rise = refl
+none-below f low (r ∷ rows) l rise =
+    let k = ltb-true low (r .stamp) (both-left _ _ rise) in
+    rw (le-ltb (r .stamp) f (omega arith), none-below f (r .stamp) rows (omega arith) (both-right _ _ rise))
+
+any-behind : (test : Row → Bool) (n : ℕ) (rows : List Row) → any test (drop n rows) ≡ true → any test rows ≡ true
+unfolding any
+any-behind test zero rows h = h
+any-behind test (suc n) [] h = h
+any-behind test (suc n) (r ∷ rows) h = either-second _ _ (any-behind test n rows h)
+
 module _ (A B : Rule) (s : ℕ) (x : Body) where
   module _ (silent-a : Silent A) (silent-b : Silent B) where
     one-silent : (r : Row) (rows : List Row) → r .stamp ≤ floorOf s (x .reads) → checkBy A B (r ∷ rows) s x ≡ checkBy A B rows s x
     unfolding checkBy retryStamp any those either
     one-silent r rows l = rw (silent-a committed s x r l, silent-b committed s x r l, silent-a prepared s x r l, silent-b prepared s x r l, silent-b accepted s x r l)
 
-    -- of rising rows one lies at or below the floor: it may be left out, and all before it
-    pub floor-silent : (low : ℕ) (before : List Row) (r : Row) (behind : List Row) → rising low (before ++ (r ∷ behind)) ≡ true → r .stamp ≤ floorOf s (x .reads) → checkBy A B (before ++ (r ∷ behind)) s x ≡ checkBy A B behind s x
-    unfolding rising
-    floor-silent low [] r behind rise l = one-silent r behind l
-    floor-silent low (q ∷ before) r behind rise l =
-        let k = rising-above (q .stamp) (before ++ (r ∷ behind)) (both-right _ _ rise) r (amidst before) in
-        one-silent q (before ++ (r ∷ behind)) (omega arith) ∙ floor-silent (q .stamp) before r behind (both-right _ _ rise) l
+    -- of rising rows the first n may be left out, if so many lie below the floor
+    pub floor-silent : (low n : ℕ) (rows : List Row) → rising low rows ≡ true → n ≤ count (λ q. ltb (q .stamp) (floorOf s (x .reads))) rows → checkBy A B rows s x ≡ checkBy A B (drop n rows) s x
+    unfolding rising count
+    floor-silent low zero rows rise l = refl
+    floor-silent low (suc n) [] rise l = absurd (omega arith)
+    floor-silent low (suc n) (r ∷ rows) rise l = go (cases (ltb (r .stamp) (floorOf s (x .reads)))) (λ k. floor-silent (r .stamp) n rows (both-right _ _ rise) k)
       where
-        amidst : (rows : List Row) → r ∈ (rows ++ (r ∷ behind))
-        amidst [] = List·Memᴰ·head refl
-        amidst (p ∷ rows) = List·Memᴰ·tail (amidst rows)
+        below : ℕ
+        below = count (λ q. ltb (q .stamp) (floorOf s (x .reads))) rows
+
+        go : (ltb (r .stamp) (floorOf s (x .reads)) ≡ true) ⊎ (ltb (r .stamp) (floorOf s (x .reads)) ≡ false) → (n ≤ below → checkBy A B rows s x ≡ checkBy A B (drop n rows) s x) → checkBy A B (r ∷ rows) s x ≡ checkBy A B (drop n rows) s x
+        go (inl e) later =
+            let k : r .stamp < floorOf s (x .reads) = ltb-true _ _ e in
+            let m : suc n ≤ 1 + below = rw e at l in
+            one-silent r rows (omega arith) ∙ later (omega arith)
+        go (inr e) later =
+            let k : floorOf s (x .reads) ≤ r .stamp = ltb-false _ _ e in
+            let none = none-below (floorOf s (x .reads)) (r .stamp) rows k (both-right _ _ rise) in
+            let m : suc n ≤ 0 + below = rw e at l in
+            absurd (omega arith)
 
   -- A holds of a committed one of these rows: no other row can change the answer
-  pub abort-sure : (before behind : List Row) → any (A committed s x) behind ≡ true → checkBy A B (before ++ behind) s x ≡ ABORT
+  pub abort-sure : (n : ℕ) (rows : List Row) → any (A committed s x) (drop n rows) ≡ true → checkBy A B rows s x ≡ ABORT
   unfolding checkBy
-  abort-sure before behind h = rw (any-append (A committed s x) before behind ∙ either-second _ _ h)
+  abort-sure n rows h = rw (any-behind (A committed s x) n rows h)
