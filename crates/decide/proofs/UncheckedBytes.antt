@@ -1,15 +1,17 @@
 -- What a stamp's row holds before any check, in bytes: what the code puts together is what `rules` says.
 use mathlib.Core.Path.{_≡_, refl, sym, ap, _∙_}
-use mathlib.Core.Bool.{Bool, true, false, cond}
-use mathlib.Core.Logic.{inl, inr}
+use mathlib.Core.Bool.{Bool, true, false, cond, not}
+use mathlib.Core.Logic.{_⊎_, inl, inr}
 use mathlib.Core.List.{List}
 use mathlib.Core.Option.{Option, none, some}
 use Prim.Native.Nat.{ℕ, _+_, _≤_}
 use native.Mathlib.Omega.{arith}
 use lib.Dec.{eqb}
-use Rattle.rules.specs.Tests.{both, any}
+use borrow.Author.Tests.{eq-eqb, eqb-false}
+use Rattle.rules.specs.Tests.{both, any, isSome}
 use Rattle.rules.specs.Tables.{Result, Result.OK, Result.ABORT, Result.ABSTAIN, Result.RETRY, Prepare, Prepare.final, Verdict.commit, Verdict.abort, Outcome, Outcome.noOutcome, Outcome.noted, Outcome.done, Row, resultCode, prepareCode, prepareRetry, outcomeCode, rowByRule}
 use Rattle.rules.specs.Merge.{mergedOutcome, finalOf, agreedOf, holdsPrepare, standingFrom, standing, agreedPrepare, openPrepare, uncheckedPrepare}
+use Rattle.rules.proofs.Logic.{same?}
 use Rattle.rules.proofs.Lists.{_∈_}
 use Rattle.rules.proofs.Merge.{unchecked-retry}
 use Rattle.rules.proofs.Standings.{NoneOrDone, outcome-cases, standing-says}
@@ -20,7 +22,7 @@ use Rattle.gather.specs.Inner.State.{finalCode, stateOf, outcomeHeld}
 use Rattle.gather.specs.Inner.Agreed.{agreedAs}
 use Rattle.gather.proofs.StateSeen.{state-outcome}
 use Rattle.decide.specs.declared.unchecked.Unchecked.{Unchecked}
-use Rattle.decide.specs.Inner.Unsettled.{agreedByte, openByte, withoutFinal, uncheckedAs}
+use Rattle.decide.specs.Inner.Unsettled.{agreedByte, openByte, withoutFinal, uncheckedFrom, uncheckedAs}
 
 -- a prepare with an outcome byte
 abbrev coded : Prepare → ℕ → Unchecked
@@ -44,6 +46,13 @@ agreed-code (some OK) = omega arith
 agreed-code (some ABORT) = omega arith
 agreed-code (some ABSTAIN) = omega arith
 agreed-code (some (RETRY t)) = omega arith
+
+pub agreed-some : (o : Option Result) → not (eqb (agreedAs o .code) 0) ≡ isSome o
+agreed-some none = refl
+agreed-some (some OK) = refl
+agreed-some (some ABORT) = refl
+agreed-some (some ABSTAIN) = refl
+agreed-some (some (RETRY t)) = refl
 
 abbrev together : Agreed → Bool → ℕ → Unchecked
 together a held outcome = record { prepare = cond (eqb (a .code) 0) (cond held (openByte outcome) 0) (agreedByte (a .code) outcome); retry = cond (eqb (a .code) 0) 0 (a .retry); outcome = outcome }
@@ -91,6 +100,15 @@ without-final agreement rs z = go (finalOf rs) refl
     go none e =
         let held = any (λ r. holdsPrepare (r .prepare)) rs in
         rw e (ap (together (agreedAs (agreedOf agreement rs)) held) (state-outcome rs) ∙ not-final (agreedOf agreement rs) held (mergedOutcome rs) (merged-said rs))
+
+-- a final result as it is held, or what the agreed one says
+pub unchecked-from : (agreement : ℕ) (rs : List Row) → uncheckedFrom (stateOf rs) (agreedAs (agreedOf agreement rs)) ≡ uncheckedAs agreement rs
+unfolding uncheckedFrom
+unchecked-from agreement rs = go (same? (stateOf rs .prepare) 0)
+  where
+    go : (stateOf rs .prepare ≡ 0) ⊎ (eqb (stateOf rs .prepare) 0 ≡ false) → cond (eqb (stateOf rs .prepare) 0) (withoutFinal (stateOf rs) (agreedAs (agreedOf agreement rs))) (record { prepare = stateOf rs .prepare; retry = stateOf rs .retry; outcome = outcomeHeld (stateOf rs) }) ≡ uncheckedAs agreement rs
+    go (inl z) = rw (eq-eqb (stateOf rs .prepare) 0 z) (without-final agreement rs z)
+    go (inr d) = rw d (with-final agreement rs (eqb-false (stateOf rs .prepare) 0 d))
 
 -- ---- they can be stored, and are read as what they say
 

@@ -1,15 +1,9 @@
 // What a stamp's row holds before any check; nothing, if a check is still to come.
-use gather::agreed;
 use gather::agreed::Agreed;
-use gather::state;
 use gather::state::State;
 ghost use mathlib.Core.Path.{_≡_};
 ghost use Prim.Native.Nat.{_≤_};
-ghost use Rattle.rules.specs.Tables.{valley};
-ghost use Rattle.rules.specs.Merge.{rowsOf};
-ghost use Rattle.image_run.specs.Inner.WholeRuns.{tablesOf, Images};
-ghost use Rattle.gather.specs.Inner.UsedTables.{usedOf};
-ghost use Rattle.decide.specs.Inner.Unsettled.{agreedByte, openByte, withoutFinal, uncheckedAs};
+ghost use Rattle.decide.specs.Inner.Unsettled.{agreedByte, openByte, withoutFinal, uncheckedFrom};
 
 // A row's state: the prepare byte with its retry stamp, and the outcome byte.
 pub struct Unchecked {
@@ -71,12 +65,11 @@ fn without_final(state: State, agreed: Agreed) -> Unchecked
     }
 }
 
-// The state of a stamp's row from the used tables of a run. A final result stays.
-pub fn unchecked_state(run: &[u8], newest: u32, stamp: u64, agreement: usize) -> Unchecked
-    requires { ⌜ Images valley (now run) ⌝ }
-    ensures { λ r. ⌜ r ≡ uncheckedAs agreement (rowsOf (usedOf newest (tablesOf valley (now (run .entry)))) stamp) ⌝ }
+// The state of a stamp's row, by what its rows hold together and by the result that is agreed. A final result stays.
+pub fn unchecked_state(state: State, agreed: Agreed) -> Unchecked
+    requires { ⌜ agreed .code ≤ 4 ⌝ }
+    ensures { λ r. ⌜ r ≡ uncheckedFrom state agreed ⌝ }
 {
-    let state = state::state_of(run, newest, stamp);
     if state.prepare != 0 {
         return Unchecked {
             prepare: state.prepare,
@@ -84,5 +77,5 @@ pub fn unchecked_state(run: &[u8], newest: u32, stamp: u64, agreement: usize) ->
             outcome: state.outcome(),
         };
     }
-    without_final(state, agreed::agreed_result(run, newest, stamp, agreement))
+    without_final(state, agreed)
 }

@@ -1,27 +1,28 @@
 -- The agreed result of one stamp, row by row.
 use mathlib.Core.Path.{_≡_, refl, ap₂}
 use mathlib.Core.Bool.{Bool, true, false, cond}
-use mathlib.Core.Logic.{inl, inr}
 use mathlib.Core.List.{List, [], _∷_}
 use mathlib.Core.Option.{Option, none}
 use Prim.Native.Nat.{ℕ, _+_, _*_, _<_, _≤_}
 use native.Mathlib.Omega.{arith}
 use lib.Dec.{eqb, leb}
-use borrow.Author.Tests.{ne-eqb, ltb-true}
-use Rattle.wire.specs.Inner.ByteLists.{AllBytes}
+use borrow.Author.Tests.{ne-eqb}
 use Rattle.rules.specs.Tests.{both, count, provided, orElse, firstOf}
-use Rattle.rules.specs.Tables.{Result, Result.OK, Result.ABORT, Result.ABSTAIN, Result.RETRY, Prepare, Prepare.noPrepare, Prepare.tentative, Prepare.final, Row, Table, valley, resultCode, resultRetry, prepareCode, prepareRetry, sameResult}
+use Rattle.rules.specs.Tables.{Result, Result.OK, Result.ABORT, Result.ABSTAIN, Result.RETRY, Prepare, Prepare.noPrepare, Prepare.tentative, Prepare.final, Row, resultCode, resultRetry, prepareCode, prepareRetry, sameResult}
 use Rattle.rules.specs.Merge.{holdsTentative, isAgreed, tentativeResult, ifAgreed, agreedOf}
-use Rattle.rules.proofs.Logic.{eqb-sym, both-left}
-use Rattle.rows.specs.Fields.{fieldsAt}
-use Rattle.rows.specs.Read.{rowOf}
-use Rattle.table.specs.Parse.{BeginsWithImage}
-use Rattle.seek.proofs.HeldRows.{prepare-here, retry-here}
+use Rattle.rules.proofs.Logic.{eqb-sym}
 use Rattle.gather.specs.declared.agreed.Agreed.{Agreed}
-use Rattle.gather.specs.Inner.Agreed.{isTentative, holdsCodes, isEnough, agreedAs}
-use Rattle.gather.proofs.UsedRows.{rowsNow, rowsLater, fields, Told, told}
+use Rattle.gather.specs.Inner.Agreed.{isTentative, agreedAs}
 
 -- ---- a result by its codes
+
+-- a row with this prepare byte and retry stamp
+abbrev pub holdsCodes : ℕ → ℕ → Row → Bool
+holdsCodes prepare retry r = both (eqb (prepareCode (r .prepare)) prepare) (eqb (prepareRetry (r .prepare)) retry)
+
+-- it is a tentative result's, and enough rows hold it
+abbrev pub isEnough : ℕ → List Row → ℕ → ℕ → Bool
+isEnough agreement rs prepare retry = both (isTentative prepare) (leb agreement (count (holdsCodes prepare retry) rs))
 
 result-least : (q : Result) → (0 < resultCode q) × (resultCode q ≤ 4)
 result-least OK = (omega arith, omega arith)
@@ -62,14 +63,14 @@ final-code (RETRY t) = refl
 -- ---- the first that enough rows hold
 
 -- the first result of these rows that enough of all rows hold
-abbrev pub agreedAmong : ℕ → List Row → List Row → Option Result
-agreedAmong agreement all rs = firstOf (λ r. ifAgreed agreement all (tentativeResult (r .prepare))) rs
+abbrev pub agreedOfThese : ℕ → List Row → List Row → Option Result
+agreedOfThese agreement all rs = firstOf (λ r. ifAgreed agreement all (tentativeResult (r .prepare))) rs
 
-pub agreed-all : (agreement : ℕ) (rs : List Row) → agreedOf agreement rs ≡ agreedAmong agreement rs rs
+pub agreed-all : (agreement : ℕ) (rs : List Row) → agreedOf agreement rs ≡ agreedOfThese agreement rs rs
 unfolding agreedOf
 agreed-all agreement rs = refl
 
-pub agreed-none : (agreement : ℕ) (all : List Row) → agreedAmong agreement all [] ≡ none
+pub agreed-none : (agreement : ℕ) (all : List Row) → agreedOfThese agreement all [] ≡ none
 unfolding firstOf
 agreed-none agreement all = refl
 
@@ -86,36 +87,11 @@ one-agreed agreement all (tentative q) rest = rw (votes-codes q all, tentative-c
     go false = refl
 one-agreed agreement all (final q) rest = rw (final-code q) refl
 
-row-agreed : (agreement : ℕ) (all : List Row) (q : Row) (prepare retry : ℕ) (rs : List Row) → prepareCode (q .prepare) ≡ prepare → prepareRetry (q .prepare) ≡ retry → agreedAs (agreedAmong agreement all (q ∷ rs)) ≡ cond (isEnough agreement all prepare retry) (codesOf prepare retry) (agreedAs (agreedAmong agreement all rs))
+pub row-agreed : (agreement : ℕ) (all : List Row) (q : Row) (prepare retry : ℕ) (rs : List Row) → prepareCode (q .prepare) ≡ prepare → prepareRetry (q .prepare) ≡ retry → agreedAs (agreedOfThese agreement all (q ∷ rs)) ≡ cond (isEnough agreement all prepare retry) (codesOf prepare retry) (agreedAs (agreedOfThese agreement all rs))
 unfolding firstOf
-row-agreed agreement all q prepare retry rs p t = rw (← p, ← t) (one-agreed agreement all (q .prepare) (agreedAmong agreement all rs))
+row-agreed agreement all q prepare retry rs p t = rw (← p, ← t) (one-agreed agreement all (q .prepare) (agreedOfThese agreement all rs))
 
 -- bytes that hold nothing say nothing
-nothing-agreed : (agreement retry : ℕ) (all : List Row) → isEnough agreement all 0 retry ≡ false
+pub nothing-agreed : (agreement retry : ℕ) (all : List Row) → isEnough agreement all 0 retry ≡ false
 unfolding both
 nothing-agreed agreement retry all = refl
-
-module _ (newest stamp : ℕ) (s : List ℕ) (bytes : AllBytes s) (has-image : BeginsWithImage valley s) (Ts : List Table) where
-  pub agreed-turn : (agreement : ℕ) (all : List Row) →
-      let f = fields newest stamp s bytes has-image Ts in
-      agreedAs (agreedAmong agreement all (rowsNow newest stamp s bytes has-image Ts)) ≡ cond (isEnough agreement all (f .prepare) (f .retry)) (record { code = f .prepare; retry = f .retry }) (agreedAs (agreedAmong agreement all (rowsLater newest stamp s bytes has-image Ts)))
-  agreed-turn agreement all = go (told newest stamp s bytes has-image Ts)
-    where
-      go : Told newest stamp s bytes has-image Ts →
-          let f = fields newest stamp s bytes has-image Ts in
-          agreedAs (agreedAmong agreement all (rowsNow newest stamp s bytes has-image Ts)) ≡ cond (isEnough agreement all (f .prepare) (f .retry)) (record { code = f .prepare; retry = f .retry }) (agreedAs (agreedAmong agreement all (rowsLater newest stamp s bytes has-image Ts)))
-      go (inr (i, w)) = rw (w .place, w .rows, nothing-agreed agreement 0 all) refl
-      go (inl (i, h)) = rw (h .place, h .rows) (row-agreed agreement all (rowOf s (fieldsAt s (24 + 24 * i))) _ _ (rowsLater newest stamp s bytes has-image Ts) (prepare-here valley s stamp i bytes has-image (h .index)) (retry-here valley s stamp i bytes has-image (h .index)))
-
--- ---- by the bytes of a row
-
-pub tentative-counts : (prepare : ℕ) → isTentative prepare ≡ true → 0 < prepare
-tentative-counts prepare h = ltb-true 0 prepare (both-left _ _ h)
-
-pub enough-votes : (agreement prepare retry votes : ℕ) (rs : List Row) → isTentative prepare ≡ true → votes ≡ count (holdsCodes prepare retry) rs → leb agreement votes ≡ isEnough agreement rs prepare retry
-unfolding both
-enough-votes agreement prepare retry votes rs h e = rw (h, e) refl
-
-pub enough-not : (agreement prepare retry : ℕ) (rs : List Row) → isTentative prepare ≡ false → false ≡ isEnough agreement rs prepare retry
-unfolding both
-enough-not agreement prepare retry rs h = rw h refl

@@ -44,9 +44,8 @@ module _ (newest stamp : ℕ) (Ts : List Table) (s t : List ℕ) (held : FirstHe
     pub first-row : rowsOf (usedOf newest Ts) stamp ≡ rowOf first f ∷ held .others
     first-row = rw (same, first-fields) (held .rows)
 
-    pub two-told : any (otherIn newest (f .stamp) (bodyAt first (f .offset) (f .reads) (f .writes))) Ts ≡ twoBodies (rowsOf (usedOf newest Ts) stamp)
+    pub two-told : any (otherIn newest stamp (bodyAt first (f .offset) (f .reads) (f .writes))) Ts ≡ twoBodies (rowsOf (usedOf newest Ts) stamp)
     two-told =
         let x : Body = bodyAt first (f .offset) (f .reads) (f .writes) in
-        let a : any (otherIn newest (f .stamp) x) Ts ≡ any (λ q. not (sameBody x (q .body))) (rowsOf (usedOf newest Ts) stamp) = rw first-stamp (others-rows newest stamp x Ts) in
         let b : any (λ q. not (sameBody x (q .body))) (rowsOf (usedOf newest Ts) stamp) ≡ twoBodies (rowsOf (usedOf newest Ts) stamp) = rw first-row (sym (other-than-first first f (held .others))) in
-        a ∙ b
+        others-rows newest stamp x Ts ∙ b

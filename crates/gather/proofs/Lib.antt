@@ -3,7 +3,11 @@ pub mod UsedRows
 pub mod AgreedSeen
 pub mod BodiesSeen
 pub mod NextStamps
+pub mod StampsInTurn
+pub mod Places
+pub mod Cursors
+pub mod RowsTold
 pub mod Gathered
 pub mod OneTable
+pub mod OneRow
 pub mod FirstImages
-pub mod StampsInTurn

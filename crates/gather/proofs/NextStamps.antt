@@ -34,7 +34,7 @@ AllRegular Ts = (T : Table) → T ∈ Ts → Regular T
 abbrev pub Stamped : List ℕ → Type 0
 Stamped ss = (s : ℕ) → s ∈ ss → (0 < s) × (s < 2 ^ 48)
 
-stamp-range : (s : ℕ) → isStamp s ≡ true → (0 < s) × (s < 2 ^ 48)
+pub stamp-range : (s : ℕ) → isStamp s ≡ true → (0 < s) × (s < 2 ^ 48)
 unfolding isStamp
 stamp-range s h = (ltb-true 0 s (both-left _ _ h), ltb-true s (2 ^ 48) (both-right _ _ h))
 

@@ -16,7 +16,7 @@ use Rattle.rules.proofs.Rows.{held-from}
 use Rattle.rows.specs.declared.lookup.Place.{Place}
 use Rattle.rows.specs.declared.lookup.Place.the-variants.{Held, Absent}
 use Rattle.rows.specs.Fields.{fieldsAt}
-use Rattle.rows.specs.Inner.Places.{placeOf}
+use Rattle.rows.specs.Inner.Places.{lower, placeOf}
 use Rattle.rows.specs.Read.{rowOf, rowsAt}
 use Rattle.rows.specs.Inner.Rows.{BodyInside}
 use Rattle.rows.proofs.Sought.{not-absent, held-row}
@@ -25,13 +25,15 @@ use Rattle.table.specs.Headers.{headerAt}
 use Rattle.table.specs.Images.{formatOne}
 use Rattle.table.specs.Parse.{tableAt, BeginsWithImage}
 use Rattle.table.proofs.Images.{valley-sound}
-use Rattle.edit.proofs.Holding.{one-starts, holds-least, holds-rows-at, holds-row-inside}
+use Rattle.edit.proofs.Holding.{one-starts, holds-least, holds-rows, holds-rows-at, holds-row-inside}
 use Rattle.seek.proofs.HeldRows.{image-holds, index-here}
 use Rattle.seek.proofs.SoughtRows.{can-be-sought, rows-inside}
-use Rattle.gather.specs.Inner.UsedTables.{placeIn, otherIn}
+use Rattle.gather.specs.Inner.UsedTables.{placeIn, noFields, fieldsFor}
+use Rattle.gather.specs.Inner.Cursors.{cursorIn}
 use Rattle.gather.specs.Inner.Stamps.{nextAfter, stampAbove}
 use Rattle.gather.proofs.UsedRows.{place-not, place-too}
-use Rattle.gather.proofs.NextStamps.{Above, indexOf, index-above}
+use Rattle.gather.proofs.NextStamps.{Above}
+use Rattle.gather.proofs.Cursors.{cursor-most, above-lower, under-held, under-not}
 
 pub header-inside : (s : List ℕ) → BeginsWithImage valley s → 24 ≤ length s
 header-inside s has-image = holds-least formatOne s one-starts (image-holds valley s has-image)
@@ -55,44 +57,50 @@ module _ (s : List ℕ) (h : Header) (told : h ≡ headerAt s) (newest : ℕ) wh
   pub place-elsewhere : (stamp : ℕ) → (h .view ≡ newest → ⊥) → Absent 0 ≡ placeIn newest (tableAt formatOne s) stamp
   place-elsewhere stamp d = sym (place-not newest stamp (tableAt formatOne s) (other-view d))
 
-  pub place-found : (stamp : ℕ) (p : Place) → h .view ≡ newest → p ≡ placeOf (tableAt formatOne s .rows) stamp → p ≡ placeIn newest (tableAt formatOne s) stamp
-  place-found stamp p e f = f ∙ sym (place-too newest stamp (tableAt formatOne s) (this-view e))
-
   pub above-elsewhere : (last : ℕ) → (h .view ≡ newest → ⊥) → 2 ^ 48 ≡ stampAbove newest (tableAt formatOne s) last
   above-elsewhere last d = rw (other-view d) refl
 
-  -- the row that the look-up for last + 1 points at, or none
-  module _ (last : ℕ) (has-image : BeginsWithImage valley s) (e : h .view ≡ newest) (p : Place) (found : p ≡ placeOf (tableAt formatOne s .rows) (last + 1)) where
-    place-here : placeOf (rowsAt s 24 (h .rows)) (last + 1) ≡ p
-    place-here = rw rows-told (sym found)
+  -- the cursor stands in the rows that are read
+  cursor-here : (stamp : ℕ) → h .view ≡ newest → cursorIn newest stamp (tableAt formatOne s) ≡ lower (rowsAt s 24 (h .rows)) stamp
+  cursor-here stamp e = rw (this-view e, rows-told) refl
 
-    above : Above s 24 (h .rows) last (indexOf p)
-    above = rw place-here at (index-above s 24 (h .rows) last (sought-in has-image .1))
+  pub cursor-small : (stamp index : ℕ) → BeginsWithImage valley s → index ≡ cursorIn newest stamp (tableAt formatOne s) → index ≤ h .rows
+  cursor-small stamp index has-image e = rw (e, told) (rw (holds-rows formatOne s) at (cursor-most newest stamp (tableAt formatOne s)))
+
+  -- the stamp at the cursor, or none
+  module _ (last index : ℕ) (has-image : BeginsWithImage valley s) (e : h .view ≡ newest) (at-cursor : index ≡ cursorIn newest (last + 1) (tableAt formatOne s)) where
+    above : Above s 24 (h .rows) last index
+    above = rw (at-cursor ∙ cursor-here (last + 1) e) (above-lower s 24 (h .rows) (sought-in has-image .1) last)
 
     next-is : nextAfter last (stampsOf (rowsAt s 24 (h .rows))) ≡ stampAbove newest (tableAt formatOne s) last
     next-is = rw (this-view e, rows-told)
 
-    pub above-there : (i : ℕ) → p ≡ Absent i → i < h .rows → fieldsAt s (24 + 24 * i) .stamp ≡ stampAbove newest (tableAt formatOne s) last
-    above-there i absent l = rw absent at (above .there) l ∙ next-is
+    pub above-there : index < h .rows → fieldsAt s (24 + 24 * index) .stamp ≡ stampAbove newest (tableAt formatOne s) last
+    above-there l = above .there l ∙ next-is
 
-    pub above-none : (i : ℕ) → p ≡ Absent i → h .rows ≤ i → 2 ^ 48 ≡ stampAbove newest (tableAt formatOne s) last
-    above-none i absent l = sym (rw absent at (above .none-there) l) ∙ next-is
+    pub above-none : h .rows ≤ index → 2 ^ 48 ≡ stampAbove newest (tableAt formatOne s) last
+    above-none l = sym (above .none-there l) ∙ next-is
 
-    -- last + 1 is held, so it is the next
-    pub above-held : (i : ℕ) → p ≡ Held i → last + 1 ≡ stampAbove newest (tableAt formatOne s) last
-    unfolding rowOf
-    above-held i there =
-        let (l, row) = held-row s 24 (h .rows) (last + 1) i (sought-in has-image .1) (place-here ∙ there) in
-        let stamp = held-from (rowsAt s 24 (h .rows)) (last + 1) _ row .1 in
-        sym stamp ∙ rw there at (above .there) l ∙ next-is
+  -- the row at the cursor, if it has the stamp
+  pub row-elsewhere : (stamp : ℕ) → (h .view ≡ newest → ⊥) → noFields ≡ fieldsFor s (placeIn newest (tableAt formatOne s) stamp)
+  row-elsewhere stamp d = rw (place-not newest stamp (tableAt formatOne s) (other-view d)) refl
 
-  pub other-elsewhere : (stamp : ℕ) (x : Body) → (h .view ≡ newest → ⊥) → false ≡ otherIn newest stamp x (tableAt formatOne s)
-  unfolding both
-  other-elsewhere stamp x d = rw (other-view d) refl
+  module _ (stamp index : ℕ) (has-image : BeginsWithImage valley s) (e : h .view ≡ newest) (at-cursor : index ≡ cursorIn newest stamp (tableAt formatOne s)) (some-stamp : 0 < stamp) (small : stamp < 2 ^ 48) where
+    index-is : index ≡ lower (rowsAt s 24 (h .rows)) stamp
+    index-is = at-cursor ∙ cursor-here stamp e
 
-  pub other-here : (stamp : ℕ) (x : Body) → h .view ≡ newest → heldWithOtherBody (tableAt formatOne s) stamp x ≡ otherIn newest stamp x (tableAt formatOne s)
-  unfolding both
-  other-here stamp x e = rw (this-view e) refl
+    place-is : (p : Place) → placeOf (rowsAt s 24 (h .rows)) stamp ≡ p → placeIn newest (tableAt formatOne s) stamp ≡ p
+    place-is p k = place-too newest stamp (tableAt formatOne s) (this-view e) ∙ rw rows-told at k
+
+    pub row-here : index < h .rows → fieldsAt s (24 + 24 * index) .stamp ≡ stamp → fieldsAt s (24 + 24 * index) ≡ fieldsFor s (placeIn newest (tableAt formatOne s) stamp)
+    row-here l k =
+        let p : placeOf (rowsAt s 24 (h .rows)) stamp ≡ Held index = rw (← index-is) at (under-held s 24 (h .rows) (sought-in has-image .1) stamp some-stamp small) l k in
+        rw (place-is (Held index) p) refl
+
+    pub row-not : (index < h .rows → fieldsAt s (24 + 24 * index) .stamp ≡ stamp → ⊥) → noFields ≡ fieldsFor s (placeIn newest (tableAt formatOne s) stamp)
+    row-not d =
+        let p : placeOf (rowsAt s 24 (h .rows)) stamp ≡ Absent index = rw (← index-is) at (under-not s 24 (h .rows) (sought-in has-image .1) stamp some-stamp small) d in
+        rw (place-is (Absent index) p) refl
 
 -- ---- a row that was found
 

@@ -48,6 +48,16 @@ next-above last (s ∷ ss) l = go (cases (ltb last s)) (next-above last ss l)
     go (inl e) later = rw (next-here last s ss (ltb-true last s e)) (ltb-true last s e)
     go (inr e) later = rw (next-past last s ss (ltb-false last s e)) later
 
+-- and so is a stamp that comes next, whatever the last one is
+pub next-is-above : (last : ℕ) (ss : List ℕ) → nextAfter last ss < 2 ^ 48 → last < nextAfter last ss
+unfolding nextAfter
+next-is-above last [] l = absurd (omega arith)
+next-is-above last (s ∷ ss) l = go (cases (ltb last s)) (next-is-above last ss)
+  where
+    go : (ltb last s ≡ true) ⊎ (ltb last s ≡ false) → (nextAfter last ss < 2 ^ 48 → last < nextAfter last ss) → last < nextAfter last (s ∷ ss)
+    go (inl e) later = rw (next-here last s ss (ltb-true last s e)) (ltb-true last s e)
+    go (inr e) later = let p = next-past last s ss (ltb-false last s e) in rw p (later (rw p at l))
+
 -- a next stamp is one of them
 pub next-in : (last : ℕ) (ss : List ℕ) → nextAfter last ss < 2 ^ 48 → nextAfter last ss ∈ ss
 unfolding nextAfter

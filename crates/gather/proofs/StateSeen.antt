@@ -16,11 +16,7 @@ use Rattle.rules.proofs.Logic.{impossible, none-some, cases, same-test, both-le
 use Rattle.rules.proofs.Lists.{_∈_, any-some, some-any, none-pair}
 use Rattle.rules.proofs.Same.{same-result, result-same}
 use Rattle.gather.specs.declared.state.State.{State}
-use Rattle.gather.specs.Inner.State.{finalCode, finalRetry, stateOf, sawFinal, sawTentative, sawPrepare, sawCommit, sawAbort, sawOutcome, contradicts, outcomeHeld}
-
--- nothing seen
-abbrev pub nothing : State
-nothing = record { prepare = 0; retry = 0; held = false; unequal = false; commit = false; abort = false }
+use Rattle.gather.specs.Inner.State.{noneSeen, finalCode, finalRetry, stateOf, sawFinal, sawTentative, sawPrepare, sawCommit, sawAbort, sawOutcome, contradicts, outcomeHeld}
 
 -- ---- one row
 
@@ -323,14 +319,14 @@ same-state x y p t h u c a = go (x .prepare) (x .retry) (x .held) (x .unequal) (
     go : (p₀ t₀ : ℕ) (h₀ u₀ c₀ a₀ : Bool) → p₀ ≡ y .prepare → t₀ ≡ y .retry → h₀ ≡ y .held → u₀ ≡ y .unequal → c₀ ≡ y .commit → a₀ ≡ y .abort → record { prepare = p₀; retry = t₀; held = h₀; unequal = u₀; commit = c₀; abort = a₀ } ≡ y
     go p₀ t₀ h₀ u₀ c₀ a₀ p t h u c a = rw (p, t, h, u, c, a) refl
 
-pub state-seen : (rs : List Row) → sawRows nothing rs ≡ stateOf rs
+pub state-seen : (rs : List Row) → sawRows noneSeen rs ≡ stateOf rs
 unfolding stateOf either
 state-seen rs =
-    let (p, t) = finals-seen rs none nothing (refl, refl) in
-    let (c, a) = outcomes-seen rs nothing in
-    let h = held-seen rs nothing in
-    let u = unequal-seen rs none nothing (refl, refl) ∙ unequal-pair rs in
-    same-state (sawRows nothing rs) (stateOf rs) p t h u c a
+    let (p, t) = finals-seen rs none noneSeen (refl, refl) in
+    let (c, a) = outcomes-seen rs noneSeen in
+    let h = held-seen rs noneSeen in
+    let u = unequal-seen rs none noneSeen (refl, refl) ∙ unequal-pair rs in
+    same-state (sawRows noneSeen rs) (stateOf rs) p t h u c a
 
 -- ---- what is told by it
 

@@ -8,11 +8,10 @@ use Prim.Native.Nat.{ℕ, _+_, _*_, _<_}
 use native.Mathlib.Omega.{arith}
 use lib.Dec.{eqb}
 use lib.ListN.{length, drop}
-use borrow.Author.Tests.{ne-eqb}
 use Rattle.wire.specs.Inner.ByteLists.{AllBytes}
 use Rattle.wire.proofs.Numbers.{all-drop}
-use Rattle.rules.specs.Tests.{both, bit, count, those, andAlso, allOf}
-use Rattle.rules.specs.Tables.{Row, Table, valley, prepareCode, prepareRetry, outcomeCode}
+use Rattle.rules.specs.Tests.{those, andAlso, allOf}
+use Rattle.rules.specs.Tables.{Row, Table, valley}
 use Rattle.rules.specs.Messages.{held}
 use Rattle.rules.specs.Merge.{rowsOf}
 use Rattle.rules.proofs.Logic.{cases}
@@ -26,14 +25,10 @@ use Rattle.rows.proofs.Sought.{absent-none}
 use Rattle.table.specs.Images.{formatOne, imageLength}
 use Rattle.table.specs.Parse.{parse, tableAt, BeginsWithImage}
 use Rattle.table.proofs.Images.{parse-reads}
-use Rattle.seek.proofs.HeldRows.{held-here, prepare-here, retry-here, outcome-here}
+use Rattle.seek.proofs.HeldRows.{held-here}
 use Rattle.image_run.specs.Runs.{images}
 use Rattle.image_run.proofs.RunTurns.{First, first, some-bytes}
-use Rattle.gather.specs.declared.state.State.{State}
 use Rattle.gather.specs.Inner.UsedTables.{usedOf, placeIn, fieldsFor, fromFirst}
-use Rattle.gather.specs.Inner.State.{sawPrepare, sawOutcome}
-use Rattle.gather.specs.Inner.Agreed.{holdsCodes}
-use Rattle.gather.proofs.StateSeen.{sawRow, sawRows}
 
 -- ---- a table that is used, and one that is not
 
@@ -51,16 +46,6 @@ place-not newest stamp T e = rw e refl
 
 pub place-too : (newest stamp : ℕ) (T : Table) → eqb (T .view) newest ≡ true → placeIn newest T stamp ≡ placeOf (T .rows) stamp
 place-too newest stamp T e = rw e refl
-
--- bytes that hold nothing
-seen-nothing : (x : State) → sawOutcome 0 (sawPrepare 0 0 x) ≡ x
-unfolding sawPrepare sawOutcome
-seen-nothing x = refl
-
--- bytes that are a row's
-row-seen : (q : Row) (prepare retry outcome : ℕ) (x : State) (rs : List Row) → prepareCode (q .prepare) ≡ prepare → prepareRetry (q .prepare) ≡ retry → outcomeCode (q .outcome) ≡ outcome → sawRows x (q ∷ rs) ≡ sawRows (sawOutcome outcome (sawPrepare prepare retry x)) rs
-unfolding sawRows sawRow
-row-seen q prepare retry outcome x rs p t o = rw (← p, ← t, ← o) refl
 
 -- ---- a table that stands at the start of bytes, before others
 
@@ -99,27 +84,6 @@ module _ (newest stamp : ℕ) (s : List ℕ) (bytes : AllBytes s) (has-image : B
   abbrev pub fields : RowFields
   fields = fieldsFor s (placeIn newest (tableAt formatOne s) stamp)
 
-  -- what is seen by its bytes is what is seen of its row
-  pub state-turn : (x : State) → sawRows x rowsNow ≡ sawRows (sawOutcome (fields .outcome) (sawPrepare (fields .prepare) (fields .retry) x)) rowsLater
-  state-turn x = go told
-    where
-      go : Told → sawRows x rowsNow ≡ sawRows (sawOutcome (fields .outcome) (sawPrepare (fields .prepare) (fields .retry) x)) rowsLater
-      go (inr (i, w)) = rw (w .place, w .rows, seen-nothing x) refl
-      go (inl (i, h)) =
-          let k = h .index in
-          rw (h .place, h .rows) (row-seen (rowOf s (fieldsAt s (24 + 24 * i))) _ _ _ x rowsLater (prepare-here valley s stamp i bytes has-image k) (retry-here valley s stamp i bytes has-image k) (outcome-here valley s stamp i bytes has-image k))
-
-  -- and what is counted by its bytes is counted of its row
-  pub votes-turn : (prepare retry : ℕ) → 0 < prepare → count (holdsCodes prepare retry) rowsNow ≡ bit (both (eqb (fields .prepare) prepare) (eqb (fields .retry) retry)) + count (holdsCodes prepare retry) rowsLater
-  unfolding count both
-  votes-turn prepare retry l = go told
-    where
-      go : Told → count (holdsCodes prepare retry) rowsNow ≡ bit (both (eqb (fields .prepare) prepare) (eqb (fields .retry) retry)) + count (holdsCodes prepare retry) rowsLater
-      go (inr (i, w)) = let n : eqb 0 prepare ≡ false = ne-eqb 0 prepare (λ e. absurd (omega arith)) in rw (w .place, w .rows, n) (omega arith)
-      go (inl (i, h)) =
-          let k = h .index in
-          rw (h .place, h .rows, prepare-here valley s stamp i bytes has-image k, retry-here valley s stamp i bytes has-image k) refl
-
 -- ---- the first image that holds a stamp
 
 pub record FirstHeld (newest stamp : ℕ) (Ts : List Table) (s t : List ℕ) : Type 0 where
@@ -139,7 +103,7 @@ from-later : (newest stamp i : ℕ) (T : Table) (Ts : List Table) (s : List ℕ)
 unfolding fromFirst
 from-later newest stamp i T Ts s e = rw e refl
 
-first-parts : (T : Table) (Ts : List Table) (s : List ℕ) → First valley s (T ∷ Ts) → (parse formatOne valley s ≡ some T) × (images valley (drop (imageLength formatOne T) s) ≡ some Ts)
+pub first-parts : (T : Table) (Ts : List Table) (s : List ℕ) → First valley s (T ∷ Ts) → (parse formatOne valley s ≡ some T) × (images valley (drop (imageLength formatOne T) s) ≡ some Ts)
 first-parts T Ts s f =
     let e = f .are in
     let t : f .table ≡ T = cc in

@@ -3,3 +3,5 @@ pub mod UsedTables
 pub mod Stamps
 pub mod State
 pub mod Agreed
+pub mod Cursors
+pub mod Gathered

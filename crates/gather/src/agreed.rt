@@ -1,16 +1,10 @@
 // The tentative result of a stamp that enough used tables hold.
-use crate::held;
+use crate::held::Gathered;
 use rows::row::RowFields;
-use table::header;
 ghost use mathlib.Core.Path.{_≡_};
-ghost use Prim.Native.Nat.{_<_};
-ghost use lib.Dec.{eqb};
-ghost use Rattle.rules.specs.Tests.{both, count};
-ghost use Rattle.rules.specs.Tables.{valley};
-ghost use Rattle.rules.specs.Merge.{rowsOf, agreedOf};
-ghost use Rattle.image_run.specs.Inner.WholeRuns.{tablesOf, Images};
-ghost use Rattle.gather.specs.Inner.UsedTables.{usedOf};
-ghost use Rattle.gather.specs.Inner.Agreed.{isTentative, holdsCodes, isEnough, agreedAs};
+ghost use Rattle.rules.specs.Tests.{count};
+ghost use Rattle.gather.specs.Inner.Gathered.{fieldsFrom};
+ghost use Rattle.gather.specs.Inner.Agreed.{isTentative, hasCodes, enoughHave, agreedAmong};
 
 // A result's code and its retry stamp; 0 if none is agreed.
 pub struct Agreed {
@@ -27,7 +21,7 @@ fn is_tentative(prepare: u8) -> bool
 
 // Whether a row has this prepare byte and retry stamp.
 fn has_codes(row: RowFields, prepare: u8, retry: u64) -> bool
-    ensures { λ r. ⌜ r ≡ both (eqb (row .prepare) prepare) (eqb (row .retry) retry) ⌝ }
+    ensures { λ r. ⌜ r ≡ hasCodes prepare retry row ⌝ }
 {
     if row.prepare == prepare {
         return row.retry == retry;
@@ -35,50 +29,45 @@ fn has_codes(row: RowFields, prepare: u8, retry: u64) -> bool
     false
 }
 
-// How many used tables hold a stamp with this prepare byte and retry stamp.
-fn votes(run: &[u8], newest: u32, stamp: u64, prepare: u8, retry: u64) -> usize
-    requires { ⌜ Images valley (now run) × (0 < prepare) ⌝ }
-    ensures { λ r. ⌜ r ≡ count (holdsCodes prepare retry) (rowsOf (usedOf newest (tablesOf valley (now (run .entry)))) stamp) ⌝ }
+// How many of the rows have this prepare byte and retry stamp.
+fn votes(gathered: Gathered, prepare: u8, retry: u64) -> usize
+    ensures { λ r. ⌜ r ≡ count (hasCodes prepare retry) (fieldsFrom (gathered .rows) 0 4) ⌝ }
 {
     let mut n: usize = 0;
-    let mut at: usize = 0;
-    while at < run.len() {
-        let image = &run[at..];
-        if has_codes(held::fields_in(image, newest, stamp), prepare, retry) {
+    let mut k: usize = 0;
+    while k < 4 {
+        if has_codes(gathered.rows[k], prepare, retry) {
             n += 1;
         }
-        at += header::read(image).length as usize;
+        k += 1;
     }
     n
 }
 
 // Whether this prepare byte is a tentative result that enough of them hold, with its retry stamp.
-fn is_enough(run: &[u8], newest: u32, stamp: u64, prepare: u8, retry: u64, agreement: usize) -> bool
-    requires { ⌜ Images valley (now run) ⌝ }
-    ensures { λ r. ⌜ r ≡ isEnough agreement (rowsOf (usedOf newest (tablesOf valley (now (run .entry)))) stamp) prepare retry ⌝ }
+fn is_enough(gathered: Gathered, prepare: u8, retry: u64, agreement: usize) -> bool
+    ensures { λ r. ⌜ r ≡ enoughHave agreement (fieldsFrom (gathered .rows) 0 4) prepare retry ⌝ }
 {
     if is_tentative(prepare) {
-        return agreement <= votes(run, newest, stamp, prepare, retry);
+        return agreement <= votes(gathered, prepare, retry);
     }
     false
 }
 
-// The tentative result of a stamp that is found in at least the agreement count of the used tables of a run.
-pub fn agreed_result(run: &[u8], newest: u32, stamp: u64, agreement: usize) -> Agreed
-    requires { ⌜ Images valley (now run) ⌝ }
-    ensures { λ r. ⌜ r ≡ agreedAs (agreedOf agreement (rowsOf (usedOf newest (tablesOf valley (now (run .entry)))) stamp)) ⌝ }
+// The tentative result that is found in at least the agreement count of the rows of a stamp.
+pub fn agreed_result(gathered: Gathered, agreement: usize) -> Agreed
+    ensures { λ r. ⌜ r ≡ agreedAmong agreement (fieldsFrom (gathered .rows) 0 4) (fieldsFrom (gathered .rows) 0 4) ⌝ }
 {
-    let mut at: usize = 0;
-    while at < run.len() {
-        let image = &run[at..];
-        let row = held::fields_in(image, newest, stamp);
-        if is_enough(run, newest, stamp, row.prepare, row.retry, agreement) {
+    let mut k: usize = 0;
+    while k < 4 {
+        let row = gathered.rows[k];
+        if is_enough(gathered, row.prepare, row.retry, agreement) {
             return Agreed {
                 code: row.prepare,
                 retry: row.retry,
             };
         }
-        at += header::read(image).length as usize;
+        k += 1;
     }
     Agreed { code: 0, retry: 0 }
 }

@@ -1,13 +1,9 @@
 // What the rows of one stamp hold together: its outcome, its final result, and whether they contradict each other.
-use crate::held;
+use crate::held::Gathered;
 use rows::row::RowFields;
-use table::header;
 ghost use mathlib.Core.Path.{_≡_};
-ghost use Rattle.rules.specs.Tables.{valley};
-ghost use Rattle.rules.specs.Merge.{rowsOf};
-ghost use Rattle.image_run.specs.Inner.WholeRuns.{tablesOf, Images};
-ghost use Rattle.gather.specs.Inner.UsedTables.{usedOf};
-ghost use Rattle.gather.specs.Inner.State.{stateOf, sawFinal, sawPrepare, sawOutcome, contradicts, outcomeHeld};
+ghost use Rattle.gather.specs.Inner.Gathered.{fieldsFrom};
+ghost use Rattle.gather.specs.Inner.State.{noneSeen, sawFields, sawFinal, sawPrepare, sawOutcome, contradicts, outcomeHeld};
 
 // The first final result, with its retry stamp, or 0; whether a prepare byte is held at all; whether another final result is held; whether a commit is, and whether an abort is.
 pub struct State {
@@ -79,10 +75,9 @@ fn saw_row(state: State, row: RowFields) -> State
     saw_outcome(saw_prepare(state, row.prepare, row.retry), row.outcome)
 }
 
-// What the used tables of a run hold of a stamp.
-pub fn state_of(run: &[u8], newest: u32, stamp: u64) -> State
-    requires { ⌜ Images valley (now run) ⌝ }
-    ensures { λ r. ⌜ r ≡ stateOf (rowsOf (usedOf newest (tablesOf valley (now (run .entry)))) stamp) ⌝ }
+// What the rows of a stamp hold together.
+pub fn state_of(gathered: Gathered) -> State
+    ensures { λ r. ⌜ r ≡ sawFields noneSeen (fieldsFrom (gathered .rows) 0 4) ⌝ }
 {
     let mut state = State {
         prepare: 0,
@@ -92,11 +87,10 @@ pub fn state_of(run: &[u8], newest: u32, stamp: u64) -> State
         commit: false,
         abort: false,
     };
-    let mut at: usize = 0;
-    while at < run.len() {
-        let image = &run[at..];
-        state = saw_row(state, held::fields_in(image, newest, stamp));
-        at += header::read(image).length as usize;
+    let mut k: usize = 0;
+    while k < 4 {
+        state = saw_row(state, gathered.rows[k]);
+        k += 1;
     }
     state
 }

@@ -6,11 +6,13 @@ use Prim.Native.Nat.{ℕ, _≤_, _<_}
 use native.Mathlib.Omega.{arith}
 use lib.Dec.{eqb}
 use lib.ListN.{length}
+use borrow.Author.Tests.{eqb-true, not-false}
 use Rattle.rules.specs.Tests.{either, any, twice}
 use Rattle.rules.specs.Groups.{fOf, quorum}
 use Rattle.rules.specs.Tables.{Table, valley, normalMode}
 use Rattle.rules.specs.Merge.{groupOf, areWrong}
-use Rattle.rules.proofs.Logic.{either-assoc, either-comm}
+use Rattle.rules.proofs.Logic.{either-left, either-assoc, either-comm}
+use Rattle.rules.proofs.Groups.{group-bounds}
 use Rattle.table.specs.Headers.{headerAt}
 use Rattle.seek.proofs.HeldRows.{image-regular}
 use Rattle.image_run.specs.Inner.WholeRuns.{tablesOf, Images, unfit}
@@ -60,3 +62,10 @@ module _ (s : List ℕ) (some : 0 < length s) (are : Images valley s) where
 
   pub wrong-as : (v : ℕ) → areWrong v (tablesOf valley s) ≡ either (not (eqb (length (tablesOf valley s)) (quorum (fOf (headerAt s .n))))) (either (any (unfit (headerAt s .n) v) (tablesOf valley s)) (twice (λ T. T .box) (tablesOf valley s)))
   wrong-as v = rw (wrong-parts v (tablesOf valley s), group-read)
+
+  -- f+1 boxes of at most seven
+  pub right-few : (v : ℕ) → areWrong v (tablesOf valley s) ≡ false → length (tablesOf valley s) ≤ 4
+  right-few v right =
+      let e : length (tablesOf valley s) ≡ quorum (fOf (headerAt s .n)) = eqb-true _ _ (not-false _ (either-left _ _ (sym (wrong-as v) ∙ right))) in
+      let l : headerAt s .n ≤ 7 = rw (n-read s) at (group-bounds _ (image-regular valley s (t .has-image) .0 .group) .1) in
+      omega arith

@@ -17,18 +17,18 @@ use Rattle.rules.specs.Merge.{used, stamps, groupOf, uncheckedRows, mergedRows,
 use Rattle.rows.specs.Bytes.{bodiesLength}
 use Rattle.rows.specs.Read.{begins}
 use Rattle.rows.proofs.Begins.{begins-with, begins-stands}
-use Rattle.table.specs.Headers.{headerBytes}
+use Rattle.table.specs.Headers.{headerAt, headerBytes}
 use Rattle.table.specs.Images.{formatOne, imageLength, headerOf, image}
 use Rattle.table.specs.Parse.{tableAt}
 use Rattle.table.proofs.Images.{length-image, image-among}
 use Rattle.edit.specs.Inner.Holding.{Holds}
 use Rattle.edit.specs.Edited.{edited}
-use Rattle.edit.proofs.Holding.{one-starts}
+use Rattle.edit.proofs.Holding.{one-starts, holds-rows}
 use Rattle.edit.proofs.EditedBuffers.{edited-grown}
-use Rattle.gather.proofs.NextStamps.{AllRegular}
+use Rattle.gather.proofs.NextStamps.{AllRegular, stamps-stamped, stamps-from-one}
 use Rattle.settle.specs.Inner.Turns.{hasStamp, checkedRows}
-use Rattle.settle.proofs.ChecksInTurn.{merged-in-turn, checked-rising, checked-stamped, checked-length, checked-image-length, unchecked-rising, unchecked-stamped, unchecked-length}
-use Rattle.merge.specs.Inner.Written.{laidDown, startHeader}
+use Rattle.settle.proofs.ChecksInTurn.{Kept, kept-image, checked-keep, merged-in-turn, unchecked-rising, unchecked-stamped, unchecked-length}
+use Rattle.merge.specs.Inner.Written.{laidDown, MarkAgreed, startHeader}
 use Rattle.merge.proofs.RowsLaid.{laid-image}
 
 -- a table over the start of a buffer is what the buffer holds
@@ -53,12 +53,13 @@ module _ (out s : List ℕ) (T : Table) (is : s ≡ replaced out 0 (image format
 
 -- what a turn of checks asks of the buffer
 abbrev pub Ready : List ℕ → Type 0
-Ready s = Holds formatOne s × (rising 0 (tableAt formatOne s .rows) ≡ true) × (every hasStamp (tableAt formatOne s .rows) ≡ true)
+Ready s = Holds formatOne s × (rising 0 (tableAt formatOne s .rows) ≡ true) × (every hasStamp (tableAt formatOne s .rows) ≡ true) × (headerAt s .rows ≤ 512)
 
-ready : (out s : List ℕ) (T : Table) → s ≡ replaced out 0 (image formatOne T) → AllBytes s → rising 0 (T .rows) ≡ true → every hasStamp (T .rows) ≡ true → Ready s
-ready out s T is bytes rise stamped =
+ready : (out s : List ℕ) (T : Table) → s ≡ replaced out 0 (image formatOne T) → AllBytes s → rising 0 (T .rows) ≡ true → every hasStamp (T .rows) ≡ true → length (T .rows) ≤ 512 → Ready s
+ready out s T is bytes rise stamped few =
     let e : tableAt formatOne s .rows ≡ T .rows = ap (λ (X : Table). X .rows) (table-is out s T is bytes) in
-    (holds-so out s T is bytes, rw e rise, rw e stamped)
+    let n : headerAt s .rows ≡ length (T .rows) = sym (holds-rows formatOne s) ∙ ap length e in
+    (holds-so out s T is bytes, rw e rise, rw e stamped, rw n few)
 
 -- ---- the three buffers after the writes
 
@@ -66,43 +67,51 @@ ready out s T is bytes rise stamped =
 abbrev pub starting : ℕ → ℕ → List Row → Table
 starting n v rows = record { box = v % n; n = n; mode = normalMode; view = v; promised = v; start = length rows; rows = rows }
 
-module _ (Us : List Table) (all : AllRegular Us) (agreement n v rows length-told : ℕ) (out written first : List ℕ) (base : ℕ) (behind : base ≡ 24 + 24 * length (stamps Us)) (long : 49176 ≤ length out) (few : length (stamps Us) ≤ 512) (counted : rows ≡ length (stamps Us)) (is : written ≡ laidDown out base (uncheckedRows agreement Us)) (ends : length-told ≡ base + bodiesLength (uncheckedRows agreement Us)) (headed : first ≡ replaced written 0 (headerBytes (startHeader n v rows length-told))) (bytes : AllBytes first) where
+-- the rows as they were written, with the header before them
+pub header-laid : (Us : List Table) (agreement n v rows length-told : ℕ) (out written : List ℕ) → 24 + 24 * rows ≤ length out → rows ≡ length (stamps Us) → written ≡ laidDown out (24 + 24 * rows) (uncheckedRows agreement Us) → length-told ≡ 24 + 24 * rows + bodiesLength (uncheckedRows agreement Us) → replaced written 0 (headerBytes (startHeader n v rows length-told)) ≡ replaced out 0 (image formatOne (starting n v (uncheckedRows agreement Us)))
+header-laid Us agreement n v rows length-told out written long counted is ends =
+    let T : Table = starting n v (uncheckedRows agreement Us) in
+    let c : rows ≡ length (uncheckedRows agreement Us) = counted ∙ sym (unchecked-length agreement Us) in
+    let h : startHeader n v rows length-told ≡ headerOf formatOne T = rw (ends, c) refl in
+    rw (h, is) (laid-image out (24 + 24 * rows) T (ap (λ k. 24 + 24 * k) c) long)
+
+module _ (Us : List Table) (all : AllRegular Us) (agreement n v : ℕ) (out first : List ℕ) (few : length (stamps Us) ≤ 512) (first-is : first ≡ replaced out 0 (image formatOne (starting n v (uncheckedRows agreement Us)))) (bytes : AllBytes first) where
   abbrev table₀ : Table
   table₀ = starting n v (uncheckedRows agreement Us)
 
-  header-is : startHeader n v rows length-told ≡ headerOf formatOne table₀
-  header-is =
-      let c = unchecked-length agreement Us all in
-      rw (counted, ends, behind, ← c) refl
+  rise₀ : rising 0 (uncheckedRows agreement Us) ≡ true
+  rise₀ = unchecked-rising agreement Us (stamps-from-one Us all)
 
-  first-is : first ≡ replaced out 0 (image formatOne table₀)
-  first-is =
-      let c = unchecked-length agreement Us all in
-      headed ∙ rw (header-is, is) (laid-image out base table₀ (behind ∙ ap (λ k. 24 + 24 * k) (sym c)) (omega arith))
+  stamped₀ : every hasStamp (uncheckedRows agreement Us) ≡ true
+  stamped₀ = unchecked-stamped agreement Us (stamps-stamped Us all)
 
   pub first-ready : Ready first
-  first-ready = ready out first table₀ first-is bytes (unchecked-rising agreement Us all) (unchecked-stamped agreement Us all)
+  first-ready = ready out first table₀ first-is bytes rise₀ stamped₀ (rw (unchecked-length agreement Us) few)
 
   -- the agreed ones checked
-  module _ (second : List ℕ) (then : second ≡ edited formatOne (λ T. withRows T (checkedRows false agreement Us (T .rows))) first) (bytes₂ : AllBytes second) where
+  module _ (marks : List ℕ) (second : List ℕ) (then : second ≡ edited formatOne (λ T. withRows T (checkedRows false marks (T .rows))) first) (bytes₂ : AllBytes second) where
     abbrev agreedRows : List Row
-    agreedRows = checkedRows false agreement Us (uncheckedRows agreement Us)
+    agreedRows = checkedRows false marks (uncheckedRows agreement Us)
+
+    kept : Kept agreedRows (uncheckedRows agreement Us)
+    kept = checked-keep false marks (uncheckedRows agreement Us)
 
     second-is : second ≡ replaced out 0 (image formatOne (withRows table₀ agreedRows))
-    second-is = then ∙ changed-over out first table₀ first-is bytes (λ T. withRows T (checkedRows false agreement Us (T .rows))) (withRows table₀ agreedRows) refl (let l = checked-image-length false agreement Us (uncheckedRows agreement Us) table₀ in omega arith)
+    second-is = then ∙ changed-over out first table₀ first-is bytes (λ T. withRows T (checkedRows false marks (T .rows))) (withRows table₀ agreedRows) refl (let l = kept-image agreedRows (uncheckedRows agreement Us) kept table₀ in omega arith)
 
     pub second-ready : Ready second
-    second-ready = ready out second (withRows table₀ agreedRows) second-is bytes₂ (checked-rising false agreement Us (uncheckedRows agreement Us) ∙ unchecked-rising agreement Us all) (checked-stamped false agreement Us (uncheckedRows agreement Us) ∙ unchecked-stamped agreement Us all)
+    second-ready = ready out second (withRows table₀ agreedRows) second-is bytes₂ (kept .rise 0 ∙ rise₀) (kept .stamped ∙ stamped₀) (rw (kept .count, unchecked-length agreement Us) few)
 
     -- then the open ones: the merged rows
-    pub last-is : (last : List ℕ) → last ≡ edited formatOne (λ T. withRows T (checkedRows true agreement Us (T .rows))) second → last ≡ replaced out 0 (image formatOne (starting n v (mergedRows check agreement Us)))
-    last-is last e =
-        let l = checked-image-length true agreement Us agreedRows table₀ in
-        let m : checkedRows true agreement Us agreedRows ≡ mergedRows check agreement Us = sym (merged-in-turn agreement Us all) in
-        let c : length (uncheckedRows agreement Us) ≡ length (checkedRows true agreement Us agreedRows) = sym (checked-length true agreement Us agreedRows ∙ checked-length false agreement Us (uncheckedRows agreement Us)) in
+    pub last-is : MarkAgreed marks agreement Us → (last : List ℕ) → last ≡ edited formatOne (λ T. withRows T (checkedRows true marks (T .rows))) second → last ≡ replaced out 0 (image formatOne (starting n v (mergedRows check agreement Us)))
+    last-is told last e =
+        let again = checked-keep true marks agreedRows in
+        let l = kept-image (checkedRows true marks agreedRows) agreedRows again table₀ in
+        let m : checkedRows true marks agreedRows ≡ mergedRows check agreement Us = sym (merged-in-turn marks agreement Us all told) in
+        let c : length (uncheckedRows agreement Us) ≡ length (checkedRows true marks agreedRows) = sym (again .count ∙ kept .count) in
         e
-        ∙ changed-over out second (withRows table₀ agreedRows) second-is bytes₂ (λ T. withRows T (checkedRows true agreement Us (T .rows))) (withRows table₀ (checkedRows true agreement Us agreedRows)) refl (omega arith)
-        ∙ ap (λ k. replaced out 0 (image formatOne (record { box = table₀ .box; n = n; mode = table₀ .mode; view = v; promised = v; start = k; rows = checkedRows true agreement Us agreedRows }))) c
+        ∙ changed-over out second (withRows table₀ agreedRows) second-is bytes₂ (λ T. withRows T (checkedRows true marks (T .rows))) (withRows table₀ (checkedRows true marks agreedRows)) refl (omega arith)
+        ∙ ap (λ k. replaced out 0 (image formatOne (record { box = table₀ .box; n = n; mode = table₀ .mode; view = v; promised = v; start = k; rows = checkedRows true marks agreedRows }))) c
         ∙ ap (λ rows. replaced out 0 (image formatOne (starting n v rows))) m
 
 -- ---- the merged table

@@ -1,14 +1,19 @@
 -- Writing the rows of a merge, stamp after stamp: what holds before the first, in each turn, and after the last.
 use mathlib.Core.Path.{_≡_, refl, sym, ap, _∙_}
 use mathlib.Core.Bool.{Bool, true, false}
+use mathlib.Core.Logic.{_⊎_, inl, inr}
 use mathlib.Core.List.{List, [], _∷_, _++_}
 use Prim.Native.Nat.{ℕ, suc, _+_, _*_, _≤_, _<_, _^_}
 use native.Mathlib.Omega.{arith}
-use lib.Dec.{ltb}
-use lib.ListN.{length, length-append}
+use lib.Dec.{eqb, ltb}
+use lib.ListN.{length, getD, replicate, length-append, List·getD-append}
+use lib.Seq.{getD-append-seam}
+use borrow.Author.Tests.{eqb-false}
+use Rattle.wire.specs.Inner.ByteLists.{AllBytes}
 use Rattle.rules.specs.Tests.{kept, those}
 use Rattle.rules.specs.Tables.{Row, Table}
 use Rattle.rules.specs.Merge.{rowsOf, stamps, uncheckedRow, uncheckedRows}
+use Rattle.rules.proofs.Logic.{same?}
 use Rattle.rules.proofs.Lists.{_∈_, those-of}
 use Rattle.rules.proofs.Stamps.{RisingFrom}
 use Rattle.rules.proofs.Votes.{those-length}
@@ -17,6 +22,8 @@ use Rattle.edit.proofs.RowsJoined.{bodies-length-joined}
 use Rattle.gather.specs.Inner.Stamps.{nextAfter}
 use Rattle.gather.proofs.NextStamps.{AllRegular, Stamped, stamps-stamped, stamps-from-one}
 use Rattle.gather.proofs.StampsInTurn.{below, below-all, below-first, below-next, next-in}
+use Rattle.settle.specs.Inner.Marks.{isMarked, marked}
+use Rattle.settle.proofs.MarkedRows.{none-marked, none-bytes, mark-same, mark-other, marked-bytes}
 use Rattle.merge.specs.Inner.Written.{laidDown, rowLaid}
 use Rattle.merge.proofs.RowsWritten.{rowsFor, rows-for-all, rows-for-last, rows-for-length, bodies-small}
 use Rattle.merge.proofs.RowsLaid.{laid-none, laid-more}
@@ -114,3 +121,58 @@ module _ (agreement : ℕ) (Ts : List Table) (all : AllRegular Ts) (out : List �
             count = rw e (let c = next-count in let k = passed .count in omega arith);
             one = λ l. rw e (next-in stamp (stamps Ts) (rw e at l));
           }
+
+-- ---- the marks of the rows that were written
+
+-- the rows of the stamps below one are marked if they are agreed, and no row behind them is
+pub record MarkedTo (agreed : ℕ → Bool) (ss : List ℕ) (stamp : ℕ) (marks : List ℕ) : Type 0 where
+  pub bytes : AllBytes marks
+  pub long : length marks ≡ 64
+  pub known : (i : ℕ) → i < length (below stamp ss) → isMarked marks i ≡ agreed (getD (below stamp ss) i 0)
+  pub free : (i : ℕ) → length (below stamp ss) ≤ i → isMarked marks i ≡ false
+
+module _ (agreed : ℕ → Bool) (Ts : List Table) (all : AllRegular Ts) where
+  pub none-marked-yet : (stamp : ℕ) → stamp ≡ nextAfter 0 (stamps Ts) → MarkedTo agreed (stamps Ts) stamp (replicate 64 0)
+  none-marked-yet stamp e =
+      let z : below stamp (stamps Ts) ≡ [] = rw e (below-first 0 (stamps Ts) (stamps-from-one Ts all)) in
+      let n : length (below stamp (stamps Ts)) ≡ 0 = ap length z in
+      record { bytes = none-bytes .0; long = none-bytes .1; known = λ i l. absurd (omega arith); free = λ i l. none-marked i }
+
+  pub all-marked : (stamp : ℕ) (marks : List ℕ) → MarkedTo agreed (stamps Ts) stamp marks → 2 ^ 48 ≤ stamp → (i : ℕ) → i < length (stamps Ts) → isMarked marks i ≡ agreed (getD (stamps Ts) i 0)
+  all-marked stamp marks m l i k = rw (below-all stamp (stamps Ts) (stamps-stamped Ts all) l) at (m .known i) k
+
+  module _ (stamp : ℕ) (there : stamp ∈ stamps Ts) (marks : List ℕ) (m : MarkedTo agreed (stamps Ts) stamp marks) (i : ℕ) (at-end : i ≡ length (below stamp (stamps Ts))) (next : ℕ) (e : next ≡ nextAfter stamp (stamps Ts)) where
+    one-more : below next (stamps Ts) ≡ below stamp (stamps Ts) ++ (stamp ∷ [])
+    one-more = rw e (below-next stamp 1 (stamps Ts) (stamps-from-one Ts all) (stamps-stamped Ts all) there)
+
+    one-longer : length (below next (stamps Ts)) ≡ i + 1
+    one-longer = ap length one-more ∙ length-append (below stamp (stamps Ts)) (stamp ∷ []) ∙ ap (λ k. k + 1) (sym at-end)
+
+    earlier : (j : ℕ) → j < i → getD (below next (stamps Ts)) j 0 ≡ getD (below stamp (stamps Ts)) j 0
+    earlier j l = rw one-more (List·getD-append (below stamp (stamps Ts)) (stamp ∷ []) 0 j (omega (arith, at-end)))
+
+    latest : getD (below next (stamps Ts)) i 0 ≡ stamp
+    latest = rw (one-more, at-end) (getD-append-seam (below stamp (stamps Ts)) stamp [] 0)
+
+    -- marks that are these, but for the row at hand
+    marked-so : (then : List ℕ) → AllBytes then × (length then ≡ 64) → isMarked then i ≡ agreed stamp → ((j : ℕ) → (j ≡ i → ⊥) → isMarked then j ≡ isMarked marks j) → MarkedTo agreed (stamps Ts) next then
+    marked-so then (b, n) here others = record { bytes = b; long = n; known = λ j l. go j (same? j i) l; free = λ j l. others j (λ k. let o = one-longer in absurd (omega arith)) ∙ m .free j (let o = one-longer in omega (arith, at-end)) }
+      where
+        go : (j : ℕ) → (j ≡ i) ⊎ (eqb j i ≡ false) → j < length (below next (stamps Ts)) → isMarked then j ≡ agreed (getD (below next (stamps Ts)) j 0)
+        go j (inl k) l = rw k (here ∙ ap agreed (sym latest))
+        go j (inr d) l =
+            let o = one-longer in
+            let ne = eqb-false j i d in
+            let less : j < i = below-it j ne (omega arith) in
+            others j ne ∙ m .known j (omega (arith, at-end)) ∙ ap agreed (sym (earlier j less))
+          where
+            below-it : (j : ℕ) → (j ≡ i → ⊥) → j < i + 1 → j < i
+            below-it j ne l = omega (arith, ne)
+
+    pub marked-next : i < 512 → agreed stamp ≡ true → MarkedTo agreed (stamps Ts) next (marked marks i)
+    marked-next l a =
+        let f = m .free i (omega (arith, at-end)) in
+        marked-so (marked marks i) (marked-bytes marks (m .bytes) (m .long) i l f) (mark-same marks (m .bytes) (m .long) i l f ∙ sym a) (λ j ne. mark-other marks (m .bytes) (m .long) i l f j (λ k. ne (sym k)))
+
+    pub unmarked-next : agreed stamp ≡ false → MarkedTo agreed (stamps Ts) next marks
+    unmarked-next a = marked-so marks (m .bytes, m .long) (m .free i (omega (arith, at-end)) ∙ sym a) (λ j ne. refl)

@@ -35,16 +35,17 @@ fn start_header(n: u8, view: u32, rows: u32, length: u32) -> Header
 
 // Writes the merged table of a run that is not refused: rows as they are before any check, and the header; then the agreed ones that wait are checked, then the open ones.
 fn write_merged(out: &mut [u8], run: &[u8], view: u32, newest: u32, rows: usize)
-    requires { ⌜ Images valley (now run) × (0 < length (now run)) × (49176 ≤ length (now out)) ⌝ }
+    requires { ⌜ Images valley (now run) × (0 < length (now run)) × (49176 ≤ length (now out)) × (length (tablesOf valley (now run)) ≤ 4) ⌝ }
     requires { ⌜ (usedOf newest (tablesOf valley (now run)) ≡ used (tablesOf valley (now run))) × (rows ≡ length (stamps (used (tablesOf valley (now run))))) × (rows ≤ 512) ⌝ }
     ensures { λ _. ⌜ now (out .exit) ≡ replaced (now (out .entry)) 0 (image formatOne (mergedTable check view (tablesOf valley (now (run .entry))))) ⌝ }
 {
     let n = header::read(run).n;
     let agreement = quorums::agreement(n);
-    let end = write::write_rows(out, run, newest, agreement, rows);
-    header::write(out, start_header(n, view, rows as u32, end as u32));
-    settle::check_rows(out, run, newest, agreement, false);
-    settle::check_rows(out, run, newest, agreement, true);
+    let written = write::write_rows(out, run, newest, agreement, rows);
+    header::write(out, start_header(n, view, rows as u32, written.end as u32));
+    let marks = written.marks;
+    settle::check_rows(out, &marks, false);
+    settle::check_rows(out, &marks, true);
 }
 
 // The merge for a view of the images laid end to end in a run, written at the start of an output buffer.

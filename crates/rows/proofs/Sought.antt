@@ -32,7 +32,7 @@ sought i (r ∷ rs) stamp = cond (eqb (r .stamp) stamp) (Held i) (cond (ltb stam
 
 -- ---- what one row does to the place of a stamp
 
-lower-cons : (r : Row) (rs : List Row) (s : ℕ) → lower (r ∷ rs) s ≡ cond (ltb (r .stamp) s) (suc (lower rs s)) (lower rs s)
+pub lower-cons : (r : Row) (rs : List Row) (s : ℕ) → lower (r ∷ rs) s ≡ cond (ltb (r .stamp) s) (suc (lower rs s)) (lower rs s)
 unfolding lower count
 lower-cons r rs s = go (ltb (r .stamp) s)
   where
@@ -41,7 +41,7 @@ lower-cons r rs s = go (ltb (r .stamp) s)
     go false = omega arith
 
 -- rows above a stamp neither hold it nor are lower
-none-lower : (low s : ℕ) (rows : List Row) → s ≤ low → rising low rows ≡ true → (isSome (held rows s) ≡ false) × (lower rows s ≡ 0)
+pub none-lower : (low s : ℕ) (rows : List Row) → s ≤ low → rising low rows ≡ true → (isSome (held rows s) ≡ false) × (lower rows s ≡ 0)
 unfolding rising lower count held firstOf
 none-lower low s [] h rise = (refl, refl)
 none-lower low s (r ∷ rs) h rise =
@@ -49,7 +49,7 @@ none-lower low s (r ∷ rs) h rise =
     let i = none-lower (r .stamp) s rs (omega arith) (both-right _ _ rise) in
     (rw (held-cons r rs s, ne-eqb (r .stamp) s (λ e. absurd (omega arith))) (i .0), rw (lower-cons r rs s, le-ltb (r .stamp) s (omega arith)) (i .1))
 
-ordered : (a b : ℕ) → (a < b) ⊎ ((a ≡ b) ⊎ (b < a))
+pub ordered : (a b : ℕ) → (a < b) ⊎ ((a ≡ b) ⊎ (b < a))
 ordered a b = go (cases (ltb a b)) (cases (ltb b a))
   where
     go : (ltb a b ≡ true) ⊎ (ltb a b ≡ false) → (ltb b a ≡ true) ⊎ (ltb b a ≡ false) → (a < b) ⊎ ((a ≡ b) ⊎ (b < a))

@@ -118,7 +118,7 @@ fn needed_body<'a>(table: &'a [u8], message: &'a [u8], place: Place, given: RowF
 }
 
 // Whether two parts of the same length hold the same bytes.
-fn same_bytes(a: &[u8], b: &[u8]) -> bool
+pub fn same_bytes(a: &[u8], b: &[u8]) -> bool
     requires { ⌜ length (now a) ≡ length (now b) ⌝ }
     ensures { λ r. ⌜ r ≡ begins (now (a .entry)) (now (b .entry)) ⌝ }
 {

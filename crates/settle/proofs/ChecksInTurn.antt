@@ -2,28 +2,28 @@
 use mathlib.Core.Path.{_≡_, refl, sym, ap, ap₂, _∙_}
 use mathlib.Core.Bool.{Bool, true, false, not, cond}
 use mathlib.Core.Logic.{_⊎_, inl, inr}
-use mathlib.Core.List.{List, [], _∷_, _++_, map, List·Memᴰ·head, List·Memᴰ·tail, Memᴰ·append-right, Memᴰ·of-map}
+use mathlib.Core.List.{List, [], _∷_, _++_, map, map-id, List·Memᴰ·head, List·Memᴰ·tail, Memᴰ·append-right, Memᴰ·of-map}
 use mathlib.Core.Option.{Option, none, some}
 use Prim.Native.Nat.{ℕ, zero, suc, _+_, _*_, _<_, _≤_, _^_}
 use native.Mathlib.Omega.{arith}
 use lib.Dec.{eqb, ltb}
-use lib.ListN.{length, drop, length-map, drop-of-length-le}
+use lib.ListN.{length, drop, getD, length-map, drop-of-length-le}
 use lib.Seq.{drop-at, drop-append-add}
 use borrow.Author.Tests.{eq-eqb, ne-eqb, lt-ltb}
 use Rattle.rules.specs.Tests.{both, either, any, every, kept, those, isSome}
 use Rattle.rules.specs.Stamps.{Body, isStamp}
-use Rattle.rules.specs.Tables.{Result, Result.OK, Result.ABORT, Result.ABSTAIN, Result.RETRY, Prepare, Prepare.noPrepare, Prepare.final, Verdict, Outcome.noOutcome, Outcome.done, Row, Table, rising, resultCode, resultRetry, prepareCode, outcomeCode, resultByRule, somethingHeld, rowByRule}
+use Rattle.rules.specs.Tables.{Result, Result.OK, Result.ABORT, Result.ABSTAIN, Result.RETRY, Prepare, Prepare.noPrepare, Prepare.final, Outcome, Outcome.done, Row, Table, rising, resultCode, resultRetry, prepareCode, outcomeCode, resultByRule, somethingHeld, rowByRule}
 use Rattle.rules.specs.Messages.{changed, withPrepare, withRows}
 use Rattle.rules.specs.Check.{check}
-use Rattle.rules.specs.Merge.{stamps, rowsOf, mergedOutcome, finalOf, agreedOf, holdsPrepare, Standing, Standing.hasNone, standing, agreedPrepare, openPrepare, uncheckedPrepare, uncheckedRow, uncheckedRows, isSettled, amongAgreed, amongOpen, toCheck, checkedAt, checkedInTurn, mergedRows}
+use Rattle.rules.specs.Merge.{stamps, rowsOf, mergedOutcome, finalOf, agreedOf, holdsPrepare, Standing, Standing.hasNone, Standing.hasFinal, Standing.hasAgreed, Standing.hasOpen, standingFrom, standing, uncheckedPrepare, uncheckedRow, uncheckedRows, isSettled, amongAgreed, amongOpen, toCheck, checkedAt, checkedInTurn, mergedRows}
 use Rattle.rules.proofs.Logic.{impossible, both-right, both-true, both-false, both-whole, same?, eqb-self}
 use Rattle.rules.proofs.Lists.{_∈_, every-one, all-every, those-of}
 use Rattle.rules.proofs.Check.{check-stamped}
 use Rattle.rules.proofs.Rows.{rising-above}
 use Rattle.rules.proofs.Stamps.{RisingFrom, rows-from}
 use Rattle.rules.proofs.Standings.{NoneOrDone, outcome-cases, Says, standing-says, check-settled}
-use Rattle.rules.proofs.Tables.{row-facts}
-use Rattle.rules.proofs.Merge.{stampsOf, some-row, final-held}
+use Rattle.rules.proofs.Tables.{Regular, row-facts}
+use Rattle.rules.proofs.Merge.{stampsOf, merged-stamps, some-row, final-held}
 use Rattle.rows.specs.Bytes.{lengthOf, bodiesLength}
 use Rattle.rows.specs.Fields.{fieldsAt, prepareNumbered, resultNumbered, retryByCode}
 use Rattle.rows.specs.Read.{rowOf, rowsAt}
@@ -31,142 +31,103 @@ use Rattle.table.specs.Images.{formatOne, imageLength}
 use Rattle.edit.specs.Inner.Changes.{atIndex}
 use Rattle.edit.proofs.Indexes.{at-index, none-changed}
 use Rattle.checks.specs.Inner.Given.{checkedAs}
-use Rattle.gather.proofs.NextStamps.{AllRegular, stamps-stamped, stamps-from-one}
-use Rattle.settle.specs.Inner.Turns.{hasStamp, waits, checkedBy, checkedRows}
+use Rattle.settle.specs.Inner.Marks.{isMarked}
+use Rattle.settle.specs.Inner.Turns.{hasStamp, waits, waiting, checkedBy, checkedRows}
 
--- ---- which rows wait, of the rows before any check
+-- tables by the rules
+abbrev AllRegular : List Table → Type 0
+AllRegular Ts = (T : Table) → T ∈ Ts → Regular T
 
--- a test of rows made from numbers is a test of these
-sifted : (test : Row → Bool) (by : ℕ → Bool) (make : ℕ → Row) (ss : List ℕ) → ((s : ℕ) → s ∈ ss → (make s .stamp ≡ s) × (test (make s) ≡ by s)) → stampsOf (those test (map make ss)) ≡ those by ss
+-- ---- which rows wait
+
+-- a row waits, where it is known of each stamp whether it is agreed
+abbrev pub waitsBy : Bool → (ℕ → Bool) → Row → Bool
+waitsBy isOpen agreed r = waits isOpen (agreed (r .stamp)) r
+
+-- rows made from things that tell their stamp and the test's answer
+sifted : {A : Type 0} (test : Row → Bool) (by : A → Bool) (make : A → Row) (stamp : A → ℕ) (xs : List A) → ((x : A) → x ∈ xs → (make x .stamp ≡ stamp x) × (test (make x) ≡ by x)) → stampsOf (those test (map make xs)) ≡ map stamp (those by xs)
 unfolding those
-sifted test by make [] h = refl
-sifted test by make (s ∷ ss) h =
-    let (e, t) = h s (List·Memᴰ·head refl) in
-    rw t (go (by s) e (sifted test by make ss (λ u m. h u (List·Memᴰ·tail m))))
+sifted test by make stamp [] h = refl
+sifted test by make stamp (x ∷ xs) h =
+    let (e, t) = h x (List·Memᴰ·head refl) in
+    rw t (go (by x) e (sifted test by make stamp xs (λ y m. h y (List·Memᴰ·tail m))))
   where
-    go : (b : Bool) → make s .stamp ≡ s → stampsOf (those test (map make ss)) ≡ those by ss → stampsOf (kept b (make s) (those test (map make ss))) ≡ kept b s (those by ss)
+    go : (b : Bool) → make x .stamp ≡ stamp x → stampsOf (those test (map make xs)) ≡ map stamp (those by xs) → stampsOf (kept b (make x) (those test (map make xs))) ≡ map stamp (kept b x (those by xs))
     go true e k = ap₂ _∷_ e k
     go false e k = k
 
-settled-outcome : (p : Prepare) (v : Verdict) → somethingHeld p (done v) ≡ true
+-- with a final result nothing waits; without one the agreed result is what the standing says
+waits-as : (f a : Option Result) (anyHeld isOpen : Bool) (o : Outcome) →
+    let c = standingFrom f a anyHeld in
+    let held = somethingHeld (uncheckedPrepare c o) o in
+    (c ≡ hasNone → held ≡ true) → both (not held) (cond isOpen (not (isSome a)) (isSome a)) ≡ both (cond isOpen amongOpen amongAgreed c) (not held)
+unfolding both
+waits-as (some q) a anyHeld isOpen o k = rw (final-held q o) (sym (both-false (cond isOpen amongOpen amongAgreed (hasFinal q))))
+waits-as none (some q) anyHeld true o k = both-false (not (somethingHeld (uncheckedPrepare (hasAgreed q) o) o))
+waits-as none (some q) anyHeld false o k = both-whole (not (somethingHeld (uncheckedPrepare (hasAgreed q) o) o))
+waits-as none none true true o k = both-whole (not (somethingHeld (uncheckedPrepare hasOpen o) o))
+waits-as none none true false o k = both-false (not (somethingHeld (uncheckedPrepare hasOpen o) o))
+waits-as none none false isOpen o k = rw (k refl) (sym (both-false (cond isOpen amongOpen amongAgreed hasNone)))
+
+-- some row holds something: an outcome, if there is no prepare
+none-held : (rs : List Row) → ((r : Row) → r ∈ rs → rowByRule r ≡ true) → (r : Row) → r ∈ rs → (c : Standing) → Says rs c → c ≡ hasNone → somethingHeld (uncheckedPrepare c (mergedOutcome rs)) (mergedOutcome rs) ≡ true
 unfolding somethingHeld
-settled-outcome p v = lt-ltb 0 (prepareCode p + outcomeCode (done v)) (omega arith)
+none-held rs good r m c says e = go (outcome-cases rs)
+  where
+    go : NoneOrDone rs → somethingHeld (uncheckedPrepare c (mergedOutcome rs)) (mergedOutcome rs) ≡ true
+    go (inr (v, o)) = rw o (lt-ltb 0 (prepareCode (uncheckedPrepare c (done v)) + outcomeCode (done v)) (omega arith))
+    go (inl (o, h)) = let p : Says rs hasNone = rw e at says in impossible (row-facts r (good r m) .held) (rw (p r m, h r m) refl)
 
-nothing-held : (r : Row) → rowByRule r ≡ true → r .prepare ≡ noPrepare → r .outcome ≡ noOutcome → ⊥
-unfolding somethingHeld
-nothing-held r k p o = impossible (row-facts r k .held) (rw (p, o) refl)
+module _ (agreement : ℕ) (Ts : List Table) where
+  abbrev agreedIn : ℕ → Bool
+  agreedIn s = isSome (agreedOf agreement (rowsOf Ts s))
 
-module _ (agreement : ℕ) (rs : List Row) where
-  abbrev held : Bool
-  held = somethingHeld (uncheckedPrepare (standing agreement rs) (mergedOutcome rs)) (mergedOutcome rs)
-
-  -- with a final result nothing waits; without one, an agreed result is what the standing says
-  agreed-waits : both (not held) (isSome (agreedOf agreement rs)) ≡ both (amongAgreed (standing agreement rs)) (not held)
-  unfolding standing both
-  agreed-waits = go (finalOf rs) refl (agreedOf agreement rs) refl (any (λ r. holdsPrepare (r .prepare)) rs) refl
+  turns : AllRegular Ts → (isOpen : Bool) → stampsOf (those (waitsBy isOpen agreedIn) (uncheckedRows agreement Ts)) ≡ toCheck (cond isOpen amongOpen amongAgreed) agreement Ts
+  unfolding uncheckedRows toCheck waits uncheckedRow isSettled standing
+  turns all isOpen = sifted _ _ (λ s. uncheckedRow agreement s (rowsOf Ts s)) (λ s. s) (stamps Ts) (λ s m. (refl, by s (some-row agreement Ts all s m))) ∙ map-id _
     where
-      go : (f : Option Result) → finalOf rs ≡ f → (a : Option Result) → agreedOf agreement rs ≡ a → (h : Bool) → any (λ r. holdsPrepare (r .prepare)) rs ≡ h → both (not held) (isSome (agreedOf agreement rs)) ≡ both (amongAgreed (standing agreement rs)) (not held)
-      go (some q) ef a ea h eh = rw (ef, final-held q (mergedOutcome rs)) refl
-      go none ef (some q) ea h eh = rw (ef, ea) (both-whole (not (somethingHeld (agreedPrepare q (mergedOutcome rs)) (mergedOutcome rs))))
-      go none ef none ea true eh = rw (ef, ea, eh) (both-false (not (somethingHeld (openPrepare (mergedOutcome rs)) (mergedOutcome rs))))
-      go none ef none ea false eh = rw (ef, ea, eh) (both-false (not (somethingHeld noPrepare (mergedOutcome rs))))
-
-  module _ (good : (r : Row) → r ∈ rs → rowByRule r ≡ true) (r : Row) (m : r ∈ rs) where
-    -- some row holds something: an outcome, if there is no prepare
-    none-held : standing agreement rs ≡ hasNone → held ≡ true
-    none-held e = go (standing agreement rs) e (standing-says rs agreement) (outcome-cases rs)
-      where
-        go : (c : Standing) → c ≡ hasNone → Says rs c → NoneOrDone rs → somethingHeld (uncheckedPrepare c (mergedOutcome rs)) (mergedOutcome rs) ≡ true
-        go c k says (inr (v, o)) = rw o (settled-outcome (uncheckedPrepare c (done v)) v)
-        go c k says (inl (o, h)) = let p : Says rs hasNone = rw k at says in absurd (nothing-held r (good r m) (p r m) (h r m))
-
-    open-waits : both (not held) (not (isSome (agreedOf agreement rs))) ≡ both (amongOpen (standing agreement rs)) (not held)
-    unfolding standing both
-    open-waits = go (finalOf rs) refl (agreedOf agreement rs) refl (any (λ r. holdsPrepare (r .prepare)) rs) refl
-      where
-        go : (f : Option Result) → finalOf rs ≡ f → (a : Option Result) → agreedOf agreement rs ≡ a → (h : Bool) → any (λ r. holdsPrepare (r .prepare)) rs ≡ h → both (not held) (not (isSome (agreedOf agreement rs))) ≡ both (amongOpen (standing agreement rs)) (not held)
-        go (some q) ef a ea h eh = rw (ef, final-held q (mergedOutcome rs)) refl
-        go none ef (some q) ea h eh = rw (ef, ea) (both-false (not (somethingHeld (agreedPrepare q (mergedOutcome rs)) (mergedOutcome rs))))
-        go none ef none ea true eh = rw (ef, ea, eh) (both-whole (not (somethingHeld (openPrepare (mergedOutcome rs)) (mergedOutcome rs))))
-        go none ef none ea false eh =
-            let c : standing agreement rs ≡ hasNone = rw (ef, ea, eh) refl in
-            let k : held ≡ true = none-held c in
-            rw k (sym (both-false (amongOpen (standing agreement rs))))
-
-module _ (agreement : ℕ) (Ts : List Table) (all : AllRegular Ts) where
-  rows-rule : (s : ℕ) (r : Row) → r ∈ rowsOf Ts s → rowByRule r ≡ true
-  rows-rule s r m = let (T, i, k, e) = rows-from Ts s r m in every-one rowByRule (T .rows) (all T i .rows) r k
-
-  agreed-turns : stampsOf (those (waits false agreement Ts) (uncheckedRows agreement Ts)) ≡ toCheck amongAgreed agreement Ts
-  unfolding uncheckedRows toCheck waits uncheckedRow isSettled
-  agreed-turns = sifted _ _ (λ s. uncheckedRow agreement s (rowsOf Ts s)) (stamps Ts) (λ s m. (refl, agreed-waits agreement (rowsOf Ts s)))
-
-  open-turns : stampsOf (those (waits true agreement Ts) (uncheckedRows agreement Ts)) ≡ toCheck amongOpen agreement Ts
-  unfolding uncheckedRows toCheck waits uncheckedRow isSettled
-  open-turns = sifted _ _ (λ s. uncheckedRow agreement s (rowsOf Ts s)) (stamps Ts) (λ s m. let (r, i) = some-row agreement Ts all s m in (refl, open-waits agreement (rowsOf Ts s) (rows-rule s) r i))
+      by : (s : ℕ) → (r : Row) × (r ∈ rowsOf Ts s) → waitsBy isOpen agreedIn (uncheckedRow agreement s (rowsOf Ts s)) ≡ both (cond isOpen amongOpen amongAgreed (standing agreement (rowsOf Ts s))) (not (isSettled (uncheckedRow agreement s (rowsOf Ts s))))
+      by s (r, m) =
+          let rs = rowsOf Ts s in
+          let good : (q : Row) → q ∈ rs → rowByRule q ≡ true = λ q n. let (T, i, k, e) = rows-from Ts s q n in every-one rowByRule (T .rows) (all T i .rows) q k in
+          waits-as (finalOf rs) (agreedOf agreement rs) (any (λ q. holdsPrepare (q .prepare)) rs) isOpen (mergedOutcome rs) (none-held rs good r m _ (standing-says rs agreement))
 
 -- ---- checks of agreed rows leave the open ones that wait
 
-module _ (agreement : ℕ) (Ts : List Table) where
+changed-map : (s : ℕ) (change : Row → Row) (rows : List Row) → changed s change rows ≡ map (λ (r : Row). cond (eqb (r .stamp) s) (change r) r) rows
+unfolding changed
+changed-map s change [] = refl
+changed-map s change (r ∷ rs) = ap (λ (z : List Row). cond (eqb (r .stamp) s) (change r) r ∷ z) (changed-map s change rs)
+
+module _ (agreed : ℕ → Bool) where
   abbrev openStamps : List Row → List ℕ
-  openStamps rows = stampsOf (those (waits true agreement Ts) rows)
+  openStamps rows = stampsOf (those (waitsBy true agreed) rows)
 
-  abbrev hasAgreed : ℕ → Bool
-  hasAgreed s = isSome (agreedOf agreement (rowsOf Ts s))
-
-  not-open : (r : Row) → hasAgreed (r .stamp) ≡ true → waits true agreement Ts r ≡ false
+  not-open : (r : Row) → agreed (r .stamp) ≡ true → waitsBy true agreed r ≡ false
   unfolding waits
   not-open r a = rw a (both-false _)
 
-  was-agreed : (r : Row) → waits false agreement Ts r ≡ true → hasAgreed (r .stamp) ≡ true
-  unfolding waits
-  was-agreed r h = both-right _ _ h
-
-  open-changed : (s : ℕ) (result : Row → Prepare) → hasAgreed s ≡ true → (rows : List Row) → openStamps (changed s (λ r. withPrepare (result r) r) rows) ≡ openStamps rows
-  unfolding changed those
-  open-changed s result a [] = refl
-  open-changed s result a (r ∷ rs) = go (same? (r .stamp) s) (open-changed s result a rs)
+  open-changed : (s : ℕ) (result : Row → Prepare) → agreed s ≡ true → (rows : List Row) → openStamps (changed s (λ r. withPrepare (result r) r) rows) ≡ openStamps rows
+  open-changed s result a rows = ap openStamps (changed-map s _ rows) ∙ sifted _ _ _ _ rows (λ r m. go r (same? (r .stamp) s))
     where
-      next : List Row
-      next = changed s (λ r. withPrepare (result r) r) rs
+      go : (r : Row) → (r .stamp ≡ s) ⊎ (eqb (r .stamp) s ≡ false) → let q = cond (eqb (r .stamp) s) (withPrepare (result r) r) r in (q .stamp ≡ r .stamp) × (waitsBy true agreed q ≡ waitsBy true agreed r)
+      go r (inl e) = let h = ap agreed e ∙ a in rw (eq-eqb (r .stamp) s e) (refl, not-open (withPrepare (result r) r) h ∙ sym (not-open r h))
+      go r (inr e) = rw e (refl, refl)
 
-      go : (r .stamp ≡ s) ⊎ (eqb (r .stamp) s ≡ false) → openStamps next ≡ openStamps rs → openStamps (cond (eqb (r .stamp) s) (withPrepare (result r) r) r ∷ next) ≡ openStamps (r ∷ rs)
-      go (inl e) k =
-          let h : hasAgreed (r .stamp) ≡ true = ap hasAgreed e ∙ a in
-          rw (eq-eqb (r .stamp) s e, not-open r h, not-open (withPrepare (result r) r) h) k
-      go (inr e) k = rw e (by (waits true agreement Ts r) k)
-        where
-          by : (b : Bool) → openStamps next ≡ openStamps rs → stampsOf (kept b r (those (waits true agreement Ts) next)) ≡ stampsOf (kept b r (those (waits true agreement Ts) rs))
-          by true j = ap (λ (z : List ℕ). r .stamp ∷ z) j
-          by false j = j
-
-  open-in-turn : (ss : List ℕ) (rows : List Row) → ((s : ℕ) → s ∈ ss → hasAgreed s ≡ true) → openStamps (checkedInTurn check ss rows) ≡ openStamps rows
+  open-in-turn : (ss : List ℕ) (rows : List Row) → ((s : ℕ) → s ∈ ss → agreed s ≡ true) → openStamps (checkedInTurn check ss rows) ≡ openStamps rows
   unfolding checkedInTurn checkedAt
   open-in-turn [] rows h = refl
   open-in-turn (s ∷ ss) rows h =
       open-in-turn ss (checkedAt check s rows) (λ u m. h u (List·Memᴰ·tail m)) ∙ open-changed s (λ r. final (check (those isSettled rows) s (r .body))) (h s (List·Memᴰ·head refl)) rows
 
-  open-kept : (rows : List Row) → openStamps (checkedRows false agreement Ts rows) ≡ openStamps rows
-  unfolding checkedRows
-  open-kept rows = open-in-turn (stampsOf (those (waits false agreement Ts) rows)) rows agreed
+  open-kept : (rows : List Row) → openStamps (checkedInTurn check (stampsOf (those (waitsBy false agreed) rows)) rows) ≡ openStamps rows
+  unfolding waits
+  open-kept rows = open-in-turn (stampsOf (those (waitsBy false agreed) rows)) rows are-agreed
     where
-      agreed : (s : ℕ) → s ∈ stampsOf (those (waits false agreement Ts) rows) → hasAgreed s ≡ true
-      agreed s m =
-          let (r, i, e) = Memᴰ·of-map (λ (r : Row). r .stamp) (those (waits false agreement Ts) rows) m in
-          let (k, w) = those-of (waits false agreement Ts) rows r i in
-          ap hasAgreed (sym e) ∙ was-agreed r w
-
-whole : (agreement : ℕ) (Ts : List Table) (isOpen : Bool) (rows : List Row) → checkedRows isOpen agreement Ts rows ≡ checkedInTurn check (stampsOf (those (waits isOpen agreement Ts) rows)) rows
-unfolding checkedRows
-whole agreement Ts isOpen rows = refl
-
-pub merged-in-turn : (agreement : ℕ) (Ts : List Table) → AllRegular Ts → mergedRows check agreement Ts ≡ checkedRows true agreement Ts (checkedRows false agreement Ts (uncheckedRows agreement Ts))
-unfolding mergedRows
-merged-in-turn agreement Ts all =
-    let rows = uncheckedRows agreement Ts in
-    let a : checkedInTurn check (toCheck amongAgreed agreement Ts) rows ≡ checkedRows false agreement Ts rows = ap (λ (ss : List ℕ). checkedInTurn check ss rows) (sym (agreed-turns agreement Ts all)) ∙ sym (whole agreement Ts false rows) in
-    let o : toCheck amongOpen agreement Ts ≡ stampsOf (those (waits true agreement Ts) (checkedRows false agreement Ts rows)) = sym (open-turns agreement Ts all) ∙ sym (open-kept agreement Ts rows) in
-    ap₂ (checkedInTurn check) o a ∙ sym (whole agreement Ts true (checkedRows false agreement Ts rows))
+      are-agreed : (s : ℕ) → s ∈ stampsOf (those (waitsBy false agreed) rows) → agreed s ≡ true
+      are-agreed s m =
+          let (r, i, e) = Memᴰ·of-map (λ (r : Row). r .stamp) (those (waitsBy false agreed) rows) m in
+          ap agreed (sym e) ∙ both-right _ _ (those-of (waitsBy false agreed) rows r i .1)
 
 -- ---- rows with other results: what else they have is kept
 
@@ -174,44 +135,45 @@ abbrev blanks : List Row → List Row
 blanks rows = map (withPrepare noPrepare) rows
 
 -- two lists of rows differ in results alone
-abbrev pub Alike : List Row → List Row → Type 0
+abbrev Alike : List Row → List Row → Type 0
 Alike rows others = blanks rows ≡ blanks others
 
-blanks-rising : (low : ℕ) (rows : List Row) → rising low (blanks rows) ≡ rising low rows
-unfolding rising
-blanks-rising low [] = refl
-blanks-rising low (r ∷ rs) = ap (both (ltb low (r .stamp))) (blanks-rising (r .stamp) rs)
+-- so they have this in common
+pub record Kept (rows others : List Row) : Type 0 where
+  pub rise : (low : ℕ) → rising low rows ≡ rising low others
+  pub stamped : every hasStamp rows ≡ every hasStamp others
+  pub stamps : stampsOf rows ≡ stampsOf others
+  pub count : length rows ≡ length others
+  pub bodies : bodiesLength rows ≡ bodiesLength others
 
-blanks-stamped : (rows : List Row) → every hasStamp (blanks rows) ≡ every hasStamp rows
-unfolding every
-blanks-stamped [] = refl
-blanks-stamped (r ∷ rs) = ap (both (hasStamp r)) (blanks-stamped rs)
+blanks-keep : (rows : List Row) → Kept (blanks rows) rows
+unfolding rising every bodiesLength
+blanks-keep [] = record { rise = λ low. refl; stamped = refl; stamps = refl; count = refl; bodies = refl }
+blanks-keep (r ∷ rs) =
+    let k = blanks-keep rs in
+    record {
+      rise = λ low. ap (both (ltb low (r .stamp))) (k .rise (r .stamp));
+      stamped = ap (both (hasStamp r)) (k .stamped);
+      stamps = ap (λ (ss : List ℕ). r .stamp ∷ ss) (k .stamps);
+      count = ap suc (k .count);
+      bodies = ap (λ (n : ℕ). lengthOf (r .body) + n) (k .bodies);
+    }
 
-blanks-length : (rows : List Row) → length (blanks rows) ≡ length rows
-blanks-length [] = refl
-blanks-length (r ∷ rs) = ap suc (blanks-length rs)
+alike-keep : (rows others : List Row) → Alike rows others → Kept rows others
+alike-keep rows others e =
+    let a = blanks-keep rows in
+    let b = blanks-keep others in
+    record {
+      rise = λ low. sym (a .rise low) ∙ ap (rising low) e ∙ b .rise low;
+      stamped = sym (a .stamped) ∙ ap (every hasStamp) e ∙ b .stamped;
+      stamps = sym (a .stamps) ∙ ap stampsOf e ∙ b .stamps;
+      count = sym (a .count) ∙ ap length e ∙ b .count;
+      bodies = sym (a .bodies) ∙ ap bodiesLength e ∙ b .bodies;
+    }
 
-blanks-bodies : (rows : List Row) → bodiesLength (blanks rows) ≡ bodiesLength rows
-unfolding bodiesLength
-blanks-bodies [] = refl
-blanks-bodies (r ∷ rs) = ap (λ (n : ℕ). lengthOf (r .body) + n) (blanks-bodies rs)
-
-module _ (rows others : List Row) (e : Alike rows others) where
-  pub alike-rising : (low : ℕ) → rising low rows ≡ rising low others
-  alike-rising low = sym (blanks-rising low rows) ∙ ap (rising low) e ∙ blanks-rising low others
-
-  pub alike-stamped : every hasStamp rows ≡ every hasStamp others
-  alike-stamped = sym (blanks-stamped rows) ∙ ap (every hasStamp) e ∙ blanks-stamped others
-
-  pub alike-length : length rows ≡ length others
-  alike-length = sym (blanks-length rows) ∙ ap length e ∙ blanks-length others
-
-  pub alike-bodies : bodiesLength rows ≡ bodiesLength others
-  alike-bodies = sym (blanks-bodies rows) ∙ ap bodiesLength e ∙ blanks-bodies others
-
-  -- so the image of a table is as long with one as with the other
-  pub alike-image : (T : Table) → imageLength formatOne (withRows T rows) ≡ imageLength formatOne (withRows T others)
-  alike-image T = let n = alike-length in let b = alike-bodies in rw (n, b) refl
+-- the image of a table is as long with one as with the other
+pub kept-image : (rows others : List Row) → Kept rows others → (T : Table) → imageLength formatOne (withRows T rows) ≡ imageLength formatOne (withRows T others)
+kept-image rows others k T = rw (k .count, k .bodies) refl
 
 alike-changed : (s : ℕ) (result : Row → Prepare) (rows : List Row) → Alike (changed s (λ r. withPrepare (result r) r) rows) rows
 unfolding changed
@@ -227,57 +189,66 @@ unfolding checkedInTurn checkedAt
 alike-in-turn [] rows = refl
 alike-in-turn (s ∷ ss) rows = alike-in-turn ss (checkedAt check s rows) ∙ alike-changed s (λ r. final (check (those isSettled rows) s (r .body))) rows
 
-pub alike-at : (i : ℕ) (result : Row → Prepare) (rows : List Row) → Alike (atIndex i (λ r. withPrepare (result r) r) rows) rows
-unfolding atIndex
-alike-at i result [] = refl
-alike-at zero result (r ∷ rs) = refl
-alike-at (suc i) result (r ∷ rs) = ap (λ (z : List Row). withPrepare noPrepare r ∷ z) (alike-at i result rs)
-
--- a row checked where it stands
-pub alike-checked : (i : ℕ) (rows : List Row) → Alike (atIndex i (checkedBy rows) rows) rows
-alike-checked i rows = alike-at i (λ r. final (check rows (r .stamp) (r .body))) rows
-
--- all that wait
-pub alike-all : (isOpen : Bool) (agreement : ℕ) (Ts : List Table) (rows : List Row) → Alike (checkedRows isOpen agreement Ts rows) rows
-alike-all isOpen agreement Ts rows = ap blanks (whole agreement Ts isOpen rows) ∙ alike-in-turn (stampsOf (those (waits isOpen agreement Ts) rows)) rows
-
-module _ (isOpen : Bool) (agreement : ℕ) (Ts : List Table) (rows : List Row) where
-  pub checked-rising : rising 0 (checkedRows isOpen agreement Ts rows) ≡ rising 0 rows
-  checked-rising = alike-rising (checkedRows isOpen agreement Ts rows) rows (alike-all isOpen agreement Ts rows) 0
-
-  pub checked-stamped : every hasStamp (checkedRows isOpen agreement Ts rows) ≡ every hasStamp rows
-  checked-stamped = alike-stamped (checkedRows isOpen agreement Ts rows) rows (alike-all isOpen agreement Ts rows)
-
-  pub checked-length : length (checkedRows isOpen agreement Ts rows) ≡ length rows
-  checked-length = alike-length (checkedRows isOpen agreement Ts rows) rows (alike-all isOpen agreement Ts rows)
-
-  pub checked-image-length : (T : Table) → imageLength formatOne (withRows T (checkedRows isOpen agreement Ts rows)) ≡ imageLength formatOne (withRows T rows)
-  checked-image-length = alike-image (checkedRows isOpen agreement Ts rows) rows (alike-all isOpen agreement Ts rows)
+-- all that wait checked
+pub checked-keep : (isOpen : Bool) (marks : List ℕ) (rows : List Row) → Kept (checkedRows isOpen marks rows) rows
+unfolding checkedRows
+checked-keep isOpen marks rows = alike-keep _ rows (alike-in-turn (stampsOf (waiting isOpen marks 0 rows)) rows)
 
 -- ---- the rows before any check
 
-module _ (agreement : ℕ) (Ts : List Table) (all : AllRegular Ts) where
-  pub unchecked-rising : rising 0 (uncheckedRows agreement Ts) ≡ true
+module _ (agreement : ℕ) (Ts : List Table) where
+  pub unchecked-rising : RisingFrom 1 (stamps Ts) → rising 0 (uncheckedRows agreement Ts) ≡ true
   unfolding uncheckedRows uncheckedRow rising
-  unchecked-rising = from 0 (stamps Ts) (stamps-from-one Ts all)
+  unchecked-rising = from 0 (stamps Ts)
     where
       from : (low : ℕ) (ss : List ℕ) → RisingFrom (suc low) ss → rising low (map (λ s. uncheckedRow agreement s (rowsOf Ts s)) ss) ≡ true
       from low [] h = refl
       from low (s ∷ ss) (l, h) = both-true (lt-ltb low s l) (from s ss h)
 
-  pub unchecked-stamped : every hasStamp (uncheckedRows agreement Ts) ≡ true
+  pub unchecked-stamped : ((s : ℕ) → s ∈ stamps Ts → (0 < s) × (s < 2 ^ 48)) → every hasStamp (uncheckedRows agreement Ts) ≡ true
   unfolding uncheckedRows uncheckedRow isStamp
-  unchecked-stamped = all-every hasStamp _ stamped
-    where
-      stamped : (r : Row) → r ∈ uncheckedRows agreement Ts → hasStamp r ≡ true
-      stamped r m =
-          let (s, i, e) = Memᴰ·of-map (λ s. uncheckedRow agreement s (rowsOf Ts s)) (stamps Ts) m in
-          let (l, k) = stamps-stamped Ts all s i in
-          ap hasStamp (sym e) ∙ both-true (lt-ltb 0 s l) (lt-ltb s (2 ^ 48) k)
+  unchecked-stamped range =
+      all-every hasStamp _ (λ r m.
+      let (s, i, e) = Memᴰ·of-map (λ s. uncheckedRow agreement s (rowsOf Ts s)) (stamps Ts) m in
+      let (l, k) = range s i in
+      ap hasStamp (sym e) ∙ both-true (lt-ltb 0 s l) (lt-ltb s (2 ^ 48) k))
 
   pub unchecked-length : length (uncheckedRows agreement Ts) ≡ length (stamps Ts)
   unfolding uncheckedRows
   unchecked-length = length-map (stamps Ts) (λ s. uncheckedRow agreement s (rowsOf Ts s))
+
+  unchecked-stamps : stampsOf (uncheckedRows agreement Ts) ≡ stamps Ts
+  unfolding mergedRows
+  unchecked-stamps = sym (alike-keep (mergedRows check agreement Ts) (uncheckedRows agreement Ts) (alike-in-turn (toCheck amongOpen agreement Ts) _ ∙ alike-in-turn (toCheck amongAgreed agreement Ts) _) .stamps) ∙ merged-stamps check agreement Ts
+
+-- ---- both turns, if the marks tell of each stamp whether it is agreed
+
+waiting-from : (isOpen : Bool) (marks : List ℕ) (agreed : ℕ → Bool) (k : ℕ) (rows : List Row) → ((i : ℕ) → i < length rows → isMarked marks (k + i) ≡ agreed (getD (stampsOf rows) i 0)) → waiting isOpen marks k rows ≡ those (waitsBy isOpen agreed) rows
+unfolding waiting those
+waiting-from isOpen marks agreed k [] h = refl
+waiting-from isOpen marks agreed k (r ∷ rs) h =
+    let e : k + 0 ≡ k = omega arith in
+    let now : isMarked marks k ≡ agreed (r .stamp) = rw e at (h 0 (omega arith)) in
+    rw (now, waiting-from isOpen marks agreed (k + 1) rs (λ i l. let n : k + 1 + i ≡ k + suc i = omega arith in rw n (h (suc i) (omega arith)))) refl
+
+pub waiting-is : (isOpen : Bool) (marks : List ℕ) (agreed : ℕ → Bool) (rows : List Row) → ((i : ℕ) → i < length rows → isMarked marks i ≡ agreed (getD (map (λ (r : Row). r .stamp) rows) i 0)) → waiting isOpen marks 0 rows ≡ those (λ (r : Row). waits isOpen (agreed (r .stamp)) r) rows
+waiting-is isOpen marks agreed rows h = waiting-from isOpen marks agreed 0 rows (λ i l. let e : 0 + i ≡ i = omega arith in rw e (h i l))
+
+module _ (marks : List ℕ) (agreement : ℕ) (Ts : List Table) (all : AllRegular Ts) (told : (i : ℕ) → i < length (stamps Ts) → isMarked marks i ≡ isSome (agreedOf agreement (rowsOf Ts (getD (stamps Ts) i 0)))) where
+  turns-are : (isOpen : Bool) (rows : List Row) → stampsOf rows ≡ stamps Ts → checkedRows isOpen marks rows ≡ checkedInTurn check (stampsOf (those (waitsBy isOpen (agreedIn agreement Ts)) rows)) rows
+  unfolding checkedRows
+  turns-are isOpen rows e = ap (λ (rs : List Row). checkedInTurn check (stampsOf rs) rows) (waiting-is isOpen marks (agreedIn agreement Ts) rows (λ i l. rw e (told i (rw (← e, length-map rows (λ (r : Row). r .stamp)) l))))
+
+  pub merged-in-turn : mergedRows check agreement Ts ≡ checkedRows true marks (checkedRows false marks (uncheckedRows agreement Ts))
+  unfolding mergedRows
+  merged-in-turn =
+      let rows = uncheckedRows agreement Ts in
+      let s : stampsOf rows ≡ stamps Ts = unchecked-stamps agreement Ts in
+      let next = checkedRows false marks rows in
+      let n : stampsOf next ≡ stamps Ts = checked-keep false marks rows .stamps ∙ s in
+      let a : checkedInTurn check (toCheck amongAgreed agreement Ts) rows ≡ next = ap (λ (ss : List ℕ). checkedInTurn check ss rows) (sym (turns agreement Ts all false)) ∙ sym (turns-are false rows s) in
+      let o : toCheck amongOpen agreement Ts ≡ openStamps (agreedIn agreement Ts) next = sym (turns agreement Ts all true) ∙ sym (ap (openStamps (agreedIn agreement Ts)) (turns-are false rows s) ∙ open-kept (agreedIn agreement Ts) rows) in
+      ap₂ (checkedInTurn check) o a ∙ sym (turns-are true next n)
 
 -- ---- one row after the other
 
@@ -299,9 +270,13 @@ row-read s at (suc n) (suc i) l =
     let t = row-read s (at + 24) n i (omega arith) in
     rw e (record { before = rowOf s (fieldsAt s at) ∷ t .before; behind = t .behind; is = ap (λ (z : List Row). rowOf s (fieldsAt s at) ∷ z) (t .is); index = ap suc (t .index) })
 
+-- and a change at the index is one of this row
+pub at-row : (rows : List Row) (i : ℕ) (r : Row) (t : RowIs rows i r) (change : Row → Row) → atIndex i change rows ≡ t .before ++ (change r ∷ t .behind)
+at-row rows i r t change = ap₂ (λ (j : ℕ) (rs : List Row). atIndex j change rs) (sym (t .index)) (t .is) ∙ at-index (t .before) (t .behind) r change
+
 -- the stamps that wait from an index on
-abbrev pub turnsFrom : Bool → ℕ → List Table → List Row → ℕ → List ℕ
-turnsFrom isOpen agreement Ts rows i = map (λ (r : Row). r .stamp) (those (waits isOpen agreement Ts) (drop i rows))
+abbrev pub turnsFrom : Bool → List ℕ → List Row → ℕ → List ℕ
+turnsFrom isOpen marks rows i = stampsOf (waiting isOpen marks i (drop i rows))
 
 drop-past : (xs ys : List Row) (r : Row) (i : ℕ) → length xs ≡ i → drop (i + 1) (xs ++ (r ∷ ys)) ≡ ys
 drop-past xs ys r i e = rw (← e) (drop-append-add xs (r ∷ ys) 1)
@@ -313,18 +288,19 @@ changed-there low change (x ∷ xs) ys r rise =
     let m : x .stamp < r .stamp = rising-above (x .stamp) (xs ++ (r ∷ ys)) (both-right _ _ rise) r (Memᴰ·append-right xs (List·Memᴰ·head refl)) in
     rw (ne-eqb (x .stamp) (r .stamp) (λ e. absurd (omega arith)), changed-there (x .stamp) change xs ys r (both-right _ _ rise))
 
-module _ (isOpen : Bool) (agreement : ℕ) (Ts : List Table) where
+module _ (isOpen : Bool) (marks : List ℕ) where
   abbrev pub left : List Row → ℕ → List Row
-  left rows i = checkedInTurn check (turnsFrom isOpen agreement Ts rows i) rows
+  left rows i = checkedInTurn check (turnsFrom isOpen marks rows i) rows
 
-  pub alike-left : (rows : List Row) (i : ℕ) → Alike (left rows i) rows
-  alike-left rows i = alike-in-turn (turnsFrom isOpen agreement Ts rows i) rows
+  pub left-keep : (rows : List Row) (i : ℕ) → Kept (left rows i) rows
+  left-keep rows i = alike-keep _ rows (alike-in-turn (turnsFrom isOpen marks rows i) rows)
 
-  pub turn-start : (rows : List Row) → left rows 0 ≡ checkedRows isOpen agreement Ts rows
-  turn-start rows = sym (whole agreement Ts isOpen rows)
+  pub turn-start : (rows : List Row) → left rows 0 ≡ checkedRows isOpen marks rows
+  unfolding checkedRows
+  turn-start rows = refl
 
   pub turn-end : (rows : List Row) (i : ℕ) → length rows ≤ i → left rows i ≡ rows
-  unfolding checkedInTurn those
+  unfolding checkedInTurn waiting
   turn-end rows i l = rw (drop-of-length-le rows l) refl
 
   module _ (rows : List Row) (i : ℕ) (r : Row) (t : RowIs rows i r) where
@@ -334,19 +310,16 @@ module _ (isOpen : Bool) (agreement : ℕ) (Ts : List Table) where
     past : drop (i + 1) rows ≡ t .behind
     past = ap (drop (i + 1)) (t .is) ∙ drop-past (t .before) (t .behind) r i (t .index)
 
-    pub turn-passed : waits isOpen agreement Ts r ≡ false → left rows (i + 1) ≡ left rows i
-    unfolding those
+    pub turn-passed : waits isOpen (isMarked marks i) r ≡ false → left rows (i + 1) ≡ left rows i
+    unfolding waiting
     turn-passed w = rw (here, past, w) refl
 
-    turn-now : waits isOpen agreement Ts r ≡ true → turnsFrom isOpen agreement Ts rows i ≡ r .stamp ∷ turnsFrom isOpen agreement Ts rows (i + 1)
-    unfolding those
+    turn-now : waits isOpen (isMarked marks i) r ≡ true → turnsFrom isOpen marks rows i ≡ r .stamp ∷ turnsFrom isOpen marks rows (i + 1)
+    unfolding waiting
     turn-now w = rw (here, past, w) refl
 
-    checked-there : atIndex i (checkedBy rows) rows ≡ t .before ++ (checkedBy rows r ∷ t .behind)
-    checked-there = ap₂ (λ (j : ℕ) (rs : List Row). atIndex j (checkedBy rows) rs) (sym (t .index)) (t .is) ∙ at-index (t .before) (t .behind) r (checkedBy rows)
-
     past-checked : drop (i + 1) (atIndex i (checkedBy rows) rows) ≡ drop (i + 1) rows
-    past-checked = ap (drop (i + 1)) checked-there ∙ drop-past (t .before) (t .behind) (checkedBy rows r) i (t .index) ∙ sym past
+    past-checked = ap (drop (i + 1)) (at-row rows i r t (checkedBy rows)) ∙ drop-past (t .before) (t .behind) (checkedBy rows r) i (t .index) ∙ sym past
 
     module _ (rise : rising 0 rows ≡ true) where
       -- the row of that stamp is the one at the index, and a check of all rows is one of the settled ones
@@ -356,13 +329,17 @@ module _ (isOpen : Bool) (agreement : ℕ) (Ts : List Table) where
           let change : Row → Row = λ q. withPrepare (final (check (those isSettled rows) (r .stamp) (q .body))) q in
           let e : change r ≡ checkedBy rows r = ap (λ (x : Result). withPrepare (final x) r) (check-settled rows (r .stamp) (r .body)) in
           let h : rising 0 (t .before ++ (r ∷ t .behind)) ≡ true = ap (rising 0) (sym (t .is)) ∙ rise in
-          ap (changed (r .stamp) change) (t .is) ∙ changed-there 0 change (t .before) (t .behind) r h ∙ ap (λ (q : Row). t .before ++ (q ∷ t .behind)) e ∙ sym checked-there
+          ap (changed (r .stamp) change) (t .is) ∙ changed-there 0 change (t .before) (t .behind) r h ∙ ap (λ (q : Row). t .before ++ (q ∷ t .behind)) e ∙ sym (at-row rows i r t (checkedBy rows))
 
-      pub turn-checked : waits isOpen agreement Ts r ≡ true → left (atIndex i (checkedBy rows) rows) (i + 1) ≡ left rows i
+      pub row-keep : Kept (atIndex i (checkedBy rows) rows) rows
+      unfolding checkedInTurn
+      row-keep = alike-keep _ rows (ap blanks (sym checked-at) ∙ alike-in-turn (r .stamp ∷ []) rows)
+
+      pub turn-checked : waits isOpen (isMarked marks i) r ≡ true → left (atIndex i (checkedBy rows) rows) (i + 1) ≡ left rows i
       unfolding checkedInTurn
       turn-checked w =
-          let ss : List ℕ = turnsFrom isOpen agreement Ts rows (i + 1) in
-          ap (λ (z : List Row). checkedInTurn check (stampsOf (those (waits isOpen agreement Ts) z)) (atIndex i (checkedBy rows) rows)) past-checked
+          let ss : List ℕ = turnsFrom isOpen marks rows (i + 1) in
+          ap (λ (z : List Row). checkedInTurn check (stampsOf (waiting isOpen marks (i + 1) z)) (atIndex i (checkedBy rows) rows)) past-checked
           ∙ ap (checkedInTurn check ss) (sym checked-at) ∙ ap (λ (z : List ℕ). checkedInTurn check z rows) (sym (turn-now w))
 
 -- ---- what a check gives, in bytes

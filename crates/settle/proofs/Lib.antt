@@ -1,2 +1,3 @@
+pub mod MarkedRows
 pub mod ChecksInTurn
 pub mod CheckedInPlace

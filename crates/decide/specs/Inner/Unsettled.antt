@@ -27,6 +27,10 @@ withoutFinal x a = record {
   outcome = outcomeHeld x;
 }
 
+-- any stamp: "a final result" stays
+unfoldable pub uncheckedFrom : State → Agreed → Unchecked
+uncheckedFrom x a = cond (eqb (x .prepare) 0) (withoutFinal x a) (record { prepare = x .prepare; retry = x .retry; outcome = outcomeHeld x })
+
 -- what `rules` has the row hold before any check
 unfoldable pub uncheckedAs : ℕ → List Row → Unchecked
 uncheckedAs agreement rs = record {

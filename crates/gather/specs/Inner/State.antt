@@ -1,12 +1,13 @@
 -- What the rows of one stamp hold together.
-use mathlib.Core.Bool.{Bool, true, cond, not}
-use mathlib.Core.List.{List}
+use mathlib.Core.Bool.{Bool, true, false, cond, not}
+use mathlib.Core.List.{List, [], _∷_}
 use mathlib.Core.Option.{Option, none, some}
 use Prim.Native.Nat.{ℕ}
 use lib.Dec.{eqb, ltb}
 use Rattle.rules.specs.Tests.{both, either, any, somePair}
 use Rattle.rules.specs.Tables.{Result, Prepare.final, Verdict.commit, Verdict.abort, Row, prepareCode, prepareRetry}
 use Rattle.rules.specs.Merge.{holdsVerdict, holdsPrepare, finalOf, unequalFinals}
+use Rattle.rows.specs.declared.row.RowFields.{RowFields}
 use Rattle.gather.specs.declared.state.State.{State}
 
 -- a final result as a row has it; zeros of none
@@ -58,6 +59,15 @@ sawAbort x = record { prepare = x .prepare; retry = x .retry; held = x .held; un
 
 unfoldable pub sawOutcome : ℕ → State → State
 sawOutcome outcome x = cond (eqb outcome 0) x (cond (either (eqb outcome 1) (eqb outcome 3)) (sawCommit x) (sawAbort x))
+
+-- nothing seen
+abbrev pub noneSeen : State
+noneSeen = record { prepare = 0; retry = 0; held = false; unequal = false; commit = false; abort = false }
+
+-- rows seen one after the other, by their bytes
+unfoldable pub sawFields : State → List RowFields → State
+sawFields x [] = x
+sawFields x (f ∷ fs) = sawFields (sawOutcome (f .outcome) (sawPrepare (f .prepare) (f .retry) x)) fs
 
 -- ---- what is told by it
 

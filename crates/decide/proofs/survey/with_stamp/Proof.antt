@@ -7,21 +7,22 @@ use Prim.Native.Nat.{_+_}
 use native.Mathlib.Omega.{arith}
 use denote.Ref.{now}
 use borrow.Author.Needs.{needs}
+use Rattle.wire.proofs.Numbers.{all-of}
 use Rattle.rules.specs.Tests.{either}
-use Rattle.rules.specs.Tables.{Row, valley}
-use Rattle.rules.specs.Merge.{rowsOf, twoBodies, contradictory}
+use Rattle.rules.specs.Tables.{Row}
+use Rattle.rules.specs.Merge.{twoBodies, contradictory}
 use Rattle.rules.proofs.Logic.{either-none, either-second}
-use Rattle.image_run.specs.Inner.WholeRuns.{tablesOf}
-use Rattle.gather.specs.Inner.UsedTables.{usedOf}
 use Rattle.gather.specs.Inner.State.{contradicts}
+use Rattle.gather.specs.Inner.Gathered.{rowsIn}
 use Rattle.gather.proofs.StateSeen.{state-contradicts}
+use Rattle.gather.proofs.RowsTold.{state-gathered}
 use Rattle.decide.specs.declared.survey.Survey.{Survey}
 use Rattle.decide.proofs.survey.with_stamp.Statement.{statement}
 use Rattle.decide.proofs.survey.with_stamp.Tie as tie
 
 -- the rows of the stamp
 abbrev rows : tie.Start → List Row
-rows p = rowsOf (usedOf (p .args .newest) (tablesOf valley (now (p .args .run)))) (p .args .stamp)
+rows p = rowsIn (now (p .args .run)) (p .args .gathered)
 
 abbrev withBodies : Bool → Survey → Survey
 withBodies b x = record { bodies = either (x .bodies) b; contradiction = x .contradiction; stamps = x .stamps }
@@ -37,7 +38,9 @@ bodies-seen c =
 contradiction-seen : (c : tie.Joined2) → let p = (c .before .before .before .before .before .before) in c .if2 .survey ≡ withContradiction (contradictory (rows p)) ((c .before .before .before) .if1 .survey)
 contradiction-seen c =
     let p = (c .before .before .before .before .before .before) in
-    let e = (c .before) .contradicts .ensures ∙ ap contradicts ((c .before .before) .state-of .ensures) ∙ state-contradicts (rows p) in
+    let s = now (p .args .run) in
+    let seen = state-gathered s (all-of s (λ i. (c .before .before .before .before .before) .shared-slice-known .given i .fits)) (p .pre .0 .0) (p .pre .0 .1) (p .args .gathered) (p .pre .0 .2) in
+    let e = (c .before) .contradicts .ensures ∙ ap contradicts ((c .before .before) .state-of .ensures ∙ seen) ∙ state-contradicts (rows p) in
     ⊎-elim (λ w. w .1 ∙ rw (sym e ∙ w .0 .taken, either-second _ true refl) refl) (λ w. w .1 ∙ rw (sym e ∙ w .0 .left, either-none) refl) (c .if2 .came)
 
 both-seen : (c : tie.Joined2) → let p = (c .before .before .before .before .before .before) in c .if2 .survey ≡ withContradiction (contradictory (rows p)) (withBodies (twoBodies (rows p)) (p .args .survey))

@@ -1,8 +1,6 @@
--- A tentative one, and then by the votes.
-use mathlib.Core.Path.{sym, _∙_}
-use Prim.Native.Nat.{_-_}
+use mathlib.Core.Path.{refl, sym, _∙_}
 use borrow.Author.Needs.{needs}
-use Rattle.gather.proofs.AgreedSeen.{tentative-counts, enough-votes, enough-not}
+use Rattle.rules.specs.Tests.{both}
 use Rattle.gather.proofs.agreed.is_enough.Statement.{statement}
 use Rattle.gather.proofs.agreed.is_enough.Tie as tie
 
@@ -10,13 +8,15 @@ is-tentative-requires : tie.Need-is-tentative-requires
 is-tentative-requires c κs = search needs
 
 votes-requires : tie.Need-votes-requires
-votes-requires c κs = ((c .before .before .before) .pre, tentative-counts _ (sym ((c .before) .is-tentative .ensures) ∙ c .if1 .taken))
+votes-requires c κs = search needs
 
 returns : tie.Need-returns
-returns c = enough-votes ((c .before .before .before .before) .args .agreement) _ _ _ _ (sym ((c .before .before) .is-tentative .ensures) ∙ (c .before) .if1 .taken) (c .votes .ensures)
+unfolding both
+returns c = rw (sym ((c .before .before) .is-tentative .ensures) ∙ (c .before) .if1 .taken, c .votes .ensures) refl
 
 returns-2 : tie.Need-returns-2
-returns-2 c = enough-not ((c .before .before .before) .args .agreement) ((c .before .before .before) .args .prepare) ((c .before .before .before) .args .retry) _ (sym ((c .before) .is-tentative .ensures) ∙ c .if1 .left)
+unfolding both
+returns-2 c = rw (sym ((c .before) .is-tentative .ensures) ∙ c .if1 .left) refl
 
 pub is-enough-spec : {M : Type 1} → statement M
 is-enough-spec = tie.close (tie.spec is-tentative-requires votes-requires returns returns-2)

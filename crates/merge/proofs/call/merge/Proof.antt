@@ -12,6 +12,7 @@ use Rattle.rules.specs.Merge.{areWrong}
 use Rattle.image_run.specs.Inner.WholeRuns.{tablesOf}
 use Rattle.image_run.specs.Runs.{runTables}
 use Rattle.image_run.proofs.RunTurns.{run-told}
+use Rattle.image_run.proofs.Wrongs.{right-few}
 use Rattle.merge.proofs.MergeSteps.{used-is, kept-small, kept-bad, kept-wrong, kept-survey, kept-done, stamps-counted, stamps-few}
 use Rattle.rules.specs.Tests.{isSome}
 use Rattle.decide.specs.Inner.Surveyed.{surveyNumber}
@@ -61,13 +62,13 @@ newest-view-requires : tie.Need-newest-view-requires
 newest-view-requires c κs = run-told valley _ (whole (c .before .before)) .0
 
 survey-stamps-requires : tie.Need-survey-stamps-requires
-survey-stamps-requires c κs = run-told valley _ (whole (c .before .before .before)) .0
+survey-stamps-requires c κs = let r = run-told valley _ (whole (c .before .before .before)) in (r .0, right-few _ (r .2) (r .0) _ (right (c .before)))
 
 number-requires : tie.Need-number-requires
 number-requires c κs = search needs
 
 write-merged-requires : tie.Need-write-merged-requires
-write-merged-requires c κs = let r = run-told valley _ (whole (c .before .before .before .before .before .before .before)) in let e = stamps-counted _ (now ((c .before .before .before .before .before .before .before .before .before .before .before .before .before .before) .args .out)) ((c .before .before .before .before .before .before .before .before .before .before .before .before .before .before) .args .view) (long (c .before .before .before .before .before .before .before .before .before)) (whole (c .before .before .before .before .before .before .before)) (right (c .before .before .before .before .before)) _ ((c .before .before .before .before) .newest-view .ensures) _ ((c .before .before .before) .survey-stamps .ensures) _ (counted (c .before .before)) in let l = stamps-few _ (now ((c .before .before .before .before .before .before .before .before .before .before .before .before .before .before) .args .out)) ((c .before .before .before .before .before .before .before .before .before .before .before .before .before .before) .args .view) (long (c .before .before .before .before .before .before .before .before .before)) (whole (c .before .before .before .before .before .before .before)) (right (c .before .before .before .before .before)) _ ((c .before .before .before .before) .newest-view .ensures) _ ((c .before .before .before) .survey-stamps .ensures) _ (counted (c .before .before)) ((c .before) .if4 .taken) in ((r .0, r .2, long (c .before .before .before .before .before .before .before .before .before)), (used-is _ _ ((c .before .before .before .before) .newest-view .ensures), e, omega arith))
+write-merged-requires c κs = let r = run-told valley _ (whole (c .before .before .before .before .before .before .before)) in let e = stamps-counted _ (now ((c .before .before .before .before .before .before .before .before .before .before .before .before .before .before) .args .out)) ((c .before .before .before .before .before .before .before .before .before .before .before .before .before .before) .args .view) (long (c .before .before .before .before .before .before .before .before .before)) (whole (c .before .before .before .before .before .before .before)) (right (c .before .before .before .before .before)) _ ((c .before .before .before .before) .newest-view .ensures) _ ((c .before .before .before) .survey-stamps .ensures) _ (counted (c .before .before)) in let l = stamps-few _ (now ((c .before .before .before .before .before .before .before .before .before .before .before .before .before .before) .args .out)) ((c .before .before .before .before .before .before .before .before .before .before .before .before .before .before) .args .view) (long (c .before .before .before .before .before .before .before .before .before)) (whole (c .before .before .before .before .before .before .before)) (right (c .before .before .before .before .before)) _ ((c .before .before .before .before) .newest-view .ensures) _ ((c .before .before .before) .survey-stamps .ensures) _ (counted (c .before .before)) ((c .before) .if4 .taken) in ((r .0, r .2, long (c .before .before .before .before .before .before .before .before .before), right-few _ (r .2) (r .0) _ (right (c .before .before .before .before .before))), (used-is _ _ ((c .before .before .before .before) .newest-view .ensures), e, omega arith))
 
 same-length : tie.Need-same-length
 same-length c = search needs

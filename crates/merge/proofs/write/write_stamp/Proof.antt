@@ -1,66 +1,142 @@
 -- The fields of the first image that holds the stamp, with the state of its row before any check; then its body.
-use mathlib.Core.Path.{refl, ap, _∙_}
-use Prim.Native.Nat.{_+_, _-_}
+use mathlib.Core.Path.{_≡_, refl, sym, ap, _∙_}
+use mathlib.Core.Bool.{not}
+use mathlib.Core.List.{List}
+use Prim.Native.Nat.{ℕ, _+_}
 use native.Mathlib.Omega.{arith}
+use lib.Dec.{eqb}
 use lib.ListN.{length}
 use denote.Ref.{now}
 use borrow.Author.Needs.{needs}
-use Rattle.rules.specs.Tables.{valley}
-use Rattle.wire.proofs.Numbers.{all-of}
-use Rattle.image_run.specs.Inner.WholeRuns.{tablesOf}
-use Rattle.gather.specs.Inner.UsedTables.{fromFirst}
-use Rattle.gather.proofs.UsedRows.{FirstHeld, first-held}
-use Rattle.gather.proofs.FirstImages.{first-begins, first-body}
-use Rattle.gather.proofs.Gathered.{all-regular}
-use Rattle.merge.proofs.RowsWritten.{body-long, stamp-laid}
+use Rattle.wire.specs.Inner.ByteLists.{AllBytes}
 use Rattle.wire.specs.Parts.{replaced}
+use Rattle.wire.proofs.Numbers.{all-of}
+use Rattle.rules.specs.Tables.{Row, valley}
+use Rattle.rules.specs.Merge.{agreedOf, uncheckedRow}
+use Rattle.rows.specs.Bytes.{lengthOf}
+use Rattle.table.specs.Images.{formatOne}
+use Rattle.table.specs.Parse.{tableAt}
+use Rattle.image_run.specs.Inner.WholeRuns.{tablesOf}
+use Rattle.image_run.proofs.RunTurns.{rest-of}
+use Rattle.gather.specs.declared.agreed.Agreed.{Agreed}
+use Rattle.gather.specs.Inner.UsedTables.{placeIn, fieldsFor, fromFirst}
+use Rattle.gather.specs.Inner.Agreed.{agreedAs}
+use Rattle.gather.specs.Inner.Gathered.{rowsIn}
+use Rattle.gather.proofs.UsedRows.{FirstHeld, first-held}
+use Rattle.gather.proofs.FirstImages.{first-body}
+use Rattle.gather.proofs.RowsTold.{state-gathered, agreed-gathered}
+use Rattle.gather.proofs.Gathered.{partAt, all-regular}
+use Rattle.decide.specs.Inner.Unsettled.{uncheckedAs}
+use Rattle.decide.proofs.UncheckedBytes.{agreed-code, agreed-some, unchecked-from}
+use Rattle.merge.proofs.RowsWritten.{body-long, stamp-laid}
 use Rattle.merge.proofs.write.write_stamp.Statement.{statement}
 use Rattle.merge.proofs.write.write_stamp.Tie as tie
 
-held : (c : tie.After-shared-slice-known) → let a = (c .before .before) .args in FirstHeld (a .newest) (a .stamp) (tablesOf valley (now (a .run))) (now (a .run)) (fromFirst (a .newest) (a .stamp) (tablesOf valley (now (a .run))) (now (a .run)))
-held c = first-held _ _ _ _ (all-of (now ((c .before .before) .args .run)) (λ i. c .shared-slice-known .given i .fits)) ((c .before .before) .pre .0 .0) ((c .before .before) .pre .0 .1)
+-- the rows of the stamp
+abbrev rows : tie.Start → List Row
+rows p = rowsIn (now (p .args .run)) (p .args .gathered)
 
-first-image-requires : tie.Need-first-image-requires
-first-image-requires c κs = search needs
+abbrev from : tie.Start → List ℕ
+from p = let g = p .args .gathered in fromFirst (g .cursors .newest) (g .cursors .last) (tablesOf valley (now (p .args .run))) (now (p .args .run))
 
-fields-in-requires : tie.Need-fields-in-requires
-fields-in-requires c κs = first-begins _ _ _ _ _ (held (c .before)) _ (c .first-image .ensures)
+bytes : (c : tie.After-shared-slice-known) → AllBytes (now ((c .before .before) .args .run))
+bytes c = all-of (now ((c .before .before) .args .run)) (λ i. c .shared-slice-known .given i .fits)
+
+held : (c : tie.After-shared-slice-known) → let p = (c .before .before) in let g = p .args .gathered in FirstHeld (g .cursors .newest) (g .cursors .last) (tablesOf valley (now (p .args .run))) (now (p .args .run)) (from p)
+held c = let p = (c .before .before) in first-held _ _ _ _ (bytes c) (p .pre .0 .0) (p .pre .0 .3)
+
+agreed-is : (c : tie.After-agreed-result) → c .agreed-result .result ≡ agreedAs (agreedOf ((c .before .before .before) .args .agreement) (rows (c .before .before .before)))
+agreed-is c = let p = (c .before .before .before) in c .agreed-result .ensures ∙ agreed-gathered (now (p .args .run)) (bytes (c .before)) (p .pre .0 .0) (p .pre .0 .1) (p .args .gathered) (p .pre .0 .2) (p .args .agreement)
+
+state-is : (c : tie.After-unchecked-state) → c .unchecked-state .result ≡ uncheckedAs ((c .before .before .before .before .before) .args .agreement) (rows (c .before .before .before .before .before))
+state-is c =
+    let p = (c .before .before .before .before .before) in
+    let s = (c .before) .state-of .ensures ∙ state-gathered (now (p .args .run)) (bytes (c .before .before .before)) (p .pre .0 .0) (p .pre .0 .1) (p .args .gathered) (p .pre .0 .2) in
+    c .unchecked-state .ensures ∙ rw (s, agreed-is (c .before .before)) (unchecked-from (p .args .agreement) (rows p))
+
+-- the part that is lent is the first image that holds the stamp, and its row there
+same : (c : tie.After-first-of) → partAt (now ((c .before .before .before .before .before .before) .args .run)) (c .first-of .result .at) ≡ from (c .before .before .before .before .before .before)
+same c = rest-of (now ((c .before .before .before .before .before .before) .args .run)) (c .first-of .result .at) ∙ c .first-of .ensures .1
+
+told : (c : tie.After-first-of) → let p = (c .before .before .before .before .before .before) in let g = p .args .gathered in let first = partAt (now (p .args .run)) (c .first-of .result .at) in c .first-of .result .row ≡ fieldsFor first (placeIn (g .cursors .newest) (tableAt formatOne first) (g .cursors .last))
+told c = rw (rest-of (now ((c .before .before .before .before .before .before) .args .run)) (c .first-of .result .at)) (c .first-of .ensures .2)
+
+long : (c : tie.After-body-of) → let p = (c .before .before .before .before .before .before .before .before .before) in length (now (c .body-of .result)) ≡ lengthOf (uncheckedRow (p .args .agreement) (p .args .gathered .cursors .last) (rows p) .body)
+long c =
+    let p = (c .before .before .before .before .before .before .before .before .before) in
+    let f = (c .before .before .before) in
+    ap length (c .body-of .ensures) ∙ body-long _ _ _ _ _ (all-regular _ (p .pre .0 .0)) (held (c .before .before .before .before .before .before .before)) _ (same f) _ (told f) (p .args .agreement) _ (state-is (c .before .before .before .before))
+
+agreed-result-requires : tie.Need-agreed-result-requires
+agreed-result-requires c κs = search needs
+
+state-of-requires : tie.Need-state-of-requires
+state-of-requires c κs = search needs
 
 unchecked-state-requires : tie.Need-unchecked-state-requires
-unchecked-state-requires c κs = search needs
+unchecked-state-requires c κs = let p = (c .before .before .before .before) in rw (agreed-is (c .before)) (agreed-code (agreedOf (p .args .agreement) (rows p)))
+
+first-of-requires : tie.Need-first-of-requires
+first-of-requires c κs = search needs
+
+sub-body-of : tie.Need-sub-body-of
+sub-body-of c = let l = (c .before) .first-of .ensures .0 in omega arith
+
+part-body-of-start : tie.Need-part-body-of-start
+part-body-of-start c = let l = (c .before) .first-of .ensures .0 in omega arith
+
+part-body-of-end : tie.Need-part-body-of-end
+part-body-of-end c = let l = (c .before) .first-of .ensures .0 in omega arith
 
 body-of-requires : tie.Need-body-of-requires
-body-of-requires c κs = first-body _ _ _ _ _ (held (c .before .before .before)) _ ((c .before .before) .first-image .ensures) _ ((c .before) .fields-in .ensures)
+body-of-requires c κs = let f = (c .before .before) in first-body _ _ _ _ _ (held (c .before .before .before .before .before .before)) _ (same f) _ (told f)
 
-cast-t13 : tie.Need-cast-t13
-cast-t13 c = let l = (c .before .before .before .before .before .before) .pre .1 .2 in omega arith
+cast-t19 : tie.Need-cast-t19
+cast-t19 c = let l = (c .before .before .before .before .before .before .before .before .before) .pre .1 .2 in omega arith
 
 write-row-requires : tie.Need-write-row-requires
 write-row-requires c κs = search needs
 
 copy-part-requires : tie.Need-copy-part-requires
-copy-part-requires c κs = let b = ap length ((c .before .before .before .before .before) .body-of .ensures) ∙ body-long _ _ _ _ _ (all-regular _ ((c .before .before .before .before .before .before .before .before .before .before .before) .pre .0 .0)) (held (c .before .before .before .before .before .before .before .before .before)) _ ((c .before .before .before .before .before .before .before .before) .first-image .ensures) _ ((c .before .before .before .before .before .before .before) .fields-in .ensures) ((c .before .before .before .before .before .before .before .before .before .before .before) .args .agreement) _ ((c .before .before .before .before .before .before) .unchecked-state .ensures) in let k = (c .before .before .before) .write-row .kept .0 in let l = (c .before .before .before .before .before .before .before .before .before .before .before) .pre .1 .2 in let m = (c .before .before .before .before .before .before .before .before .before .before .before) .pre .1 .3 in omega arith
+copy-part-requires c κs =
+    let p = (c .before .before .before .before .before .before .before .before .before .before .before .before .before .before) in
+    let b = long (c .before .before .before .before .before) in
+    let k = (c .before .before .before) .write-row .kept .0 in
+    let l = p .pre .1 .2 in
+    let m = p .pre .1 .3 in
+    omega arith
 
-add-result : tie.Need-add-result
-add-result c = let b = ap length ((c .before .before .before .before .before .before .before .before) .body-of .ensures) ∙ body-long _ _ _ _ _ (all-regular _ ((c .before .before .before .before .before .before .before .before .before .before .before .before .before .before) .pre .0 .0)) (held (c .before .before .before .before .before .before .before .before .before .before .before .before)) _ ((c .before .before .before .before .before .before .before .before .before .before .before) .first-image .ensures) _ ((c .before .before .before .before .before .before .before .before .before .before) .fields-in .ensures) ((c .before .before .before .before .before .before .before .before .before .before .before .before .before .before) .args .agreement) _ ((c .before .before .before .before .before .before .before .before .before) .unchecked-state .ensures) in let l = (c .before .before .before .before .before .before .before .before .before .before .before .before .before .before) .pre .1 .2 in omega arith
+add-t25 : tie.Need-add-t25
+add-t25 c = let b = long (c .before .before .before .before .before .before .before .before) in let l = (c .before .before .before .before .before .before .before .before .before .before .before .before .before .before .before .before .before) .pre .1 .2 in omega arith
 
 same-length : tie.Need-same-length
 same-length c = search needs
 
 returns : tie.Need-returns
-returns c = (ap (λ n. (c .before .before .before .before .before .before .before .before .before .before .before .before .before .before) .args .due + n) (ap length ((c .before .before .before .before .before .before .before .before) .body-of .ensures) ∙ body-long _ _ _ _ _ (all-regular _ ((c .before .before .before .before .before .before .before .before .before .before .before .before .before .before) .pre .0 .0)) (held (c .before .before .before .before .before .before .before .before .before .before .before .before)) _ ((c .before .before .before .before .before .before .before .before .before .before .before) .first-image .ensures) _ ((c .before .before .before .before .before .before .before .before .before .before) .fields-in .ensures) ((c .before .before .before .before .before .before .before .before .before .before .before .before .before .before) .args .agreement) _ ((c .before .before .before .before .before .before .before .before .before) .unchecked-state .ensures)), (c .before .before) .copy-part .ensures ∙ ap (λ z. replaced z ((c .before .before .before .before .before .before .before .before .before .before .before .before .before .before) .args .due) (now ((c .before .before .before .before .before .before .before .before) .body-of .result))) ((c .before .before .before .before .before .before) .write-row .ensures) ∙ stamp-laid _ _ _ _ _ (all-regular _ ((c .before .before .before .before .before .before .before .before .before .before .before .before .before .before) .pre .0 .0)) (held (c .before .before .before .before .before .before .before .before .before .before .before .before)) _ ((c .before .before .before .before .before .before .before .before .before .before .before) .first-image .ensures) _ ((c .before .before .before .before .before .before .before .before .before .before) .fields-in .ensures) ((c .before .before .before .before .before .before .before .before .before .before .before .before .before .before) .args .agreement) _ ((c .before .before .before .before .before .before .before .before .before) .unchecked-state .ensures) _ _ _ _ _ refl ((c .before .before .before .before .before .before .before .before) .body-of .ensures))
+returns c =
+    let p = (c .before .before .before .before .before .before .before .before .before .before .before .before .before .before .before .before .before .before) in
+    let f = (c .before .before .before .before .before .before .before .before .before .before .before .before) in (
+      (ap (λ n. p .args .due + n) (long (c .before .before .before .before .before .before .before .before .before)), ap (λ (x : Agreed). not (eqb (x .code) 0)) (agreed-is (c .before .before .before .before .before .before .before .before .before .before .before .before .before .before .before)) ∙ agreed-some (agreedOf (p .args .agreement) (rows p))),
+      (c .before .before .before) .copy-part .ensures
+          ∙ ap (λ z. replaced z (p .args .due) (now ((c .before .before .before .before .before .before .before .before .before) .body-of .result))) ((c .before .before .before .before .before .before .before) .write-row .ensures)
+          ∙ stamp-laid _ _ _ _ _ (all-regular _ (p .pre .0 .0)) (held (c .before .before .before .before .before .before .before .before .before .before .before .before .before .before .before .before)) _ (same f) _ (told f) (p .args .agreement) _ (state-is (c .before .before .before .before .before .before .before .before .before .before .before .before .before)) _ _ _ _ _ refl ((c .before .before .before .before .before .before .before .before .before) .body-of .ensures),
+    )
 
 pub write-stamp-spec : {M : Type 1} → statement M
 write-stamp-spec =
     tie.close
     (tie.spec
-    first-image-requires
-    fields-in-requires
+    agreed-result-requires
+    state-of-requires
     unchecked-state-requires
+    first-of-requires
+    sub-body-of
+    part-body-of-start
+    part-body-of-end
     body-of-requires
-    cast-t13
+    cast-t19
     write-row-requires
     copy-part-requires
-    add-result
+    add-t25
     same-length
     returns)
