@@ -3,8 +3,8 @@ use crate::accesses;
 use crate::clashes;
 use crate::floor;
 use crate::pass;
-use crate::pass::Checked;
 use crate::pass::Seen;
+use rows::result::Result;
 use rows::row;
 ghost use mathlib.Core.Path.{_≡_};
 ghost use mathlib.Core.Bool.{true};
@@ -90,7 +90,7 @@ pub fn check(
     body: &[u8],
     reads: usize,
     writes: usize,
-) -> Checked
+) -> Result
     requires { ⌜ RowsInside (now image) begin rows × (9 * (reads + writes) ≤ length (now body)) × (rising 0 (rowsAt (now image) begin rows) ≡ true) ⌝ }
     ensures { λ r. ⌜ r ≡ checkedAs (dayCheck (rowsAt (now (image .entry)) begin rows) stamp (bodyAt (now (body .entry)) 0 reads writes)) ⌝ }
 {

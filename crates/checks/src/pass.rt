@@ -2,6 +2,7 @@
 use crate::accesses;
 use crate::clashes;
 use crate::floor;
+use rows::result::Result;
 use rows::row;
 ghost use mathlib.Core.Path.{_≡_};
 ghost use mathlib.Core.Bool.{true};
@@ -16,12 +17,6 @@ ghost use Rattle.rows.specs.Inner.Rows.{BodyInside, RowsInside};
 ghost use Rattle.checks.specs.Inner.Given.{checkedAs};
 ghost use Rattle.checks.specs.Inner.RegisterWrites.{Marked};
 ghost use Rattle.checks.specs.Inner.Passed.{acceptedBytes, raised, withNamed, rowClashes, seenWith, nothingSeen, answerOf};
-
-// The check's result as a row has it: its code and its retry stamp.
-pub struct Checked {
-    pub code: u8,
-    pub retry: u64,
-}
 
 // What the rows passed say: the advice, which is the greatest stamp of an accepted row that B names or 0; whether A holds of a committed one, whether B does, whether C holds of one. A prepared row raises the advice and B does not fire on it, so B has a mark of its own. The stamp stands first so that the marks lie side by side: apart, each would drag its padding through every turn of the loop.
 pub struct Seen {
@@ -159,22 +154,22 @@ pub fn nothing_seen() -> Seen
 }
 
 // What all rows together say: A comes first, then B, then C.
-pub fn answer(seen: Seen) -> Checked
+pub fn answer(seen: Seen) -> Result
     ensures { λ r. ⌜ r ≡ checkedAs (answerOf seen) ⌝ }
 {
     if seen.abort {
-        return Checked { code: 2, retry: 0 };
+        return Result { code: 2, retry: 0 };
     }
     if seen.retry {
-        return Checked {
+        return Result {
             code: 4,
             retry: seen.advice,
         };
     }
     if seen.abstain {
-        return Checked { code: 3, retry: 0 };
+        return Result { code: 3, retry: 0 };
     }
-    Checked { code: 1, retry: 0 }
+    Result { code: 1, retry: 0 }
 }
 
 // What the check says of a transaction at a stamp whose body is lent: a part of the table or of a message.
@@ -186,7 +181,7 @@ pub fn check(
     body: &[u8],
     reads: usize,
     writes: usize,
-) -> Checked
+) -> Result
     requires { ⌜ RowsInside (now image) begin rows × (9 * (reads + writes) ≤ length (now body)) × (rising 0 (rowsAt (now image) begin rows) ≡ true) ⌝ }
     ensures { λ r. ⌜ r ≡ checkedAs (check (rowsAt (now (image .entry)) begin rows) stamp (bodyAt (now (body .entry)) 0 reads writes)) ⌝ }
 {

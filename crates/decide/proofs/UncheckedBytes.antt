@@ -17,7 +17,7 @@ use Rattle.rules.proofs.Merge.{unchecked-retry}
 use Rattle.rules.proofs.Standings.{NoneOrDone, outcome-cases, standing-says}
 use Rattle.rows.specs.Fields.{prepareNumbered, outcomeNumbered, retryByCode}
 use Rattle.rows.proofs.Codes.{prepare-read, outcome-read, retry-of-code, prepare-code-limit, outcome-code-limit}
-use Rattle.gather.specs.declared.agreed.Agreed.{Agreed}
+use Rattle.rows.specs.declared.result.Result as rows
 use Rattle.gather.specs.Inner.State.{finalCode, stateOf, outcomeHeld}
 use Rattle.gather.specs.Inner.Agreed.{agreedAs}
 use Rattle.gather.proofs.StateSeen.{state-outcome}
@@ -54,7 +54,7 @@ agreed-some (some ABORT) = refl
 agreed-some (some ABSTAIN) = refl
 agreed-some (some (RETRY t)) = refl
 
-abbrev together : Agreed → Bool → ℕ → Unchecked
+abbrev together : rows.Result → Bool → ℕ → Unchecked
 together a held outcome = record { prepare = cond (eqb (a .code) 0) (cond held (openByte outcome) 0) (agreedByte (a .code) outcome); retry = cond (eqb (a .code) 0) 0 (a .retry); outcome = outcome }
 
 -- a merge has no noted outcome

@@ -1,6 +1,6 @@
 // What a stamp's row holds before any check; nothing, if a check is still to come.
-use gather::agreed::Agreed;
 use gather::state::State;
+use rows::result::Result;
 ghost use mathlib.Core.Path.{_≡_};
 ghost use Prim.Native.Nat.{_≤_};
 ghost use Rattle.decide.specs.Inner.Unsettled.{agreedByte, openByte, withoutFinal, uncheckedFrom};
@@ -39,7 +39,7 @@ fn open_byte(outcome: u8) -> u8
 }
 
 // Where no final result is held: an agreed result, an open one, or no prepare at all.
-fn without_final(state: State, agreed: Agreed) -> Unchecked
+fn without_final(state: State, agreed: Result) -> Unchecked
     requires { ⌜ agreed .code ≤ 4 ⌝ }
     ensures { λ r. ⌜ r ≡ withoutFinal state agreed ⌝ }
 {
@@ -66,7 +66,7 @@ fn without_final(state: State, agreed: Agreed) -> Unchecked
 }
 
 // The state of a stamp's row, by what its rows hold together and by the result that is agreed. A final result stays.
-pub fn unchecked_state(state: State, agreed: Agreed) -> Unchecked
+pub fn unchecked_state(state: State, agreed: Result) -> Unchecked
     requires { ⌜ agreed .code ≤ 4 ⌝ }
     ensures { λ r. ⌜ r ≡ uncheckedFrom state agreed ⌝ }
 {

@@ -11,7 +11,7 @@ use Rattle.rules.specs.Tests.{both, count, provided, orElse, firstOf}
 use Rattle.rules.specs.Tables.{Result, Result.OK, Result.ABORT, Result.ABSTAIN, Result.RETRY, Prepare, Prepare.noPrepare, Prepare.tentative, Prepare.final, Row, resultCode, resultRetry, prepareCode, prepareRetry, sameResult}
 use Rattle.rules.specs.Merge.{holdsTentative, isAgreed, tentativeResult, ifAgreed, agreedOf}
 use Rattle.rules.proofs.Logic.{eqb-sym}
-use Rattle.gather.specs.declared.agreed.Agreed.{Agreed}
+use Rattle.rows.specs.declared.result.Result as held
 use Rattle.gather.specs.Inner.Agreed.{isTentative, agreedAs}
 
 -- ---- a result by its codes
@@ -74,7 +74,7 @@ pub agreed-none : (agreement : ℕ) (all : List Row) → agreedOfThese agreement
 unfolding firstOf
 agreed-none agreement all = refl
 
-abbrev codesOf : ℕ → ℕ → Agreed
+abbrev codesOf : ℕ → ℕ → held.Result
 codesOf prepare retry = record { code = prepare; retry = retry }
 
 one-agreed : (agreement : ℕ) (all : List Row) (p : Prepare) (rest : Option Result) → agreedAs (orElse (ifAgreed agreement all (tentativeResult p)) rest) ≡ cond (isEnough agreement all (prepareCode p) (prepareRetry p)) (codesOf (prepareCode p) (prepareRetry p)) (agreedAs rest)

@@ -1,16 +1,11 @@
 // The tentative result of a stamp that enough used tables hold.
 use crate::held::Gathered;
+use rows::result::Result;
 use rows::row::RowFields;
 ghost use mathlib.Core.Path.{_≡_};
 ghost use Rattle.rules.specs.Tests.{count};
 ghost use Rattle.gather.specs.Inner.Gathered.{fieldsFrom};
 ghost use Rattle.gather.specs.Inner.Agreed.{isTentative, hasCodes, enoughHave, agreedAmong};
-
-// A result's code and its retry stamp; 0 if none is agreed.
-pub struct Agreed {
-    pub code: u8,
-    pub retry: u64,
-}
 
 // A tentative prepare byte.
 fn is_tentative(prepare: u8) -> bool
@@ -55,19 +50,19 @@ fn is_enough(gathered: Gathered, prepare: u8, retry: u64, agreement: usize) -> b
 }
 
 // The tentative result that is found in at least the agreement count of the rows of a stamp.
-pub fn agreed_result(gathered: Gathered, agreement: usize) -> Agreed
+pub fn agreed_result(gathered: Gathered, agreement: usize) -> Result
     ensures { λ r. ⌜ r ≡ agreedAmong agreement (fieldsFrom (gathered .rows) 0 4) (fieldsFrom (gathered .rows) 0 4) ⌝ }
 {
     let mut k: usize = 0;
     while k < 4 {
         let row = gathered.rows[k];
         if is_enough(gathered, row.prepare, row.retry, agreement) {
-            return Agreed {
+            return Result {
                 code: row.prepare,
                 retry: row.retry,
             };
         }
         k += 1;
     }
-    Agreed { code: 0, retry: 0 }
+    Result { code: 0, retry: 0 }
 }

@@ -4,5 +4,6 @@
 pub mod body;
 pub mod lookup;
 pub mod reader;
+pub mod result;
 pub mod row;
 pub mod walk;

@@ -2,8 +2,8 @@
 use crate::add;
 use crate::reply::CountedReply;
 use crate::reply::Reply;
-use checks::pass::Checked;
 use message::carried;
+use rows::result::Result;
 use rows::row;
 use rows::row::RowFields;
 use seek::Finding;
@@ -74,7 +74,7 @@ fn answer_held(table: &mut [u8], index: usize, stamp: u64) -> Reply
 }
 
 // The result that message 1 gets for a stamp that the table does not hold: its body lies in the message.
-fn check_new(table: &[u8], message: &[u8], row: RowFields) -> Checked
+fn check_new(table: &[u8], message: &[u8], row: RowFields) -> Result
     requires { ⌜ BeginsWithImage valley (now table) × BodyInside (now message) row ⌝ }
     ensures { λ r. ⌜ r ≡ checkedAs (proposalCheck (tableAt formatOne (now (table .entry)) .rows) (row .stamp) (bodyAt (now (message .entry)) (row .offset) (row .reads) (row .writes))) ⌝ }
 {

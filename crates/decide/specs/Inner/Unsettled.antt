@@ -7,7 +7,7 @@ use Rattle.rules.specs.Tests.{both}
 use Rattle.rules.specs.Tables.{Row, prepareCode, prepareRetry, outcomeCode}
 use Rattle.rules.specs.Merge.{standing, mergedOutcome, uncheckedPrepare}
 use Rattle.gather.specs.declared.state.State.{State}
-use Rattle.gather.specs.declared.agreed.Agreed.{Agreed}
+use Rattle.rows.specs.declared.result.Result.{Result}
 use Rattle.gather.specs.Inner.State.{outcomeHeld}
 use Rattle.decide.specs.declared.unchecked.Unchecked.{Unchecked}
 
@@ -20,7 +20,7 @@ abbrev pub openByte : ℕ → ℕ
 openByte outcome = cond (eqb outcome 0) 0 (cond (eqb outcome 3) 5 6)
 
 -- a stamp of which no final result is held
-unfoldable pub withoutFinal : State → Agreed → Unchecked
+unfoldable pub withoutFinal : State → Result → Unchecked
 withoutFinal x a = record {
   prepare = cond (eqb (a .code) 0) (cond (x .held) (openByte (outcomeHeld x)) 0) (agreedByte (a .code) (outcomeHeld x));
   retry = cond (eqb (a .code) 0) 0 (a .retry);
@@ -28,7 +28,7 @@ withoutFinal x a = record {
 }
 
 -- any stamp: "a final result" stays
-unfoldable pub uncheckedFrom : State → Agreed → Unchecked
+unfoldable pub uncheckedFrom : State → Result → Unchecked
 uncheckedFrom x a = cond (eqb (x .prepare) 0) (withoutFinal x a) (record { prepare = x .prepare; retry = x .retry; outcome = outcomeHeld x })
 
 -- what `rules` has the row hold before any check

@@ -18,7 +18,7 @@ use Rattle.table.specs.Images.{formatOne}
 use Rattle.table.specs.Parse.{tableAt}
 use Rattle.image_run.specs.Inner.WholeRuns.{tablesOf}
 use Rattle.image_run.proofs.RunTurns.{rest-of}
-use Rattle.gather.specs.declared.agreed.Agreed.{Agreed}
+use Rattle.rows.specs.declared.result.Result.{Result}
 use Rattle.gather.specs.Inner.UsedTables.{placeIn, fieldsFor, fromFirst}
 use Rattle.gather.specs.Inner.Agreed.{agreedAs}
 use Rattle.gather.specs.Inner.Gathered.{rowsIn}
@@ -116,7 +116,7 @@ returns : tie.Need-returns
 returns c =
     let p = (c .before .before .before .before .before .before .before .before .before .before .before .before .before .before .before .before .before .before) in
     let f = (c .before .before .before .before .before .before .before .before .before .before .before .before) in (
-      (ap (λ n. p .args .due + n) (long (c .before .before .before .before .before .before .before .before .before)), ap (λ (x : Agreed). not (eqb (x .code) 0)) (agreed-is (c .before .before .before .before .before .before .before .before .before .before .before .before .before .before .before)) ∙ agreed-some (agreedOf (p .args .agreement) (rows p))),
+      (ap (λ n. p .args .due + n) (long (c .before .before .before .before .before .before .before .before .before)), ap (λ (x : Result). not (eqb (x .code) 0)) (agreed-is (c .before .before .before .before .before .before .before .before .before .before .before .before .before .before .before)) ∙ agreed-some (agreedOf (p .args .agreement) (rows p))),
       (c .before .before .before) .copy-part .ensures
           ∙ ap (λ z. replaced z (p .args .due) (now ((c .before .before .before .before .before .before .before .before .before) .body-of .result))) ((c .before .before .before .before .before .before .before) .write-row .ensures)
           ∙ stamp-laid _ _ _ _ _ (all-regular _ (p .pre .0 .0)) (held (c .before .before .before .before .before .before .before .before .before .before .before .before .before .before .before .before)) _ (same f) _ (told f) (p .args .agreement) _ (state-is (c .before .before .before .before .before .before .before .before .before .before .before .before .before)) _ _ _ _ _ refl ((c .before .before .before .before .before .before .before .before .before) .body-of .ensures),
