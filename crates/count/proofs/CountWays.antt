@@ -2,7 +2,7 @@
 use mathlib.Core.Path.{_≡_, refl, sym, ap, _∙_}
 use mathlib.Core.Bool.{Bool, true, false, not, cond}
 use mathlib.Core.Logic.{_⊎_, inl, inr}
-use mathlib.Core.List.{List, [], _∷_, _++_, List·Memᴰ·head, List·Memᴰ·cases-cons, List·Memᴰ·not-nil, Memᴰ·append-right, Memᴰ·map}
+use mathlib.Core.List.{List, [], _∷_, _++_, List·Memᴰ·head, List·Memᴰ·cases-cons, List·Memᴰ·not-nil, Memᴰ·append-right}
 use mathlib.Core.Option.{Option, none, some}
 use Prim.Native.Nat.{ℕ, _*_, _/_, _≤_, _<_}
 use native.Mathlib.Omega.{arith}
@@ -17,15 +17,14 @@ use Rattle.rules.specs.Inner.CountAnswers.{countedNumber}
 use Rattle.rules.proofs.Logic.{impossible, cases, same?, both-left, both-right, either-cases, either-left, either-right, either-first, either-second}
 use Rattle.rules.proofs.Lists.{_∈_, places, any-none, any-some, some-any, every-one, all-every, pair-none}
 use Rattle.rules.proofs.Same.{same-result, result-same, not-other-result}
-use Rattle.rules.proofs.Votes.{count-none, replies-different, replies-inside}
+use Rattle.rules.proofs.Votes.{count-none}
 use Rattle.replies.specs.declared.held.Reply.{Reply}
 use Rattle.replies.specs.PlainReplies.{resultRead, heard, allHeard}
 use Rattle.count.specs.Inner.MeantAnswers.{contradicting}
 use Rattle.count.specs.Calls.{countOf, repliesOf, countBytes}
 use Rattle.replies.specs.Inner.Bad.{areBad}
 use Rattle.count.proofs.HeardBytes.{count-whole, count-broken}
-use Rattle.replies.proofs.Turns.{coded, any-heard}
-use Rattle.replies.proofs.BadReplies.{twice-heard, bad-group, good-facts}
+use Rattle.replies.proofs.BadReplies.{coded, any-heard, twice-heard, bad-group, good-facts}
 use Rattle.count.proofs.Counts.{bad-refused, good-counted, contradicted, clear}
 
 -- ---- what is lent
@@ -152,11 +151,6 @@ unfolding either
 whichever true b h f g = f refl
 whichever false b h f g = g h
 
--- replies that are not bad are of one view
-one-view : (n : ℕ) (hs : List Heard) → badReplies n hs ≡ false → (h g : Heard) → h ∈ hs → g ∈ hs → h .view ≡ g .view
-unfolding badReplies unequalViews
-one-view n hs not-bad h g m i = eqb-true _ _ (not-false _ (pair-none _ hs (either-left _ _ (either-right _ _ (either-right _ _ (either-right _ _ not-bad)))) h g m i))
-
 module _ (n : ℕ) (lent : Lent) where
   -- what passes a test among all that is heard is a reply's
   said : (test : Heard → Bool) → any test (lentHeard lent) ≡ true → (r : Reply) × (r ∈ lentReplies lent) × (test (heard r) ≡ true)
@@ -202,11 +196,11 @@ module _ (n : ℕ) (lent : Lent) where
   pub good-none : GoodLent n lent → BadLent n lent → ⊥
   good-none (w, e) (cut c) = c w
   good-none (w, e) (badGroup g) = impossible (sym (bad-group n (lentReplies lent) g)) e
-  good-none (w, e) (outside r m l) = let k = replies-inside n (lentHeard lent) (good-facts n (lentReplies lent) e .not-bad) (heard r) (Memᴰ·map heard m) in omega arith
+  good-none (w, e) (outside r m l) = let k = good-facts n (lentReplies lent) e .below r m in omega arith
   good-none (w, e) (again before r between q after k b) =
       impossible (ap (twice (λ (r : Reply). r .boxnumber)) k ∙ again-twice (λ (r : Reply). r .boxnumber) before r between q after b)
-      (sym (twice-heard (lentReplies lent)) ∙ replies-different n (lentHeard lent) (good-facts n (lentReplies lent) e .not-bad))
-  good-none (w, e) (otherView r q m i d) = d (one-view n (lentHeard lent) (good-facts n (lentReplies lent) e .not-bad) (heard r) (heard q) (Memᴰ·map heard m) (Memᴰ·map heard i))
+      (good-facts n (lentReplies lent) e .apart)
+  good-none (w, e) (otherView r q m i d) = d (good-facts n (lentReplies lent) e .one-view r q m i)
   good-none (w, e) (badResult r m f) = impossible (every-one resultRead (lentReplies lent) (good-facts n (lentReplies lent) e .read) r m) f
 
   -- 3, or not

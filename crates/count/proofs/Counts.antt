@@ -16,10 +16,8 @@ use Rattle.replies.specs.declared.held.Reply.{Reply}
 use Rattle.replies.specs.PlainReplies.{resultRead, allHeard}
 use Rattle.count.specs.Inner.MeantAnswers.{contradicting}
 use Rattle.count.specs.Calls.{countOf}
-use Rattle.replies.specs.Inner.HeldReplies.{repliesIn, noneHeld, withReplies}
 use Rattle.replies.specs.Inner.Bad.{areBad}
 use Rattle.replies.proofs.BadReplies.{good-facts, too-many}
-use Rattle.replies.proofs.HeldAll.{length-replies, held-few, held-many}
 
 -- ---- what is bad is refused with 3, and the rest is counted
 
@@ -46,17 +44,4 @@ unfolding counted countNumber countCircumstances number first applies either bot
 clear n rs h c = good-counted n rs h ∙ rw (good-facts n rs h .not-bad, c) refl
 
 pub many-bad : (n : ℕ) (rs : List Reply) → 7 < length rs → countOf n rs ≡ refused (numberCode badMessage)
-many-bad n rs l = bad-refused n rs (sym (too-many n rs l))
-
--- ---- the replies held
-
--- the replies held are counted as the list is, since more than seven are refused either way
-pub count-held : (n : ℕ) (rs : List Reply) → countOf n (repliesIn (withReplies noneHeld rs)) ≡ countOf n rs
-count-held n rs = go (cases (ltb 7 (length rs)))
-  where
-    go : (ltb 7 (length rs) ≡ true) ⊎ (ltb 7 (length rs) ≡ false) → countOf n (repliesIn (withReplies noneHeld rs)) ≡ countOf n rs
-    go (inl t) =
-        let l : 7 < length rs = ltb-true 7 (length rs) t in
-        let e : length (repliesIn (withReplies noneHeld rs)) ≡ 8 = length-replies (withReplies noneHeld rs) 0 (withReplies noneHeld rs .number) ∙ held-many rs l in
-        many-bad n (repliesIn (withReplies noneHeld rs)) (omega arith) ∙ sym (many-bad n rs l)
-    go (inr t) = ap (countOf n) (held-few rs (ltb-false 7 (length rs) t))
+many-bad n rs l = bad-refused n rs (too-many n rs l)

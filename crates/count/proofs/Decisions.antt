@@ -7,43 +7,22 @@ use mathlib.Core.Option.{Option, none, some}
 use Prim.Native.Nat.{ℕ, _+_, _<_, _≤_, max}
 use native.Mathlib.Omega.{arith}
 use lib.Dec.{eqb, ltb}
-use lib.ListN.{length}
 use borrow.Author.Tests.{ltb-true, ltb-false, not-false, lt-ltb, le-ltb, le-leb, lt-leb}
 use Rattle.rules.specs.Tests.{both, either, bit, any, count, greatest, somePair, provided, firstOf}
 use Rattle.rules.specs.Groups.{fOf, quorum}
 use Rattle.rules.specs.Stamps.{isStamp}
 use Rattle.rules.specs.Tables.{Result, Result.OK, Result.ABORT, Result.ABSTAIN, Result.RETRY, resultCode, resultRetry, sameResult, resultByRule}
-use Rattle.rules.specs.Count.{Heard, badReplies, agreeing, isFast, unequalFinalHeard, fastBesideFinal, Counted, fastOf, finalHeard, greatestRetry, slowResult, slowOr, fastOr, decided}
+use Rattle.rules.specs.Count.{Heard, badReplies, agreeing, isFast, unequalFinalHeard, fastBesideFinal, fastOf, finalHeard, greatestRetry, slowResult}
 use Rattle.rules.proofs.Logic.{cases, both-left, both-right, both-true, both-false, either-false, either-left, either-right, either-first, either-second, not-true-of}
 use Rattle.rules.proofs.Lists.{_∈_, any-none, any-some, some-any, none-pair, provided-some, provided-none, first-from, first-none}
 use Rattle.rules.proofs.Same.{same-result, result-same, not-other-result}
-use Rattle.rules.proofs.Tables.{result-counts}
 use Rattle.rules.proofs.Count.{final-from}
 use Rattle.rules.proofs.Votes.{fast-one}
-use Rattle.message.specs.Messages.{resultByCode}
-use Rattle.message.proofs.Forms.{result-read}
-use Rattle.replies.specs.declared.said.Said.{Said}
-use Rattle.count.specs.declared.answer.Counted.the-variants.{Fast, Slow, Wait}
-use Rattle.replies.specs.Inner.Results.{saidAs, resultOf}
 use Rattle.count.specs.Inner.MeantAnswers.{contradicting}
-use Rattle.count.specs.Answers.{answerAs}
 
 not-first : {a : Bool} (b : Bool) → a ≡ false → both a b ≡ false
 unfolding both
 not-first b e = rw e refl
-
--- ---- a result found, or none
-
-pub none-said : (a : Said) (o : Option Result) → a ≡ saidAs o → a .code ≡ 0 → o ≡ none
-none-said a none e z = refl
-none-said a (some r) e z = let k = result-counts r in let c : a .code ≡ resultCode r = ap (λ (s : Said). s .code) e in absurd (omega arith)
-
--- a result by the rules is what its code and its retry stamp mean
-said-result : (a : Said) (o : Option Result) → a ≡ saidAs o → ((r : Result) → o ≡ some r → resultByRule r ≡ true) → (a .code ≡ 0 → ⊥) → (o ≡ some (resultOf a)) × (resultByCode (a .code) (a .retry) ≡ true)
-said-result a none e h z = absurd (z (ap (λ (s : Said). s .code) e))
-said-result a (some r) e h z =
-    let k = result-read r (h r refl) in
-    (ap some (sym (k .0) ∙ sym (ap resultOf e)), ap (λ (s : Said). resultByCode (s .code) (s .retry)) e ∙ k .1)
 
 module _ (n : ℕ) (hs : List Heard) (good : badReplies n hs ≡ false) where
   pub results-good : any (λ h. not (resultByRule (h .result))) hs ≡ false
@@ -59,21 +38,13 @@ module _ (n : ℕ) (hs : List Heard) (good : badReplies n hs ≡ false) where
       let (h, m, k) = first-from (λ h. provided (test h) (h .result)) hs r e in
       rw (← provided-some (test h) (h .result) r k .1) (by-rule h m)
 
-  pub final-said : (a : Said) → a ≡ saidAs (finalHeard hs) → (a .code ≡ 0 → ⊥) → (finalHeard hs ≡ some (resultOf a)) × (resultByCode (a .code) (a .retry) ≡ true)
-  unfolding finalHeard
-  final-said a e = said-result a (finalHeard hs) e (chosen-by-rule (λ h. h .isFinal))
-
-  pub fast-said : (a : Said) → a ≡ saidAs (fastOf n hs) → (a .code ≡ 0 → ⊥) → (fastOf n hs ≡ some (resultOf a)) × (resultByCode (a .code) (a .retry) ≡ true)
-  unfolding fastOf
-  fast-said a e = said-result a (fastOf n hs) e (chosen-by-rule (λ h. isFast n hs (h .result)))
-
 -- ---- "Two unequal finals, or a fast count for a result other than a final one: 6."
 
-abbrev otherFinal : Result → Heard → Bool
+abbrev pub otherFinal : Result → Heard → Bool
 otherFinal q g = both (g .isFinal) (not (sameResult q (g .result)))
 
 -- a final result is the first one, if none is unequal to that
-final-is : (hs : List Heard) (q : Result) → any (otherFinal q) hs ≡ false → (h : Heard) → h ∈ hs → h .isFinal ≡ true → q ≡ h .result
+pub final-is : (hs : List Heard) (q : Result) → any (otherFinal q) hs ≡ false → (h : Heard) → h ∈ hs → h .isFinal ≡ true → q ≡ h .result
 unfolding both
 final-is hs q a h m f = not-other-result q (h .result) (rw f at (any-none (otherFinal q) hs a h m))
 
@@ -103,7 +74,7 @@ module _ (n : ℕ) (hs : List Heard) (good : badReplies n hs ≡ false) where
   abbrev Contradicts : Bool → Type 0
   Contradicts b = b ≡ contradicting n hs
 
-  no-final : finalHeard hs ≡ none → (h : Heard) → h ∈ hs → h .isFinal ≡ false
+  pub no-final : finalHeard hs ≡ none → (h : Heard) → h ∈ hs → h .isFinal ≡ false
   unfolding finalHeard
   no-final e h m = provided-none (h .isFinal) (h .result) (first-none (λ g. provided (g .isFinal) (g .result)) hs e h m)
 
@@ -216,31 +187,3 @@ module _ (n : ℕ) (hs : List Heard) (aborts : ℕ) (ea : aborts ≡ agreeing hs
       pub slow-abstain : stamp ≤ 0 → slowResult n hs ≡ ABSTAIN
       unfolding slowResult
       slow-abstain l = rw (no-abort, ← eo, ← ee, lt-leb enough oks few, any-retried hs (results-good n hs good), ← es, le-ltb 0 stamp l) refl
-
--- ---- "fast with r ..; wait if fewer than f+1 replies; slow with the final result if there is one; .."
-
-fast-answer : (a : Said) (o : Option Result) → a ≡ saidAs o → (a .code ≡ 0 → ⊥) → (c : Counted) → Fast (a .code) (a .retry) ≡ answerAs (fastOr o c)
-fast-answer a none e z c = absurd (z (ap (λ (s : Said). s .code) e))
-fast-answer a (some r) e z c = ap (λ (s : Said). Fast (s .code) (s .retry)) e
-
-slow-answer : (a : Said) (o : Option Result) → a ≡ saidAs o → (a .code ≡ 0 → ⊥) → (q : Result) → Slow (a .code) (a .retry) ≡ answerAs (slowOr o q)
-slow-answer a none e z q = absurd (z (ap (λ (s : Said). s .code) e))
-slow-answer a (some r) e z q = ap (λ (s : Said). Slow (s .code) (s .retry)) e
-
-module _ (n : ℕ) (hs : List Heard) (last enough : Said) (el : last ≡ saidAs (finalHeard hs)) (ee : enough ≡ saidAs (fastOf n hs)) where
-  pub decided-fast : (enough .code ≡ 0 → ⊥) → Fast (enough .code) (enough .retry) ≡ answerAs (decided n hs)
-  unfolding decided
-  decided-fast z = fast-answer enough (fastOf n hs) ee z _
-
-  module _ (z : enough .code ≡ 0) where
-    pub decided-wait : length hs < quorum (fOf n) → Wait ≡ answerAs (decided n hs)
-    unfolding decided
-    decided-wait l = rw (none-said enough (fastOf n hs) ee z, lt-ltb _ _ l) refl
-
-    pub decided-final : quorum (fOf n) ≤ length hs → (last .code ≡ 0 → ⊥) → Slow (last .code) (last .retry) ≡ answerAs (decided n hs)
-    unfolding decided
-    decided-final l y = rw (none-said enough (fastOf n hs) ee z, le-ltb _ _ l) (slow-answer last (finalHeard hs) el y (slowResult n hs))
-
-    pub decided-slow : quorum (fOf n) ≤ length hs → last .code ≡ 0 → (a : Said) → a ≡ saidAs (some (slowResult n hs)) → Slow (a .code) (a .retry) ≡ answerAs (decided n hs)
-    unfolding decided
-    decided-slow l y a e = rw (none-said enough (fastOf n hs) ee z, le-ltb _ _ l, none-said last (finalHeard hs) el y) (ap (λ (s : Said). Slow (s .code) (s .retry)) e)

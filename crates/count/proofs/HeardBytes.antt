@@ -49,7 +49,7 @@ replies-end s at l = let e : (length s - at) / 15 ≡ 0 = omega arith in rw e re
 -- ---- whole replies, or not
 
 -- as many are read as are asked for
-length-replies-of : (k : ℕ) (s : List ℕ) → length (repliesOf k s) ≡ k
+pub length-replies-of : (k : ℕ) (s : List ℕ) → length (repliesOf k s) ≡ k
 unfolding repliesOf
 length-replies-of zero s = refl
 length-replies-of (suc k) s = ap suc (length-replies-of k (drop 15 s))

@@ -3,4 +3,5 @@ pub mod HeardBytes
 pub mod Decisions
 pub mod CountWays
 pub mod CountCall
+pub mod TallyCounts
 pub mod Walks

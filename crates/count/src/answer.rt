@@ -1,18 +1,12 @@
-// The count: what is refused, and then fast, wait or slow.
-use replies::bad;
-use replies::held::Replies;
-use replies::said;
-use replies::said::Said;
+// The count: what is refused, and then fast, wait or slow, by what was kept of the replies.
+use replies::tally;
+use replies::tally::First;
+use replies::tally::Range;
+use replies::tally::Tally;
+use table::header;
 ghost use mathlib.Core.Path.{_≡_};
-ghost use mathlib.Core.Bool.{false};
-ghost use mathlib.Core.Option.{some};
-ghost use Rattle.rules.specs.Count as rules;
-ghost use Rattle.count.specs.Calls.{countOf};
-ghost use Rattle.replies.specs.Inner.HeldReplies.{repliesIn, heardIn};
-ghost use Rattle.replies.specs.Inner.Bad.{areBad};
-ghost use Rattle.replies.specs.Inner.Results.{saidAs};
-ghost use Rattle.count.specs.Inner.MeantAnswers.{contradicting};
-ghost use Rattle.count.specs.Answers.{answerAs};
+ghost use Prim.Native.Nat.{_<_};
+ghost use Rattle.count.specs.Inner.TallyAnswers.{isBad, fastBy, contradictsBy, howMany, slowBy, decidedBy, answered};
 
 // What a count answers: a result with its retry stamp, to wait for more, or a refusal.
 pub enum Counted {
@@ -23,84 +17,114 @@ pub enum Counted {
     Contradiction,
 }
 
-// Two unequal finals, or a fast count for a result other than a final one.
-fn contradicts(n: u8, replies: Replies, settled: Said, fast: Said) -> bool
-    requires { ⌜ areBad n (repliesIn replies) ≡ false ⌝ }
-    requires { ⌜ (settled ≡ saidAs (rules.finalHeard (heardIn replies))) × (fast ≡ saidAs (rules.fastOf n (heardIn replies))) ⌝ }
-    ensures { λ r. ⌜ r ≡ contradicting n (heardIn replies) ⌝ }
+// Bad n, a box outside the group, or what was bad before. Any of these is a bit at n or above.
+fn is_bad(n: u8, tally: Tally) -> bool
+    ensures { λ r. ⌜ r ≡ isBad n tally ⌝ }
 {
-    if settled.code == 0 {
-        return false;
+    if header::group_valid(n) {
+        return tally::power(n) <= tally.seen;
     }
-    if said::other_final(replies, settled) {
-        return true;
-    }
-    if fast.code == 0 {
-        return false;
-    }
-    !said::same(settled, fast)
+    true
 }
 
-// With no final result: ABORT if any is, OK if f+1 are, RETRY with the greatest stamp if any is, ABSTAIN.
-fn slow_result(n: u8, replies: Replies) -> Said
-    requires { ⌜ areBad n (repliesIn replies) ≡ false ⌝ }
-    ensures { λ r. ⌜ r ≡ saidAs (some (rules.slowResult n (heardIn replies))) ⌝ }
+// The result that the fast count of boxes agree on, packed, or 0. At most one reply differs from it, so it is that of the first reply or of all others.
+fn fast_result(n: u8, tally: Tally) -> u64
+    requires { ⌜ 0 < n ⌝ }
+    ensures { λ r. ⌜ r ≡ fastBy n tally ⌝ }
 {
+    let enough = quorums::fast(n);
+    if enough <= tally.first.agreeing as usize {
+        return tally::pack(tally.first.code, tally.first.retry);
+    }
+    if tally.others.results.least != tally.others.results.greatest {
+        return 0;
+    }
+    if enough <= tally.others.number as usize {
+        return tally.others.results.greatest;
+    }
+    0
+}
+
+// Two unequal finals, or a fast count for a result other than a final one.
+fn contradicts(finals: Range, fast: u64) -> bool
+    ensures { λ r. ⌜ r ≡ contradictsBy finals fast ⌝ }
+{
+    if finals.greatest == 0 {
+        return false;
+    }
+    if finals.least != finals.greatest {
+        return true;
+    }
+    if fast == 0 {
+        return false;
+    }
+    finals.greatest != fast
+}
+
+// How many have a code: those that agree with the first reply if it has it, and otherwise so many of the others.
+fn how_many(code: u64, first: First, others: u64) -> u64
+    ensures { λ r. ⌜ r ≡ howMany code first others ⌝ }
+{
+    if first.code == code {
+        return first.agreeing;
+    }
+    others
+}
+
+// The final result, or with none: ABORT if any is, OK if f+1 are, RETRY with the greatest stamp if any is, ABSTAIN.
+fn slow_result(n: u8, tally: Tally) -> u64
+    requires { ⌜ 0 < n ⌝ }
+    ensures { λ r. ⌜ r ≡ slowBy n tally ⌝ }
+{
+    if tally.finals.greatest != 0 {
+        return tally.finals.greatest;
+    }
+    if 0 < how_many(2, tally.first, tally.others.aborts) {
+        return 2;
+    }
     let enough = quorums::quorum(n);
-    let abort = Said { code: 2, retry: 0 };
-    if 0 < said::agreeing(replies, abort) {
-        return abort;
+    if enough <= how_many(1, tally.first, tally.others.oks) as usize {
+        return 1;
     }
-    let ok = Said { code: 1, retry: 0 };
-    if enough <= said::agreeing(replies, ok) {
-        return ok;
-    }
-    let retry = said::greatest_retry(replies);
+    let retry = tally::greater(tally.first.retry, tally.others.results.greatest / 8);
     if 0 < retry {
-        return Said { code: 4, retry };
+        return tally::pack(4, retry);
     }
-    Said { code: 3, retry: 0 }
+    3
 }
 
 // Fast, wait or slow.
-fn decide(n: u8, replies: Replies, settled: Said, fast: Said) -> Counted
-    requires { ⌜ areBad n (repliesIn replies) ≡ false ⌝ }
-    requires { ⌜ (settled ≡ saidAs (rules.finalHeard (heardIn replies))) × (fast ≡ saidAs (rules.fastOf n (heardIn replies))) ⌝ }
-    ensures { λ r. ⌜ r ≡ answerAs (rules.decided n (heardIn replies)) ⌝ }
+fn decide(n: u8, tally: Tally, fast: u64) -> Counted
+    requires { ⌜ 0 < n ⌝ }
+    ensures { λ r. ⌜ r ≡ decidedBy n tally fast ⌝ }
 {
-    if fast.code != 0 {
+    if fast != 0 {
         return Counted::Fast {
-            result: fast.code,
-            retry: fast.retry,
+            result: (fast % 8) as u8,
+            retry: fast / 8,
         };
     }
-    if replies.number < quorums::quorum(n) {
+    let number = tally.first.agreeing % 256 + tally.others.number % 256;
+    if (number as usize) < quorums::quorum(n) {
         return Counted::Wait;
     }
-    if settled.code != 0 {
-        return Counted::Slow {
-            result: settled.code,
-            retry: settled.retry,
-        };
-    }
-    let slow = slow_result(n, replies);
+    let slow = slow_result(n, tally);
     Counted::Slow {
-        result: slow.code,
-        retry: slow.retry,
+        result: (slow % 8) as u8,
+        retry: slow / 8,
     }
 }
 
-// The coordinator's count of the replies held, whatever they are.
-pub fn count(n: u8, replies: Replies) -> Counted
-    ensures { λ r. ⌜ r ≡ answerAs (countOf n (repliesIn replies)) ⌝ }
+// The coordinator's count of the replies gone through, whatever they are.
+pub fn count(n: u8, tally: Tally) -> Counted
+    ensures { λ r. ⌜ r ≡ answered n tally ⌝ }
 {
-    if bad::are_bad(n, replies) {
+    if is_bad(n, tally) {
         return Counted::Bad;
     }
-    let settled = said::first_final(replies);
-    let fast = said::fast(replies, n);
-    if contradicts(n, replies, settled, fast) {
+    let fast = fast_result(n, tally);
+    if contradicts(tally.finals, fast) {
         return Counted::Contradiction;
     }
-    decide(n, replies, settled, fast)
+    decide(n, tally, fast)
 }

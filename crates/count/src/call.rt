@@ -1,12 +1,12 @@
 // The count over lent bytes, 15 a reply.
 use crate::answer;
 use crate::answer::Counted;
-use replies::held::Replies;
 use replies::held::Reply;
+use replies::tally::Tally;
 ghost use mathlib.Core.Path.{_≡_};
 ghost use Prim.Native.Nat.{_≤_, _+_, _*_, _/_};
 ghost use lib.ListN.{length};
-ghost use Rattle.replies.specs.Inner.HeldReplies.{noneHeld, withReplies};
+ghost use Rattle.replies.specs.Inner.Tallies.{noTally, withReplies};
 ghost use Rattle.count.specs.Answers.{answerAs};
 ghost use Rattle.count.specs.Calls.{replyAt, repliesOf, countBytes};
 
@@ -27,17 +27,17 @@ fn reply_at(bytes: &[u8], at: usize) -> Reply
 }
 
 // Whole replies, one after the other.
-fn gather(bytes: &[u8]) -> Replies
+fn gather(bytes: &[u8]) -> Tally
     requires { ⌜ length (now bytes) ≡ 15 * (length (now bytes) / 15) ⌝ }
-    ensures { λ r. ⌜ r ≡ withReplies noneHeld (repliesOf (length (now (bytes .entry)) / 15) (now (bytes .entry))) ⌝ }
+    ensures { λ r. ⌜ r ≡ withReplies noTally (repliesOf (length (now (bytes .entry)) / 15) (now (bytes .entry))) ⌝ }
 {
-    let mut replies = Replies::none();
+    let mut tally = Tally::none();
     let mut at: usize = 0;
     while at < bytes.len() {
-        replies = replies.with(reply_at(bytes, at));
+        tally = tally.with(reply_at(bytes, at));
         at += LENGTH;
     }
-    replies
+    tally
 }
 
 // The coordinator's count of any bytes. More than seven replies are bad whatever they are, so none of them is read.

@@ -1,24 +1,24 @@
 // The count over a lent list of reply structs. What goes over such a list is walked by hand, so it is little: one loop, and the call above it.
 use crate::answer;
 use crate::answer::Counted;
-use replies::held::Replies;
 use replies::held::Reply;
+use replies::tally::Tally;
 ghost use mathlib.Core.Path.{_≡_};
-ghost use Rattle.replies.specs.Inner.HeldReplies.{noneHeld, withReplies};
+ghost use Rattle.replies.specs.Inner.Tallies.{noTally, withReplies};
 ghost use Rattle.count.specs.Answers.{answerAs};
 ghost use Rattle.count.specs.Calls.{countOf};
 
 // The replies of a list, one after the other.
-fn gather(list: &[Reply]) -> Replies
-    ensures { λ r. ⌜ r ≡ withReplies noneHeld (now (list .entry)) ⌝ }
+fn gather(list: &[Reply]) -> Tally
+    ensures { λ r. ⌜ r ≡ withReplies noTally (now (list .entry)) ⌝ }
 {
-    let mut replies = Replies::none();
+    let mut tally = Tally::none();
     let mut i: usize = 0;
     while i < list.len() {
-        replies = replies.with(list[i]);
+        tally = tally.with(list[i]);
         i += 1;
     }
-    replies
+    tally
 }
 
 // The coordinator's count of any list. More than seven replies are bad whatever they are, so none of them is read.

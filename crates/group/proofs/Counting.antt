@@ -20,7 +20,7 @@ use Rattle.rows.specs.Fields.{resultNumbered}
 use Rattle.message.proofs.KeepingRules.{ResultCoded}
 use Rattle.replies.specs.declared.held.Reply.{Reply}
 use Rattle.replies.specs.PlainReplies.{resultRead, heard, allHeard}
-use Rattle.replies.proofs.Turns.{coded}
+use Rattle.replies.proofs.BadReplies.{coded}
 use Rattle.count.specs.Inner.RecordBytes.{recordsBytes}
 use Rattle.count.specs.Calls.{countOf, countBytes}
 use Rattle.count.proofs.HeardBytes.{FieldsFit, AllFit, same-count}

@@ -1,3 +1,4 @@
-pub mod HeldAll
-pub mod Turns
+pub mod Steps
+pub mod Boxes
 pub mod BadReplies
+pub mod Told

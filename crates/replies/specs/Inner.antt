@@ -1,4 +1,3 @@
 -- What no promise names: functions below a call speak of it, and laws about them.
-pub mod HeldReplies
+pub mod Tallies
 pub mod Bad
-pub mod Results

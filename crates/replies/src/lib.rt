@@ -1,4 +1,3 @@
-// Replies to count: at most seven, held by value; what is bad in them, and what they say.
-pub mod bad;
+// Replies to count, and what is kept of them while they are gone through: what is bad in them, and what they say.
 pub mod held;
-pub mod said;
+pub mod tally;

@@ -1,51 +1,50 @@
--- Bad, contradictory, or decided.
-use mathlib.Core.Path.{_≡_, sym, ap, _∙_}
-use mathlib.Core.Bool.{false}
+use mathlib.Core.Path.{_≡_, refl, sym, _∙_}
+use mathlib.Core.Bool.{Bool, true, false}
+use mathlib.Core.Logic.{_⊎_, inl, inr}
+use Prim.Native.Nat.{ℕ, _<_}
+use Rattle.rules.specs.Groups.{isGroup}
+use Rattle.rules.proofs.Logic.{impossible, cases}
+use Rattle.rules.proofs.Groups.{group-bounds}
+use Rattle.replies.specs.declared.tally.Tally.{Tally}
+use Rattle.count.specs.Inner.TallyAnswers.{isBad, answered}
 use borrow.Author.Needs.{needs}
-use Rattle.replies.specs.Inner.HeldReplies.{repliesIn}
-use Rattle.replies.specs.Inner.Bad.{areBad}
-use Rattle.count.specs.Answers.{answerAs}
-use Rattle.replies.proofs.BadReplies.{good-read}
-use Rattle.count.proofs.Counts.{bad-refused, contradicted, clear}
 use Rattle.count.proofs.answer.count.Statement.{statement}
 use Rattle.count.proofs.answer.count.Tie as tie
 
-fine : (c : tie.Else1) → areBad ((c .before .before) .args .n) (repliesIn ((c .before .before) .args .replies)) ≡ false
-fine c = sym ((c .before) .are-bad .ensures) ∙ c .if1 .left
-
-are-bad-requires : tie.Need-are-bad-requires
-are-bad-requires c κs = search needs
+above-zero : (n : ℕ) (t : Tally) → isBad n t ≡ false → 0 < n
+unfolding isBad
+above-zero n t h = go (cases (isGroup n))
+  where
+    go : (isGroup n ≡ true) ⊎ (isGroup n ≡ false) → 0 < n
+    go (inl e) = group-bounds n e .0
+    go (inr e) = impossible refl (rw e at h)
 
 returns : tie.Need-returns
-returns c = sym (ap answerAs (bad-refused _ _ (sym ((c .before) .are-bad .ensures) ∙ c .if1 .taken)))
+unfolding answered
+returns c = rw (sym ((c .before) .is-bad .ensures) ∙ c .if1 .taken) refl
 
-first-final-requires : tie.Need-first-final-requires
-first-final-requires c κs = good-read _ _ (fine c) .0
-
-fast-requires : tie.Need-fast-requires
-fast-requires c κs = good-read _ _ (fine (c .before))
-
-contradicts-requires : tie.Need-contradicts-requires
-contradicts-requires c κs = (fine (c .before .before), ((c .before) .first-final .ensures, c .fast .ensures))
+fast-result-requires : tie.Need-fast-result-requires
+fast-result-requires c κs = above-zero _ _ (sym ((c .before) .is-bad .ensures) ∙ c .if1 .left)
 
 returns-2 : tie.Need-returns-2
-returns-2 c = sym (ap answerAs (contradicted _ _ (fine (c .before .before .before .before)) (sym ((c .before) .contradicts .ensures) ∙ c .if2 .taken)))
+unfolding answered
+returns-2 c = rw (sym ((c .before .before .before .before) .is-bad .ensures) ∙ (c .before .before .before) .if1 .left, ← (c .before .before) .fast-result .ensures, sym ((c .before) .contradicts .ensures) ∙ c .if2 .taken) refl
 
 decide-requires : tie.Need-decide-requires
-decide-requires c κs = (fine (c .before .before .before .before), ((c .before .before .before) .first-final .ensures, (c .before .before) .fast .ensures))
+decide-requires c κs = above-zero _ _ (sym ((c .before .before .before .before) .is-bad .ensures) ∙ (c .before .before .before) .if1 .left)
 
 returns-3 : tie.Need-returns-3
-returns-3 c = c .decide .ensures ∙ sym (ap answerAs (clear _ _ (fine (c .before .before .before .before .before)) (sym ((c .before .before) .contradicts .ensures) ∙ (c .before) .if2 .left)))
+unfolding answered
+returns-3 c = rw (sym ((c .before .before .before .before .before) .is-bad .ensures) ∙ (c .before .before .before .before) .if1 .left, ← (c .before .before .before) .fast-result .ensures, sym ((c .before .before) .contradicts .ensures) ∙ (c .before) .if2 .left) (c .decide .ensures)
 
 pub count-spec : {M : Type 1} → statement M
 count-spec =
     tie.close
     (tie.spec
-    are-bad-requires
+    (λ c κs. search needs)
     returns
-    first-final-requires
-    fast-requires
-    contradicts-requires
+    fast-result-requires
+    (λ c κs. search needs)
     returns-2
     decide-requires
     returns-3)

@@ -1,54 +1,41 @@
--- The tests of the slow order, one after the other.
-use mathlib.Core.Path.{refl, sym, ap}
-use mathlib.Core.Option.{some}
-use Rattle.rules.specs.Tests.{both, either}
-use Rattle.rows.specs.Fields.{resultNumbered, retryByCode}
-use Rattle.message.specs.Messages.{resultByCode}
-use Rattle.replies.specs.Inner.Results.{saidAs}
-use Rattle.replies.proofs.BadReplies.{good-facts, good-read}
-use Rattle.count.proofs.Decisions.{slow-abort, slow-ok, slow-retry, slow-abstain}
+use mathlib.Core.Path.{refl, sym, _∙_}
+use borrow.Author.Tests.{eq-eqb, ne-eqb, lt-ltb, le-ltb, le-leb, lt-leb}
+use Rattle.count.specs.Inner.TallyAnswers.{slowBy}
+use borrow.Author.Needs.{needs}
 use Rattle.count.proofs.answer.slow_result.Statement.{statement}
 use Rattle.count.proofs.answer.slow_result.Tie as tie
 
-quorum-requires : tie.Need-quorum-requires
-quorum-requires c κs = good-read _ _ (c .pre) .1
-
-agreeing-requires : tie.Need-agreeing-requires
-unfolding resultByCode retryByCode both either
-agreeing-requires c κs = (good-read _ _ ((c .before) .pre) .0, refl)
-
 returns : tie.Need-returns
-unfolding resultNumbered
-returns c = ap (λ r. saidAs (some r)) (sym (slow-abort _ _ _ ((c .before) .agreeing .ensures) (c .if1 .taken)))
-
-agreeing-requires-2 : tie.Need-agreeing-requires-2
-unfolding resultByCode retryByCode both either
-agreeing-requires-2 c κs = (good-read _ _ ((c .before .before .before) .pre) .0, refl)
+unfolding slowBy
+returns c = rw (ne-eqb _ _ (c .if1 .taken)) refl
 
 returns-2 : tie.Need-returns-2
-unfolding resultNumbered
-returns-2 c = ap (λ r. saidAs (some r)) (sym (slow-ok _ _ _ ((c .before .before .before) .agreeing .ensures) ((c .before .before) .if1 .left) _ _ ((c .before) .agreeing2 .ensures) ((c .before .before .before .before) .quorum .ensures) (c .if2 .taken)))
-
-greatest-retry-requires : tie.Need-greatest-retry-requires
-greatest-retry-requires c κs = good-read _ _ ((c .before .before .before .before .before) .pre) .0
+unfolding slowBy
+returns-2 c = rw (eq-eqb _ _ ((c .before .before) .if1 .left), ← (c .before) .how-many .ensures, lt-ltb _ _ (c .if2 .taken)) refl
 
 returns-3 : tie.Need-returns-3
-unfolding resultNumbered
-returns-3 c = ap (λ r. saidAs (some r)) (sym (slow-retry _ _ _ ((c .before .before .before .before .before) .agreeing .ensures) ((c .before .before .before .before) .if1 .left) _ _ ((c .before .before .before) .agreeing2 .ensures) ((c .before .before .before .before .before .before) .quorum .ensures) ((c .before .before) .if2 .left) (good-facts _ _ ((c .before .before .before .before .before .before .before) .pre) .not-bad) _ ((c .before) .greatest-retry .ensures) (c .if3 .taken)))
+unfolding slowBy
+returns-3 c = rw (eq-eqb _ _ ((c .before .before .before .before .before) .if1 .left), ← (c .before .before .before .before) .how-many .ensures, le-ltb _ _ ((c .before .before .before) .if2 .left), ← (c .before .before) .quorum .ensures, ← (c .before) .how-many2 .ensures, le-leb _ _ (c .if3 .taken)) refl
 
 returns-4 : tie.Need-returns-4
-unfolding resultNumbered
-returns-4 c = ap (λ r. saidAs (some r)) (sym (slow-abstain _ _ _ ((c .before .before .before .before .before) .agreeing .ensures) ((c .before .before .before .before) .if1 .left) _ _ ((c .before .before .before) .agreeing2 .ensures) ((c .before .before .before .before .before .before) .quorum .ensures) ((c .before .before) .if2 .left) (good-facts _ _ ((c .before .before .before .before .before .before .before) .pre) .not-bad) _ ((c .before) .greatest-retry .ensures) (c .if3 .left)))
+unfolding slowBy
+returns-4 c = rw (eq-eqb _ _ ((c .before .before .before .before .before .before .before .before .before) .if1 .left), ← (c .before .before .before .before .before .before .before .before) .how-many .ensures, le-ltb _ _ ((c .before .before .before .before .before .before .before) .if2 .left), ← (c .before .before .before .before .before .before) .quorum .ensures, ← (c .before .before .before .before .before) .how-many2 .ensures, lt-leb _ _ ((c .before .before .before .before) .if3 .left), ← (c .before .before) .greater .ensures, lt-ltb _ _ ((c .before) .if4 .taken)) (c .pack .ensures)
+
+returns-5 : tie.Need-returns-5
+unfolding slowBy
+returns-5 c = rw (eq-eqb _ _ ((c .before .before .before .before .before .before .before .before) .if1 .left), ← (c .before .before .before .before .before .before .before) .how-many .ensures, le-ltb _ _ ((c .before .before .before .before .before .before) .if2 .left), ← (c .before .before .before .before .before) .quorum .ensures, ← (c .before .before .before .before) .how-many2 .ensures, lt-leb _ _ ((c .before .before .before) .if3 .left), ← (c .before) .greater .ensures, le-ltb _ _ (c .if4 .left)) refl
 
 pub slow-result-spec : {M : Type 1} → statement M
 slow-result-spec =
     tie.close
     (tie.spec
-    quorum-requires
-    agreeing-requires
     returns
-    agreeing-requires-2
+    (λ c κs. search needs)
     returns-2
-    greatest-retry-requires
+    (λ c κs. (c .before .before .before .before) .pre)
+    (λ c κs. search needs)
     returns-3
-    returns-4)
+    (λ c κs. search needs)
+    (λ c κs. search needs)
+    returns-4
+    returns-5)

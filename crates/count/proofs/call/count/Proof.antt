@@ -1,4 +1,4 @@
--- The replies held are counted as those of the bytes are.
+-- What was kept of the replies of the bytes is counted as they are.
 use mathlib.Core.Path.{_≡_, sym, ap}
 use Prim.Native.Nat.{_*_, _/_}
 use native.Mathlib.Omega.{arith}
@@ -6,8 +6,8 @@ use lib.ListN.{length}
 use denote.Ref.{now}
 use borrow.Author.Needs.{needs}
 use Rattle.count.specs.Answers.{answerAs}
-use Rattle.count.proofs.Counts.{count-held}
-use Rattle.count.proofs.HeardBytes.{count-whole, count-broken, count-long}
+use Rattle.count.proofs.TallyCounts.{tally-counted}
+use Rattle.count.proofs.HeardBytes.{length-replies-of, count-whole, count-broken, count-long}
 use Rattle.count.proofs.call.count.Statement.{statement}
 use Rattle.count.proofs.call.count.Tie as tie
 
@@ -30,7 +30,8 @@ returns-3 : tie.Need-returns-3
 returns-3 c =
     let a = c .before .before .before .before .before .args in
     let whole : length (now (a .bytes)) ≡ 15 * (length (now (a .bytes)) / 15) = omega arith in
-    rw (c .count .ensures, c .before .gather .ensures, count-held (a .n), count-whole (a .n) (now (a .bytes)) whole)
+    let few = length-replies-of (length (now (a .bytes)) / 15) (now (a .bytes)) in
+    rw (c .count .ensures, c .before .gather .ensures, count-whole (a .n) (now (a .bytes)) whole) (tally-counted (a .n) _ (omega arith))
 
 pub count-spec : {M : Type 1} → statement M
 count-spec = tie.close (tie.spec mul-if1 returns returns-2 gather-requires count-requires returns-3)

@@ -1,5 +1,5 @@
--- The loop is walked by hand. A turn looks into the list, takes the reply at i out of it, shuts it again, and holds the reply.
--- The invariant says what is left to do: the rest of the list, held from here, is the whole list held from nothing.
+-- The loop is walked by hand. A turn looks into the list, takes the reply at i out of it, shuts it again, and takes the reply into the tally.
+-- The invariant says what is left to do: the rest of the list, taken from here, is the whole list taken from nothing.
 use mathlib.Core.Path.{_≡_, refl, sym, _∙_, ap}
 use mathlib.Core.List.{List, [], _∷_}
 use mathlib.Core.WellFounded.{WellFounded, InvImage·wf}
@@ -44,20 +44,20 @@ use denote.Triple.Table.{entered, cited}
 use denote.Triple.Walked.{says, Stays, walkOf, goes-none-slice, Walks, ends-at, walked, walk-meets}
 use Rattle.wire.proofs.HandWalks.{twice, lives, answers, tests}
 use Rattle.replies.specs.declared.held.Reply.{Reply}
-use Rattle.replies.specs.declared.held.Replies.{Replies}
-use Rattle.replies.specs.Inner.HeldReplies.{noReply, noneHeld, withReply, withReplies}
+use Rattle.replies.specs.declared.tally.Tally.{Tally}
+use Rattle.replies.specs.Inner.Tallies.{noReply, noTally, withReply, withReplies}
 use Rattle.replies.proofs.held.Reply as R
 use Rattle.replies.proofs.held.Reply.Laws as R′
-use Rattle.replies.proofs.held.Replies as D
-use Rattle.replies.proofs.held.Replies.Laws as D′
-use Rattle.replies.proofs.held.Replies.none as none
-use Rattle.replies.proofs.held.Replies.none.Symbol as none-def
-use Rattle.replies.proofs.held.Replies.none.Symbol.{name as #none}
-use Rattle.replies.proofs.held.Replies.none.Met as none-thm
-use Rattle.replies.proofs.held.Replies.with as hold
-use Rattle.replies.proofs.held.Replies.with.Symbol as hold-def
-use Rattle.replies.proofs.held.Replies.with.Symbol.{name as #with}
-use Rattle.replies.proofs.held.Replies.with.Met as hold-thm
+use Rattle.replies.proofs.tally.Tally as D
+use Rattle.replies.proofs.tally.Tally.Laws as D′
+use Rattle.replies.proofs.tally.Tally.none as none
+use Rattle.replies.proofs.tally.Tally.none.Symbol as none-def
+use Rattle.replies.proofs.tally.Tally.none.Symbol.{name as #none}
+use Rattle.replies.proofs.tally.Tally.none.Met as none-thm
+use Rattle.replies.proofs.tally.Tally.with as hold
+use Rattle.replies.proofs.tally.Tally.with.Symbol as hold-def
+use Rattle.replies.proofs.tally.Tally.with.Symbol.{name as #with}
+use Rattle.replies.proofs.tally.Tally.with.Met as hold-thm
 use Rattle.count.proofs.Walks.{listVal, listTy, ListOwn, ListedOwn, stay-list, to-listed}
 use Rattle.count.proofs.lent.gather as gather
 use Rattle.count.proofs.lent.gather.Key.{name as #gather}
@@ -71,12 +71,12 @@ abbrev listedAt : List Reply → ℕ → Reply
 listedAt ys i = getD ys i noReply
 
 -- one reply more
-turned : (h : Replies) (ys : List Reply) (i : ℕ) → i < length ys → withReplies h (drop i ys) ≡ withReplies (withReply h (listedAt ys i)) (drop (i + 1) ys)
+turned : (h : Tally) (ys : List Reply) (i : ℕ) → i < length ys → withReplies h (drop i ys) ≡ withReplies (withReply h (listedAt ys i)) (drop (i + 1) ys)
 unfolding withReplies
 turned h ys i l = ap (withReplies h) (drop-cons ys i noReply l) ∙ ap (λ (k : ℕ). withReplies (withReply h (listedAt ys i)) (drop k ys)) (sym (add-one i))
 
 -- none is left
-over : (h : Replies) (ys : List Reply) (i : ℕ) → length ys ≤ i → withReplies h (drop i ys) ≡ h
+over : (h : Tally) (ys : List Reply) (i : ℕ) → length ys ≤ i → withReplies h (drop i ys) ≡ h
 unfolding withReplies
 over h ys i l = ap (withReplies h) (drop-of-length-le ys l)
 
@@ -113,14 +113,14 @@ module _ {M : Type 1} (𝓤 : URA M) (H : Heap 𝓤) (A : Atoms 𝓤) (mem : Mem
   abbrev With : Contract 𝓤
   With = tripleOf 𝓤 H A hold.signature (hold.spec 𝓤 H A mem run)
 
-  abbrev to-with : Replies → Val → Reply → Val → With .Ghost
+  abbrev to-with : Tally → Val → Reply → Val → With .Ghost
   to-with h v r u = ((tt, tt, tt, (h, (r, tt)), (v ∷ [], (u ∷ [], tt))), tt)
 
 module _ {M : Type 1} (𝓤 : URA M) (H : Heap 𝓤) (A : Atoms 𝓤) (W : Given 𝓤 H A) (mem : Memory → SProp 𝓤) (run : Routine → Fun 𝓤) where
   goes-to-none : ent 𝓤 (emp 𝓤) (None 𝓤 H A mem run .pre (to-none 𝓤 H A mem run))
   goes-to-none = qed W [] ∵ nothing ! $ nothing ! $ join ! $ frame ! $ done !
 
-  goes-with : (h : Replies) (v : Val) (r : Reply) (u : Val) → Is D.the-row h (v ∷ []) → Is R.the-row r (u ∷ []) → ent 𝓤 (emp 𝓤) (With 𝓤 H A mem run .pre (to-with 𝓤 H A mem run h v r u))
+  goes-with : (h : Tally) (v : Val) (r : Reply) (u : Val) → Is D.the-row h (v ∷ []) → Is R.the-row r (u ∷ []) → ent 𝓤 (emp 𝓤) (With 𝓤 H A mem run .pre (to-with 𝓤 H A mem run h v r u))
   goes-with h v r u ih ir =
       qed W [] ∵ nothing ! $ owned ! R.the-row (Is R.the-row) (LL.makes R.the-type R′.the-plain 𝓤 H A) r (u ∷ []) ir $ fjoin ! $
       owned ! D.the-row (Is D.the-row) (LL.makes D.the-type D′.the-plain 𝓤 H A) h (v ∷ []) ih $ fjoin ! $ nothing ! $ join ! $ frame ! $ done !
@@ -135,7 +135,7 @@ module _ {M : Type 1} (𝓤 : URA M) (H : Heap 𝓤) (A : Atoms 𝓤) (W : Given
     abbrev Post : Val → SProp 𝓤
     Post = walkOf 𝓤 H A gather.ended stayed (gather.clauses 𝓤 H A mem run) .post (((κ, tt), (q, tt), tt, (s, tt), (listVal s ∷ [], tt)), tt)
 
-    exits : (h : Replies) (v : Val) → Is D.the-row h (v ∷ []) → h ≡ withReplies noneHeld ys → ent 𝓤 (⋆ 𝓤 H A (‵ (flft κ q) ∷ ‵ (ListOwn κ s) ∷ [])) (Post v)
+    exits : (h : Tally) (v : Val) → Is D.the-row h (v ∷ []) → h ≡ withReplies noTally ys → ent 𝓤 (⋆ 𝓤 H A (‵ (flft κ q) ∷ ‵ (ListOwn κ s) ∷ [])) (Post v)
     exits h v is e =
         qed W (‵ (flft κ q) ∷ ‵ (ListOwn κ s) ∷ []) ∵
         suffices ! _ (ends-at 𝓤 H A gather.ended stayed (gather.clauses 𝓤 H A mem run) W (((κ, tt), (q, tt), tt, (s, tt), (listVal s ∷ [], tt)), tt) v h (tt, tt) (tt, tt)) $ says ! e $
@@ -146,11 +146,11 @@ module _ {M : Type 1} (𝓤 : URA M) (H : Heap 𝓤) (A : Atoms 𝓤) (W : Given
 
     record Upto : Type 0 where
       i : ℕ
-      h : Replies
+      h : Tally
       v : Val
       le : i ≤ n
       is : Is D.the-row h (v ∷ [])
-      left : withReplies h (drop i ys) ≡ withReplies noneHeld ys
+      left : withReplies h (drop i ys) ≡ withReplies noTally ys
 
     abbrev Nearer : Upto → Upto → Type 0
     Nearer y x = n - y .i < n - x .i
@@ -158,8 +158,8 @@ module _ {M : Type 1} (𝓤 : URA M) (H : Heap 𝓤) (A : Atoms 𝓤) (W : Given
     Nearer-wf : WellFounded Nearer
     Nearer-wf = InvImage·wf (λ (x : Upto). n - x .i) (Nat·lt-wfRel .wf)
 
-    abbrev next : (x : Upto) → x .i < n → (k : Replies) (u : Val) → Is D.the-row k (u ∷ []) → k ≡ withReply (x .h) (listedAt ys (x .i)) → Upto
-    next x l k u is e = record { i = x .i + 1; h = k; v = u; le = add-one-le l; is = is; left = ap (λ (z : Replies). withReplies z (drop (x .i + 1) ys)) e ∙ sym (turned (x .h) ys (x .i) l) ∙ x .left }
+    abbrev next : (x : Upto) → x .i < n → (k : Tally) (u : Val) → Is D.the-row k (u ∷ []) → k ≡ withReply (x .h) (listedAt ys (x .i)) → Upto
+    next x l k u is e = record { i = x .i + 1; h = k; v = u; le = add-one-le l; is = is; left = ap (λ (z : Tally). withReplies z (drop (x .i + 1) ys)) e ∙ sym (turned (x .h) ys (x .i) l) ∙ x .left }
 
     module _ (𝓣 : Tables 𝓤 H) (fm : FmC 𝓤 H (W .laws) (𝓣 .C)) (known-none : Triple 𝓤 (𝓣 .C #none) (None 𝓤 H A mem run)) (known-with : Triple 𝓤 (𝓣 .C #with) (With 𝓤 H A mem run)) where
       abbrev C : Calls 𝓤 H
@@ -224,14 +224,14 @@ module _ {M : Type 1} (𝓤 : URA M) (H : Heap 𝓤) (A : Atoms 𝓤) (W : Given
           pass1 ! (init ! 12 refl (tt, (tt, (record { fits = room .0 }, tt)))) $ pass0 ! $
           use0 W (raw (None 𝓤 H A mem run .pre (to-none 𝓤 H A mem run))) goes-to-none $
           calls-at ! fm (None 𝓤 H A mem run) known-none (to-none 𝓤 H A mem run) (no-more !) (λ u.
-          answers ! tt none.ended (none.clauses 𝓤 H A mem run) tt tt tt (‵ ftrue) u (λ k. k ≡ noneHeld) (λ k e. id⊢ 𝓤 _) (λ k e is. gives-up ! $
+          answers ! tt none.ended (none.clauses 𝓤 H A mem run) tt tt tt (‵ ftrue) u (λ k. k ≡ noTally) (λ k e. id⊢ 𝓤 _) (λ k e is. gives-up ! $
           land ! (from ! (stop !)) (init ! 10 refl (LL.lawful D.the-type D′.the-laws 𝓤 H A W .typed k _ is .0)) $
           assigns ! (of-opd ! (lit ! tt)) (from ! (stop !)) (init ! 8 refl (tt, record { fits = lit< tt })) $
           -- of what the list owns one is kept whole, and of the other the shared borrow
           move ! (17 ∷ []) $ fsplit ! $ twice ! R.the-row κ s $ fsplit ! $ gives-up ! $ fsplit ! $ gives-up ! $ move ! (19 ∷ []) $ split ! $
           -- [the token; true; the shared borrow; what the list owns; true; _7; …]
           keep ! (5 ∷ 6 ∷ 7 ∷ 8 ∷ 9 ∷ 10 ∷ 11 ∷ 12 ∷ 13 ∷ 14 ∷ 15 ∷ 16 ∷ 17 ∷ 18 ∷ 19 ∷ 20 ∷ 0 ∷ 2 ∷ 3 ∷ []) $
-          from-here l₀ l₁ l₂ l₃ l₄ l₅ l₆ l₇ (record { i = 0; h = k; v = u; le = zero-le; is = is; left = ap (λ (z : Replies). withReplies z ys) e })))))))))))
+          from-here l₀ l₁ l₂ l₃ l₄ l₅ l₆ l₇ (record { i = 0; h = k; v = u; le = zero-le; is = is; left = ap (λ (z : Tally). withReplies z ys) e })))))))))))
 
   module _ (𝓣 : Tables 𝓤 H) (known-none : Triple 𝓤 (𝓣 .C #none) (None 𝓤 H A mem run)) (known-with : Triple 𝓤 (𝓣 .C #with) (With 𝓤 H A mem run)) where
     walks : Walks 𝓤 H A gather.ended stayed (WpFn 𝓤 H (𝓣 .C) (𝓣 .Λ) code.function) (gather.clauses 𝓤 H A mem run)
@@ -247,5 +247,5 @@ gather-spec 𝓤 H 𝓜 𝓖 𝓡 =
     entered 𝓤 H (tripleOf 𝓤 H (𝓖 .A) gather.signature (gather.spec 𝓤 H (𝓖 .A) (𝓜 .mem) (𝓡 .run)))
     (tables 𝓤 H 𝓜 𝓡 code.env .C) (tables 𝓤 H 𝓜 𝓡 code.env .Λ) #gather code.function (code.unfolded 𝓤 H 𝓜 𝓡)
     (meets 𝓤 H (𝓖 .A) (givenOf 𝓤 H 𝓜 𝓖) (𝓜 .mem) (𝓡 .run) (tablesOf 𝓤 H 𝓜 (tables 𝓤 H 𝓜 𝓡 code.env))
-    (cited 𝓤 H (None 𝓤 H (𝓖 .A) (𝓜 .mem) (𝓡 .run)) 𝓜 𝓡 code.env #none none-def.routine code.calls-replies·held·Replies·none (none-thm.met 𝓤 H 𝓜 𝓖 𝓡))
-    (cited 𝓤 H (With 𝓤 H (𝓖 .A) (𝓜 .mem) (𝓡 .run)) 𝓜 𝓡 code.env #with hold-def.routine code.calls-replies·held·Replies·with (hold-thm.met 𝓤 H 𝓜 𝓖 𝓡)))
+    (cited 𝓤 H (None 𝓤 H (𝓖 .A) (𝓜 .mem) (𝓡 .run)) 𝓜 𝓡 code.env #none none-def.routine code.calls-replies·tally·Tally·none (none-thm.met 𝓤 H 𝓜 𝓖 𝓡))
+    (cited 𝓤 H (With 𝓤 H (𝓖 .A) (𝓜 .mem) (𝓡 .run)) 𝓜 𝓡 code.env #with hold-def.routine code.calls-replies·tally·Tally·with (hold-thm.met 𝓤 H 𝓜 𝓖 𝓡)))
