@@ -1,7 +1,7 @@
 -- The ways a count goes, each with its circumstances as 01 has them, and its number: one of them applies, and no two give different numbers.
 use mathlib.Core.Path.{_≡_, refl, sym, ap, _∙_}
 use mathlib.Core.Bool.{Bool, true, false, not, cond}
-use mathlib.Core.Logic.{_⊎_, inl, inr}
+use mathlib.Core.Logic.{_⊎_, inl, inr, ⊎-elim}
 use mathlib.Core.List.{List, [], _∷_, _++_, List·Memᴰ·head, List·Memᴰ·cases-cons, List·Memᴰ·not-nil, Memᴰ·append-right}
 use mathlib.Core.Option.{Option, none, some}
 use Prim.Native.Nat.{ℕ, _*_, _/_, _≤_, _<_}
@@ -165,11 +165,7 @@ module _ (n : ℕ) (lent : Lent) where
       (λ d. whichever _ _ d beyond (λ e. whichever _ _ e boxes (λ f. whichever _ _ f views unruly))))
     where
       unread : not (every resultRead (lentReplies lent)) ≡ true → BadLent n lent
-      unread t = go (cases (any (λ r. not (resultRead r)) (lentReplies lent)))
-        where
-          go : (any (λ r. not (resultRead r)) (lentReplies lent) ≡ true) ⊎ (any (λ r. not (resultRead r)) (lentReplies lent) ≡ false) → BadLent n lent
-          go (inl a) = let (r, m, f) = any-some (λ r. not (resultRead r)) (lentReplies lent) a in badResult r m (not-true _ f)
-          go (inr a) = impossible (all-every resultRead (lentReplies lent) (λ r m. not-false _ (any-none (λ q. not (resultRead q)) (lentReplies lent) a r m))) (not-true _ t)
+      unread t = ⊎-elim (λ a. let (r, m, f) = any-some (λ r. not (resultRead r)) (lentReplies lent) a in badResult r m (not-true _ f)) (λ a. impossible (all-every resultRead (lentReplies lent) (λ r m. not-false _ (any-none (λ q. not (resultRead q)) (lentReplies lent) a r m))) (not-true _ t)) (cases (any (λ r. not (resultRead r)) (lentReplies lent)))
 
       beyond : any (λ h. not (ltb (h .box) n)) (lentHeard lent) ≡ true → BadLent n lent
       beyond t = let (r, m, f) = said (λ h. not (ltb (h .box) n)) t in outside r m (ltb-false _ _ (not-true _ f))
@@ -225,11 +221,7 @@ other-result r q h e = impossible (ap (sameResult r) (sym e) ∙ result-same r) 
 -- a result that boxes agree on is one box's
 agreed-by : (hs : List Heard) (r : Result) → 0 < agreeing hs r → (g : Heard) × (g ∈ hs) × (r ≡ g .result)
 unfolding agreeing
-agreed-by hs r l = go (cases (any (λ h. sameResult r (h .result)) hs))
-  where
-    go : (any (λ h. sameResult r (h .result)) hs ≡ true) ⊎ (any (λ h. sameResult r (h .result)) hs ≡ false) → (g : Heard) × (g ∈ hs) × (r ≡ g .result)
-    go (inl a) = let (g, m, e) = any-some (λ h. sameResult r (h .result)) hs a in (g, m, same-result r (g .result) e)
-    go (inr a) = let z = count-none (λ h. sameResult r (h .result)) hs a in absurd (omega arith)
+agreed-by hs r l = ⊎-elim (λ a. let (g, m, e) = any-some (λ h. sameResult r (h .result)) hs a in (g, m, same-result r (g .result) e)) (λ a. let z = count-none (λ h. sameResult r (h .result)) hs a in absurd (omega arith)) (cases (any (λ h. sameResult r (h .result)) hs))
 
 module _ (n : ℕ) (lent : Lent) where
   -- replies contradict each other by one of the two circumstances

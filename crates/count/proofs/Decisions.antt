@@ -1,7 +1,7 @@
 -- What is decided of replies that are not bad, by what the walks over them found.
 use mathlib.Core.Path.{_≡_, refl, sym, ap, _∙_}
 use mathlib.Core.Bool.{Bool, true, false, not}
-use mathlib.Core.Logic.{_⊎_, inl, inr}
+use mathlib.Core.Logic.{_⊎_, inl, inr, ⊎-elim}
 use mathlib.Core.List.{List, [], _∷_}
 use mathlib.Core.Option.{Option, none, some}
 use Prim.Native.Nat.{ℕ, _+_, _<_, _≤_, max}
@@ -60,11 +60,7 @@ unfolding unequalFinalHeard
 finals-equal hs q a = none-pair _ hs pair
   where
     pair : (h g : Heard) → h ∈ hs → g ∈ hs → both (both (h .isFinal) (g .isFinal)) (not (sameResult (h .result) (g .result))) ≡ false
-    pair h g mh mg = go (cases (both (h .isFinal) (g .isFinal)))
-      where
-        go : (both (h .isFinal) (g .isFinal) ≡ true) ⊎ (both (h .isFinal) (g .isFinal) ≡ false) → both (both (h .isFinal) (g .isFinal)) (not (sameResult (h .result) (g .result))) ≡ false
-        go (inl t) = rw (← final-is hs q a h mh (both-left _ _ t), ← final-is hs q a g mg (both-right _ _ t), result-same q) (both-false _)
-        go (inr f) = not-first _ f
+    pair h g mh mg = ⊎-elim (λ t. rw (← final-is hs q a h mh (both-left (h .isFinal) (g .isFinal) t), ← final-is hs q a g mg (both-right (h .isFinal) (g .isFinal) t), result-same q) (both-false (both (h .isFinal) (g .isFinal)))) (λ f. not-first _ f) (cases (both (h .isFinal) (g .isFinal)))
 
 abbrev besideFinal : ℕ → List Heard → Heard → Heard → Bool
 besideFinal n hs h g = both (both (h .isFinal) (isFast n hs (g .result))) (not (sameResult (h .result) (g .result)))
@@ -154,11 +150,7 @@ retried (RETRY s) h = sym (both-left _ _ h)
 
 greater : (a b : ℕ) → either (ltb 0 a) (ltb 0 b) ≡ ltb 0 (max a b)
 unfolding either
-greater a b = go (cases (ltb 0 a))
-  where
-    go : (ltb 0 a ≡ true) ⊎ (ltb 0 a ≡ false) → either (ltb 0 a) (ltb 0 b) ≡ ltb 0 (max a b)
-    go (inl t) = let l = ltb-true 0 a t in rw t (sym (lt-ltb 0 (max a b) (omega arith)))
-    go (inr f) = let l = ltb-false 0 a f in let e : b ≡ max a b = omega arith in rw f (ap (ltb 0) e)
+greater a b = ⊎-elim (λ t. let l = ltb-true 0 a t in rw t (sym (lt-ltb 0 (max a b) (omega arith)))) (λ f. let l = ltb-false 0 a f in let e : b ≡ max a b = omega arith in rw f (ap (ltb 0) e)) (cases (ltb 0 a))
 
 pub any-retried : (hs : List Heard) → any (λ h. not (resultByRule (h .result))) hs ≡ false → any (λ h. eqb (resultCode (h .result)) 4) hs ≡ ltb 0 (greatestRetry hs)
 unfolding any greatestRetry greatest

@@ -1,7 +1,7 @@
 -- What is answered by a tally is the count of the replies that it was kept of.
 use mathlib.Core.Path.{_≡_, refl, sym, ap, subst, _∙_}
 use mathlib.Core.Bool.{Bool, true, false, not, cond}
-use mathlib.Core.Logic.{_⊎_, inl, inr}
+use mathlib.Core.Logic.{_⊎_, inl, inr, ⊎-elim}
 use mathlib.Core.List.{List, [], _∷_, map, List·Memᴰ·head, List·Memᴰ·tail, List·Memᴰ·cases-cons, List·Memᴰ·not-nil, Memᴰ·map}
 use mathlib.Core.Option.{Option, none, some}
 use Prim.Native.Nat.{ℕ, zero, suc, _+_, _*_, _/_, _%_, _^_, _<_, _≤_, max}
@@ -346,11 +346,7 @@ module _ (n v : ℕ) (s : Said) (rs : List Reply) (k : Fine v s rs) (good : areB
       (λ x i. packed-heard x (read x (those-of (unlikeIt s) rs x i .0)) ∙ ap packedOf (sym (same-result q (heard x .result) (count-full (λ x. sameResult q (heard x .result)) ds full x i)))), omega arith)
     where
       apart : (x : Reply) → sameResult (heard r .result) (heard x .result) ≡ true → unlikeIt s x ≡ true
-      apart x t = go (cases (likeIt s x))
-        where
-          go : (likeIt s x ≡ true) ⊎ (likeIt s x ≡ false) → unlikeIt s x ≡ true
-          go (inr h) = not-true-of _ h
-          go (inl h) = impossible (like-heard r m ∙ rw (same-result (heard r .result) (heard x .result) t ∙ like-result x h) (result-same f)) d
+      apart x t = ⊎-elim (λ h. impossible (like-heard r m ∙ rw (same-result (heard r .result) (heard x .result) t ∙ like-result x h) (result-same f)) d) (λ h. not-true-of _ h) (cases (likeIt s x))
 
   fast-told : fastBy n (tallyOf v s rs) ≡ packedAs (fastOf n hs)
   unfolding fastBy
@@ -557,11 +553,7 @@ module _ (n v : ℕ) (s : Said) (rs : List Reply) (k : Fine v s rs) (good : areB
   -- all together
   good-answered : isGroup n ≡ true → seenOf rs < 2 ^ n → answered n (tallyOf v s rs) ≡ answerAs (countOf n rs)
   unfolding answered isBad
-  good-answered group l = rw (group, lt-leb _ _ l, fast-told, contradicts-told) (go (cases (contradicting n hs)))
-    where
-      go : (contradicting n hs ≡ true) ⊎ (contradicting n hs ≡ false) → cond (contradicting n hs) Contradiction (decidedBy n (tallyOf v s rs) (packedAs (fastOf n hs))) ≡ answerAs (countOf n rs)
-      go (inl t) = rw t (ap answerAs (sym (contradicted n rs good t)))
-      go (inr t) = rw t (decided-told t ∙ ap answerAs (sym (clear n rs good t)))
+  good-answered group l = rw (group, lt-leb _ _ l, fast-told, contradicts-told) (⊎-elim (λ t. rw t (ap answerAs (sym (contradicted n rs good t)))) (λ t. rw t (decided-told t ∙ ap answerAs (sym (clear n rs good t)))) (cases (contradicting n hs)))
 
 -- ---- whatever the replies are
 
@@ -597,11 +589,7 @@ group-answered n g {rs} (fine v s k e) = rw e (at (cases (leb (2 ^ n) (seenOf rs
 
 told-answered : (n : ℕ) {rs : List Reply} {t : Tally} → Told rs t → answered n t ≡ answerAs (countOf n rs)
 unfolding isBad
-told-answered n {rs} {t} told = go (cases (isGroup n))
-  where
-    go : (isGroup n ≡ true) ⊎ (isGroup n ≡ false) → answered n t ≡ answerAs (countOf n rs)
-    go (inl g) = group-answered n g told
-    go (inr d) = bad-answered n t rs (rw d refl) (sym (bad-group n rs d))
+told-answered n {rs} {t} told = ⊎-elim (λ g. group-answered n g told) (λ d. bad-answered n t rs (rw d refl) (sym (bad-group n rs d))) (cases (isGroup n))
 
 -- the count of a tally of up to seven replies is theirs
 pub tally-counted : (n : ℕ) (rs : List Reply) → length rs ≤ 7 → answered n (withReplies noTally rs) ≡ answerAs (countOf n rs)

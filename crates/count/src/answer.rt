@@ -8,6 +8,15 @@ ghost use mathlib.Core.Path.{_≡_};
 ghost use Prim.Native.Nat.{_<_};
 ghost use Rattle.count.specs.Inner.TallyAnswers.{isBad, fastBy, contradictsBy, howMany, slowBy, decidedBy, answered};
 
+// The codes of results.
+const OK: u64 = 1;
+
+const ABORT: u64 = 2;
+
+const ABSTAIN: u64 = 3;
+
+const RETRY: u64 = 4;
+
 // What a count answers: a result with its retry stamp, to wait for more, or a refusal.
 pub enum Counted {
     Fast { result: u8, retry: u64 },
@@ -79,18 +88,18 @@ fn slow_result(n: u8, tally: Tally) -> u64
     if tally.finals.greatest != 0 {
         return tally.finals.greatest;
     }
-    if 0 < how_many(2, tally.first, tally.others.aborts) {
-        return 2;
-    }
     let enough = quorums::quorum(n);
-    if enough <= how_many(1, tally.first, tally.others.oks) as usize {
-        return 1;
+    if 0 < how_many(ABORT, tally.first, tally.others.aborts) {
+        return ABORT;
+    }
+    if enough <= how_many(OK, tally.first, tally.others.oks) as usize {
+        return OK;
     }
     let retry = tally::greater(tally.first.retry, tally.others.results.greatest / 8);
     if 0 < retry {
-        return tally::pack(4, retry);
+        return tally::pack(RETRY, retry);
     }
-    3
+    ABSTAIN
 }
 
 // Fast, wait or slow.

@@ -1,7 +1,7 @@
 -- What is bad of replies in plain numbers: what `rules` calls bad, with the results that cannot be read; and more than seven replies are.
 use mathlib.Core.Path.{_≡_, refl, ap, ap₂}
 use mathlib.Core.Bool.{Bool, true, false, not}
-use mathlib.Core.Logic.{_⊎_, inl, inr}
+use mathlib.Core.Logic.{⊎-elim}
 use mathlib.Core.List.{List, [], _∷_, List·Memᴰ·tail, Memᴰ·map}
 use Prim.Native.Nat.{ℕ, _<_, _≤_}
 use native.Mathlib.Omega.{arith}
@@ -98,11 +98,7 @@ good-by n rs group read inside apart views =
 
 -- what cannot be good is bad
 pub bad-unless : (n : ℕ) (rs : List Reply) → (Good n rs → ⊥) → areBad n rs ≡ true
-bad-unless n rs d = go (cases (areBad n rs))
-  where
-    go : (areBad n rs ≡ true) ⊎ (areBad n rs ≡ false) → areBad n rs ≡ true
-    go (inl e) = e
-    go (inr e) = absurd (d (good-facts n rs e))
+bad-unless n rs d = ⊎-elim (λ e. e) (λ e. absurd (d (good-facts n rs e))) (cases (areBad n rs))
 
 -- more than seven are too many for any group
 pub too-many : (n : ℕ) (rs : List Reply) → 7 < length rs → areBad n rs ≡ true

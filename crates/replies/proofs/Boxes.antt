@@ -1,7 +1,7 @@
 -- The boxes seen, as bits of one number.
 use mathlib.Core.Path.{_≡_, refl, sym, ap, _∙_}
 use mathlib.Core.Bool.{Bool, true, false}
-use mathlib.Core.Logic.{_⊎_, inl, inr}
+use mathlib.Core.Logic.{_⊎_, inl, inr, ⊎-elim}
 use mathlib.Core.List.{List, [], _∷_, List·Memᴰ·head, List·Memᴰ·tail, List·Memᴰ·cases-cons, List·Memᴰ·not-nil}
 use Prim.Native.Nat.{ℕ, zero, suc, _+_, _*_, _/_, _%_, _^_, _<_, _≤_, max}
 use native.Mathlib.Omega.{arith}
@@ -77,11 +77,7 @@ lt-of : (n b : ℕ) → n ≤ b → (n ≡ b → ⊥) → n < b
 lt-of n b l d = omega arith
 
 power-le : (n b : ℕ) → n ≤ b → 2 ^ n ≤ 2 ^ b
-power-le n b l = go (same? n b)
-  where
-    go : (n ≡ b) ⊎ (eqb n b ≡ false) → 2 ^ n ≤ 2 ^ b
-    go (inl e) = rw e (omega arith)
-    go (inr d) = let ne = eqb-false n b d in let p = pow-lt (lt-of n b l ne) in omega arith
+power-le n b l = ⊎-elim (λ e. rw e (omega arith)) (λ d. let ne = eqb-false n b d in let p = pow-lt (lt-of n b l ne) in omega arith) (same? n b)
 
 pub seen-below : (n : ℕ) (rs : List Reply) → Below n rs → seenOf rs < 2 ^ n
 unfolding seenOf
