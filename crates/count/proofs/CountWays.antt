@@ -113,9 +113,7 @@ module _ {A : Type 0} (number : A → ℕ) where
     where
       go : (any (λ y. eqb (number y) (number x)) xs ≡ true) ⊎ (twice number xs ≡ true) → (twice number xs ≡ true → Again xs) → Again (x ∷ xs)
       go (inl a) below =
-          let (y, m, e) = any-some (λ y. eqb (number y) (number x)) xs a in
-          let (between, after, k) = parted y xs m in
-          ([], x, between, y, after, ap (λ zs. x ∷ zs) k, sym (eqb-true _ _ e))
+          let (y, m, e) = any-some (λ y. eqb (number y) (number x)) xs a in let (between, after, k) = parted y xs m in ([], x, between, y, after, ap (λ zs. x ∷ zs) k, sym (eqb-true _ _ e))
       go (inr u) below = let (before, z, between, y, after, k, e) = below u in (x ∷ before, z, between, y, after, ap (λ zs. x ∷ zs) k, e)
 
   -- and the other way round
@@ -172,13 +170,11 @@ module _ (n : ℕ) (lent : Lent) where
 
       boxes : twice (λ h. h .box) (lentHeard lent) ≡ true → BadLent n lent
       boxes t =
-          let (before, r, between, q, after, k, e) = twice-again (λ r. r .boxnumber) (lentReplies lent) (sym (twice-heard (lentReplies lent)) ∙ t) in
-          again before r between q after k e
+          let (before, r, between, q, after, k, e) = twice-again (λ r. r .boxnumber) (lentReplies lent) (sym (twice-heard (lentReplies lent)) ∙ t) in again before r between q after k e
 
       views : any (λ h. any (λ g. not (eqb (h .view) (g .view))) (lentHeard lent)) (lentHeard lent) ≡ true → BadLent n lent
       views t =
-          let (r, m, u) = said (λ h. any (λ g. not (eqb (h .view) (g .view))) (lentHeard lent)) t in
-          let (q, i, f) = said (λ g. not (eqb (r .view) (g .view))) u in
+          let (r, m, u) = said (λ h. any (λ g. not (eqb (h .view) (g .view))) (lentHeard lent)) t in let (q, i, f) = said (λ g. not (eqb (r .view) (g .view))) u in
           otherView r q m i (eqb-false _ _ (not-true _ f))
 
       unruly : any (λ h. not (resultByRule (h .result))) (lentHeard lent) ≡ true → BadLent n lent
@@ -191,7 +187,7 @@ module _ (n : ℕ) (lent : Lent) where
   -- and replies that are not bad by none
   pub good-none : GoodLent n lent → BadLent n lent → ⊥
   good-none (w, e) (cut c) = c w
-  good-none (w, e) (badGroup g) = impossible (sym (bad-group n (lentReplies lent) g)) e
+  good-none (w, e) (badGroup g) = impossible (bad-group n (lentReplies lent) g) e
   good-none (w, e) (outside r m l) = let k = good-facts n (lentReplies lent) e .below r m in omega arith
   good-none (w, e) (again before r between q after k b) =
       impossible (ap (twice (λ (r : Reply). r .boxnumber)) k ∙ again-twice (λ (r : Reply). r .boxnumber) before r between q after b)
@@ -231,14 +227,12 @@ module _ (n : ℕ) (lent : Lent) where
     where
       two : any (λ h. any (λ g. both (both (h .isFinal) (g .isFinal)) (not (sameResult (h .result) (g .result)))) (lentHeard lent)) (lentHeard lent) ≡ true → Contradicting n lent
       two t =
-          let (h, m, u) = any-some _ (lentHeard lent) t in
-          let (g, i, v) = any-some _ (lentHeard lent) u in
+          let (h, m, u) = any-some _ (lentHeard lent) t in let (g, i, v) = any-some _ (lentHeard lent) u in
           finals h g m i (both-left _ _ (both-left _ _ v)) (both-right _ _ (both-left _ _ v)) (other-result _ _ (both-right _ _ v))
 
       one : any (λ h. any (λ g. both (both (h .isFinal) (leb (fastCount (fOf n)) (agreeing (lentHeard lent) (g .result)))) (not (sameResult (h .result) (g .result)))) (lentHeard lent)) (lentHeard lent) ≡ true → Contradicting n lent
       one t =
-          let (h, m, u) = any-some _ (lentHeard lent) t in
-          let (g, i, v) = any-some _ (lentHeard lent) u in
+          let (h, m, u) = any-some _ (lentHeard lent) t in let (g, i, v) = any-some _ (lentHeard lent) u in
           fastAgainst h (g .result) m (both-left _ _ (both-left _ _ v)) (leb-true _ _ (both-right _ _ (both-left _ _ v))) (other-result _ _ (both-right _ _ v))
 
   -- and else by none
@@ -246,8 +240,7 @@ module _ (n : ℕ) (lent : Lent) where
   unfolding unequalFinalHeard fastBesideFinal isFast both
   clear-none c (finals h g m i p q d) = d (not-other-result _ _ (rw (p, q) at (pair-none _ (lentHeard lent) (either-left _ _ c) h g m i)))
   clear-none c (fastAgainst h r m p l d) =
-      let (g, i, e) = agreed-by (lentHeard lent) r (omega arith) in
-      d (not-other-result _ _ (rw (p, ← e, le-leb _ _ l) at (pair-none _ (lentHeard lent) (either-right _ _ c) h g m i)))
+      let (g, i, e) = agreed-by (lentHeard lent) r (omega arith) in d (not-other-result _ _ (rw (p, ← e, le-leb _ _ l) at (pair-none _ (lentHeard lent) (either-right _ _ c) h g m i)))
 
 -- ---- 0
 

@@ -1,17 +1,12 @@
 -- What is refused with 3 and with 6, and what is decided, of replies in plain numbers.
-use mathlib.Core.Path.{_≡_, refl, sym, ap, _∙_}
+use mathlib.Core.Path.{_≡_, refl, _∙_}
 use mathlib.Core.Bool.{Bool, true, false, not}
-use mathlib.Core.Logic.{_⊎_, inl, inr}
 use mathlib.Core.List.{List}
 use Prim.Native.Nat.{ℕ, _<_}
-use native.Mathlib.Omega.{arith}
-use lib.Dec.{ltb}
 use lib.ListN.{length}
-use borrow.Author.Tests.{ltb-true, ltb-false}
 use Rattle.rules.specs.Tests.{both, either, every}
 use Rattle.rules.specs.Numbers.{Number.badMessage, Number.contradiction, numberCode, number, first, applies}
 use Rattle.rules.specs.Count.{badReplies, countCircumstances, countNumber, decided, counted, Counted.refused}
-use Rattle.rules.proofs.Logic.{cases}
 use Rattle.replies.specs.declared.held.Reply.{Reply}
 use Rattle.replies.specs.PlainReplies.{resultRead, allHeard}
 use Rattle.count.specs.Inner.MeantAnswers.{contradicting}

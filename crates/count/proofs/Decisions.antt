@@ -3,12 +3,12 @@ use mathlib.Core.Path.{_≡_, refl, sym, ap, _∙_}
 use mathlib.Core.Bool.{Bool, true, false, not}
 use mathlib.Core.Logic.{_⊎_, inl, inr, ⊎-elim}
 use mathlib.Core.List.{List, [], _∷_}
-use mathlib.Core.Option.{Option, none, some}
+use mathlib.Core.Option.{none, some}
 use Prim.Native.Nat.{ℕ, _+_, _<_, _≤_, max}
 use native.Mathlib.Omega.{arith}
 use lib.Dec.{eqb, ltb}
 use borrow.Author.Tests.{ltb-true, ltb-false, not-false, lt-ltb, le-ltb, le-leb, lt-leb}
-use Rattle.rules.specs.Tests.{both, either, bit, any, count, greatest, somePair, provided, firstOf}
+use Rattle.rules.specs.Tests.{both, either, any, count, greatest, somePair, provided, firstOf}
 use Rattle.rules.specs.Groups.{fOf, quorum}
 use Rattle.rules.specs.Stamps.{isStamp}
 use Rattle.rules.specs.Tables.{Result, Result.OK, Result.ABORT, Result.ABSTAIN, Result.RETRY, resultCode, resultRetry, sameResult, resultByRule}
@@ -18,6 +18,7 @@ use Rattle.rules.proofs.Lists.{_∈_, any-none, any-some, some-any, none-pair, 
 use Rattle.rules.proofs.Same.{same-result, result-same, not-other-result}
 use Rattle.rules.proofs.Count.{final-from}
 use Rattle.rules.proofs.Votes.{fast-one}
+use Rattle.replies.proofs.Counted.{any-counted}
 use Rattle.count.specs.Inner.MeantAnswers.{contradicting}
 
 not-first : {a : Bool} (b : Bool) → a ≡ false → both a b ≡ false
@@ -35,8 +36,7 @@ module _ (n : ℕ) (hs : List Heard) (good : badReplies n hs ≡ false) where
   -- a fast or a final result is a reply's, and so by the rules
   pub chosen-by-rule : (test : Heard → Bool) (r : Result) → firstOf (λ h. provided (test h) (h .result)) hs ≡ some r → resultByRule r ≡ true
   chosen-by-rule test r e =
-      let (h, m, k) = first-from (λ h. provided (test h) (h .result)) hs r e in
-      rw (← provided-some (test h) (h .result) r k .1) (by-rule h m)
+      let (h, m, k) = first-from (λ h. provided (test h) (h .result)) hs r e in rw (← provided-some (test h) (h .result) r k .1) (by-rule h m)
 
 -- ---- "Two unequal finals, or a fast count for a result other than a final one: 6."
 
@@ -86,16 +86,12 @@ module _ (n : ℕ) (hs : List Heard) (good : badReplies n hs ≡ false) where
   -- another is final
   pub contradicts-other : (q : Result) → finalHeard hs ≡ some q → any (otherFinal q) hs ≡ true → Contradicts true
   contradicts-other q e o =
-      let (h, mh, f, i) = final-from n hs q e in
-      let (g, mg, og) = any-some (otherFinal q) hs o in
-      sym (either-first _ _ (unequal-pair hs h g mh mg f (rw i og)))
+      let (h, mh, f, i) = final-from n hs q e in let (g, mg, og) = any-some (otherFinal q) hs o in sym (either-first _ _ (unequal-pair hs h g mh mg f (rw i og)))
 
   is-fast : (p : Result) → fastOf n hs ≡ some p → (g : Heard) × (g ∈ hs) × (isFast n hs (g .result) ≡ true) × (g .result ≡ p)
   unfolding fastOf
   is-fast p e =
-      let (g, mg, k) = first-from (λ g. provided (isFast n hs (g .result)) (g .result)) hs p e in
-      let (f, i) = provided-some (isFast n hs (g .result)) (g .result) p k in
-      (g, mg, f, i)
+      let (g, mg, k) = first-from (λ g. provided (isFast n hs (g .result)) (g .result)) hs p e in let (f, i) = provided-some (isFast n hs (g .result)) (g .result) p k in (g, mg, f, i)
 
   no-fast : fastOf n hs ≡ none → (g : Heard) → g ∈ hs → isFast n hs (g .result) ≡ false
   unfolding fastOf
@@ -113,9 +109,7 @@ module _ (n : ℕ) (hs : List Heard) (good : badReplies n hs ≡ false) where
     where
       go : (sameResult q p ≡ true) ⊎ (sameResult q p ≡ false) → Contradicts (not (sameResult q p))
       go (inr d) =
-          let (h, mh, f, i) = final-from n hs q eq in
-          let (g, mg, enough, j) = is-fast p ep in
-          let t : besideFinal n hs h g ≡ true = both-true (both-true f enough) (rw (i, j) (not-true-of _ d)) in
+          let (h, mh, f, i) = final-from n hs q eq in let (g, mg, enough, j) = is-fast p ep in let t : besideFinal n hs h g ≡ true = both-true (both-true f enough) (rw (i, j) (not-true-of _ d)) in
           rw d (sym (either-second _ _ (some-any (λ h. any (besideFinal n hs h) hs) hs h mh (some-any (besideFinal n hs h) hs g mg t))))
       go (inl s) = rw s (sym (either-false (finals-equal hs q a) (none-pair (besideFinal n hs) hs pair)))
         where
@@ -130,15 +124,6 @@ module _ (n : ℕ) (hs : List Heard) (good : badReplies n hs ≡ false) where
                   rw (e, result-same) (both-false _)
 
 -- ---- "slow ABORT if any is ABORT; slow OK if f+1 are OK; slow RETRY with the greatest stamp if any; slow ABSTAIN"
-
-any-counted : {A : Type 0} (test : A → Bool) (xs : List A) → any test xs ≡ ltb 0 (count test xs)
-unfolding any count either
-any-counted test [] = refl
-any-counted test (x ∷ xs) = go (test x) (any-counted test xs)
-  where
-    go : (b : Bool) → any test xs ≡ ltb 0 (count test xs) → either b (any test xs) ≡ ltb 0 (bit b + count test xs)
-    go true e = sym (lt-ltb 0 (1 + count test xs) (omega arith))
-    go false e = let z : count test xs ≡ 0 + count test xs = omega arith in e ∙ ap (ltb 0) z
 
 -- of results by the rules, the greatest retry stamp is above 0 if one is RETRY
 retried : (r : Result) → resultByRule r ≡ true → eqb (resultCode r) 4 ≡ ltb 0 (resultRetry r)

@@ -2,35 +2,36 @@
 use mathlib.Core.Path.{_≡_, refl, sym, ap, subst, _∙_}
 use mathlib.Core.Bool.{Bool, true, false, not, cond}
 use mathlib.Core.Logic.{_⊎_, inl, inr, ⊎-elim}
-use mathlib.Core.List.{List, [], _∷_, map, List·Memᴰ·head, List·Memᴰ·tail, List·Memᴰ·cases-cons, List·Memᴰ·not-nil, Memᴰ·map}
+use mathlib.Core.List.{List, [], _∷_, List·Memᴰ·head, List·Memᴰ·tail, List·Memᴰ·cases-cons, List·Memᴰ·not-nil, Memᴰ·map}
 use mathlib.Core.Option.{Option, none, some}
-use Prim.Native.Nat.{ℕ, zero, suc, _+_, _*_, _/_, _%_, _^_, _<_, _≤_, max}
+use Prim.Native.Nat.{ℕ, _+_, _*_, _/_, _%_, _^_, _<_, _≤_, max}
 use native.Mathlib.Omega.{arith}
 use lib.Dec.{eqb, ltb, leb}
 use lib.ListN.{length, length-map}
-use borrow.Author.Tests.{eqb-true, eqb-false, eq-eqb, ne-eqb, ltb-true, ltb-false, lt-ltb, le-ltb, leb-true, leb-false, le-leb, lt-leb, not-true, not-false}
+use borrow.Author.Tests.{eqb-true, eqb-false, eq-eqb, ne-eqb, ltb-true, ltb-false, lt-ltb, leb-true, leb-false, le-leb, lt-leb, not-true}
 use Rattle.rules.specs.Tests.{both, either, bit, any, every, count, those, kept, greatest, somePair, twice, provided, firstOf}
 use Rattle.rules.specs.Groups.{isGroup, fOf, quorum, fastCount}
 use Rattle.rules.specs.Stamps.{isStamp}
 use Rattle.rules.specs.Tables.{Result, Result.OK, Result.ABORT, Result.ABSTAIN, Result.RETRY, resultCode, resultRetry, sameResult, resultByRule}
-use Rattle.rules.specs.Count.{Heard, badReplies, agreeing, isFast, unequalFinalHeard, fastBesideFinal, Counted.wait, fastOf, finalHeard, greatestRetry, slowResult, decided}
-use Rattle.rules.proofs.Logic.{impossible, cases, same?, both-left, both-right, both-true, both-comm, eqb-sym, not-false-of, not-true-of}
+use Rattle.rules.specs.Count.{Heard, agreeing, isFast, unequalFinalHeard, fastBesideFinal, Counted.wait, fastOf, finalHeard, greatestRetry, slowResult, decided}
+use Rattle.rules.proofs.Logic.{impossible, cases, same?, both-left, both-right, both-true, both-comm, eqb-sym, not-true-of}
 use Rattle.rules.proofs.Lists.{_∈_, any-some, some-any, none-any, any-none, every-one, all-every, those-of, in-those, greatest-above, greatest-below, provided-some, none-first, first-is}
 use Rattle.rules.proofs.Same.{same-result, result-same}
-use Rattle.rules.proofs.Groups.{group-of, group-bounds}
+use Rattle.rules.proofs.Groups.{group-of}
 use Rattle.rules.proofs.Count.{final-from}
 use Rattle.rules.proofs.Votes.{count-all, different-below, fast-one}
 use Rattle.replies.specs.declared.held.Reply.{Reply}
 use Rattle.replies.specs.PlainReplies.{resultRead, heard, allHeard}
 use Rattle.rows.specs.Fields.{resultNumbered}
 use Rattle.replies.specs.Inner.Bad.{areBad}
-use Rattle.replies.specs.Inner.Tallies.{packed, packedBy, inRange, oneMore}
+use Rattle.replies.specs.Inner.Tallies.{packed, packedBy, inRange}
 use Rattle.replies.specs.Inner.Tallies.{noTally, withReplies}
 use Rattle.replies.specs.declared.tally.Tally.{Tally}
+use Rattle.replies.proofs.Counted.{any-counted, parted-length, count-most}
 use Rattle.replies.proofs.Boxes.{seenOf, seen-below, seen-above}
 use Rattle.replies.proofs.BadReplies.{coded, any-heard, Good, good-facts, good-by, bad-group, bad-unless}
 use Rattle.replies.proofs.Told.{rangeOf, othersOf, Said, likeIt, unlikeIt, isLast, tallyOf, Fine, Told, Told.nothing, Told.bad, Told.fine, few-told}
-use Rattle.count.specs.declared.answer.Counted.the-variants.{Fast, Slow, Wait, Bad, Contradiction}
+use Rattle.count.specs.declared.answer.Counted.the-variants.{Wait}
 use Rattle.count.specs.Calls.{countOf}
 use Rattle.count.specs.Answers.{answerAs}
 use Rattle.count.specs.Inner.MeantAnswers.{contradicting}
@@ -68,61 +69,39 @@ unpacked q = let (p, l) = code-fits q in (omega arith, omega arith, λ e. omega 
 packed-same : (r q : Result) → packedOf r ≡ packedOf q → r ≡ q
 unfolding sameResult
 packed-same r q e =
-    let (a, l) = code-fits r in
-    let (b, m) = code-fits q in
-    let c : resultCode r ≡ resultCode q = omega arith in
-    let d : resultRetry r ≡ resultRetry q = omega arith in
+    let (a, l) = code-fits r in let (b, m) = code-fits q in let c : resultCode r ≡ resultCode q = omega arith in let d : resultRetry r ≡ resultRetry q = omega arith in
     same-result r q (both-true (eq-eqb _ _ c) (eq-eqb _ _ d))
 
 packed-heard : (r : Reply) → resultRead r ≡ true → packedBy r ≡ packedOf (heard r .result)
-packed-heard r h =
-    let c = coded r h in
-    let code = c .sameCode in
-    let retry = c .sameRetry in
-    let l = code-fits (heard r .result) .1 in
-    let m = retry-fits (heard r .result) (c .byRule) in
-    omega arith
+packed-heard r h = let c = coded r h in let code = c .sameCode in let retry = c .sameRetry in let l = code-fits (heard r .result) .1 in let m = retry-fits (heard r .result) (c .byRule) in omega arith
 
 -- ---- the least and the greatest
 
-module _ where
-  in-range : (rs : List Reply) (r : Reply) → r ∈ rs → (rangeOf rs .least ≤ packedBy r) × (packedBy r ≤ rangeOf rs .greatest)
-  unfolding rangeOf
-  in-range [] r m = absurd (List·Memᴰ·not-nil m)
-  in-range (q ∷ rs) r m = go (List·Memᴰ·cases-cons m) (in-range rs r)
-    where
-      go : (r ≡ q) ⊎ (r ∈ rs) → (r ∈ rs → (rangeOf rs .least ≤ packedBy r) × (packedBy r ≤ rangeOf rs .greatest)) → (rangeOf (q ∷ rs) .least ≤ packedBy r) × (packedBy r ≤ rangeOf (q ∷ rs) .greatest)
-      go (inl e) below = rw e (omega arith, omega arith)
-      go (inr i) below = let (a, b) = below i in (omega arith, omega arith)
+in-range : (rs : List Reply) (r : Reply) → r ∈ rs → (rangeOf rs .least ≤ packedBy r) × (packedBy r ≤ rangeOf rs .greatest)
+unfolding rangeOf
+in-range [] r m = absurd (List·Memᴰ·not-nil m)
+in-range (q ∷ rs) r m = go (List·Memᴰ·cases-cons m) (in-range rs r)
+  where
+    go : (r ≡ q) ⊎ (r ∈ rs) → (r ∈ rs → (rangeOf rs .least ≤ packedBy r) × (packedBy r ≤ rangeOf rs .greatest)) → (rangeOf (q ∷ rs) .least ≤ packedBy r) × (packedBy r ≤ rangeOf (q ∷ rs) .greatest)
+    go (inl e) below = rw e (omega arith, omega arith)
+    go (inr i) below = let (a, b) = below i in (omega arith, omega arith)
 
-  -- all the same: they are equal
-  range-one : (p : ℕ) (rs : List Reply) → p < 2 ^ 64 → ((r : Reply) → r ∈ rs → packedBy r ≡ p) → (p ≤ rangeOf rs .least) × (rangeOf rs .greatest ≤ p)
-  unfolding rangeOf
-  range-one p [] l k = (omega arith, omega arith)
-  range-one p (q ∷ rs) l k =
-      let (a, b) = range-one p rs l (λ r m. k r (List·Memᴰ·tail m)) in
-      let e = k q (List·Memᴰ·head refl) in
-      (omega arith, omega arith)
+-- all the same: they are equal
+range-one : (p : ℕ) (rs : List Reply) → p < 2 ^ 64 → ((r : Reply) → r ∈ rs → packedBy r ≡ p) → (p ≤ rangeOf rs .least) × (rangeOf rs .greatest ≤ p)
+unfolding rangeOf
+range-one p [] l k = (omega arith, omega arith)
+range-one p (q ∷ rs) l k = let (a, b) = range-one p rs l (λ r m. k r (List·Memᴰ·tail m)) in let e = k q (List·Memᴰ·head refl) in (omega arith, omega arith)
 
-  range-equal : (p : ℕ) (rs : List Reply) (r : Reply) → r ∈ rs → ((q : Reply) → q ∈ rs → packedBy q ≡ p) → rangeOf rs .least ≡ rangeOf rs .greatest
-  range-equal p rs r m k =
-      let e = k r m in
-      let (a, b) = range-one p rs (omega arith) k in
-      let (c, d) = in-range rs r m in
-      omega arith
+range-equal : (p : ℕ) (rs : List Reply) (r : Reply) → r ∈ rs → ((q : Reply) → q ∈ rs → packedBy q ≡ p) → rangeOf rs .least ≡ rangeOf rs .greatest
+range-equal p rs r m k = let e = k r m in let (a, b) = range-one p rs (omega arith) k in let (c, d) = in-range rs r m in omega arith
 
-  -- and the greatest stamp of RETRY is the greatest number's
-  range-retry : (rs : List Reply) → every resultRead rs ≡ true → rangeOf rs .greatest / 8 ≡ greatest (λ r. r .retry) rs
-  unfolding rangeOf greatest every
-  range-retry [] h = refl
-  range-retry (r ∷ rs) h =
-      let e = range-retry rs (both-right _ _ h) in
-      let c = coded r (both-left _ _ h) in
-      let code = c .sameCode in
-      let retry = c .sameRetry in
-      let l = code-fits (heard r .result) .1 in
-      let m = retry-fits (heard r .result) (c .byRule) in
-      omega arith
+-- and the greatest stamp of RETRY is the greatest number's
+range-retry : (rs : List Reply) → every resultRead rs ≡ true → rangeOf rs .greatest / 8 ≡ greatest (λ r. r .retry) rs
+unfolding rangeOf greatest every
+range-retry [] h = refl
+range-retry (r ∷ rs) h =
+    let e = range-retry rs (both-right _ _ h) in let c = coded r (both-left _ _ h) in let code = c .sameCode in let retry = c .sameRetry in let l = code-fits (heard r .result) .1 in
+    let m = retry-fits (heard r .result) (c .byRule) in omega arith
 
 -- ---- counts
 
@@ -142,48 +121,13 @@ module _ {A : Type 0} where
       go false e true f h = impossible (k x f) e
       go false e false f h = omega arith
 
-  counts-those : (p test : A → Bool) (xs : List A) → count p (those test xs) ≤ count p xs
-  unfolding count those
-  counts-those p test [] = omega arith
-  counts-those p test (x ∷ xs) = go (test x) (counts-those p test xs)
-    where
-      go : (t : Bool) → count p (those test xs) ≤ count p xs → count p (kept t x (those test xs)) ≤ bit (p x) + count p xs
-      go true h = omega arith
-      go false h = omega arith
-
-  -- those that pass and those that do not are all
-  parted-length : (p : A → Bool) (xs : List A) → count p xs + length (those (λ x. not (p x)) xs) ≡ length xs
-  unfolding count those
-  parted-length p [] = refl
-  parted-length p (x ∷ xs) = go (p x) (parted-length p xs)
-    where
-      go : (b : Bool) → count p xs + length (those (λ y. not (p y)) xs) ≡ length xs → bit b + count p xs + length (kept (not b) x (those (λ y. not (p y)) xs)) ≡ length (x ∷ xs)
-      go true h = omega arith
-      go false h = omega arith
-
-  count-most : (p : A → Bool) (xs : List A) → count p xs ≤ length xs
-  count-most p xs = let e = parted-length p xs in omega arith
-
   -- as many as there are: all pass
   count-full : (p : A → Bool) (xs : List A) → count p xs ≡ length xs → (x : A) → x ∈ xs → p x ≡ true
-  count-full p xs e x m = go (cases (p x))
+  count-full p xs e x m = ⊎-elim (λ t. t) (λ f. let l = parted-length p xs in absurd (not-in (those (λ y. not (p y)) xs) (omega arith) (in-those (λ y. not (p y)) xs x m (not-true-of _ f)))) (cases (p x))
     where
-      go : (p x ≡ true) ⊎ (p x ≡ false) → p x ≡ true
-      go (inl t) = t
-      go (inr f) = let l = parted-length p xs in absurd (none (those (λ y. not (p y)) xs) (omega arith) (in-those (λ y. not (p y)) xs x m (not-true-of _ f)))
-        where
-          none : (ys : List A) → length ys ≡ 0 → x ∈ ys → ⊥
-          none [] z i = List·Memᴰ·not-nil i
-          none (y ∷ ys) z i = omega arith
-
-  some-counted : (p : A → Bool) (xs : List A) (x : A) → x ∈ xs → p x ≡ true → 0 < count p xs
-  unfolding count
-  some-counted p [] x m t = absurd (List·Memᴰ·not-nil m)
-  some-counted p (y ∷ ys) x m t = go (List·Memᴰ·cases-cons m) (some-counted p ys x)
-    where
-      go : (x ≡ y) ⊎ (x ∈ ys) → (x ∈ ys → p x ≡ true → 0 < count p ys) → 0 < bit (p y) + count p ys
-      go (inl e) below = rw (← e, t) (omega arith)
-      go (inr i) below = let l = below i t in omega arith
+      not-in : (ys : List A) → length ys ≡ 0 → x ∈ ys → ⊥
+      not-in [] z i = List·Memᴰ·not-nil i
+      not-in (y ∷ ys) z i = omega arith
 
 count-heard : (test : Heard → Bool) (rs : List Reply) → count test (allHeard rs) ≡ count (λ r. test (heard r)) rs
 unfolding count
@@ -200,12 +144,10 @@ others-told : (ds : List Reply) → length ds ≤ 7 → (othersOf ds .number ≡
 unfolding othersOf rangeOf count
 others-told [] l = (refl, refl, refl, refl)
 others-told (r ∷ ds) l =
-    let (a, b, c, d) = others-told ds (omega arith) in
-    let m = count-most (λ q. eqb (q .result) 1) ds in
-    let k = count-most (λ q. eqb (q .result) 2) ds in
+    let (a, b, c, d) = others-told ds (omega arith) in let m = count-most (λ q. eqb (q .result) 1) ds in let k = count-most (λ q. eqb (q .result) 2) ds in
     (omega arith, more (eqb (r .result) 1) _ _ b (omega arith), more (eqb (r .result) 2) _ _ c (omega arith), ap (λ z. inRange z (packedBy r)) d)
   where
-    more : (t : Bool) (x y : ℕ) → x ≡ y → y ≤ 7 → cond t (oneMore x) x ≡ bit t + y
+    more : (t : Bool) (x y : ℕ) → x ≡ y → y ≤ 7 → cond t (x % 256 + 1) x ≡ bit t + y
     more true x y e l = omega arith
     more false x y e l = omega arith
 
@@ -284,12 +226,8 @@ module _ (n v : ℕ) (s : Said) (rs : List Reply) (k : Fine v s rs) (good : areB
   like-heard : (r : Reply) → r ∈ rs → likeIt s r ≡ sameResult f (heard r .result)
   unfolding sameResult
   like-heard r m =
-      let (q, i, l) = k .one in
-      let (a, b) = like-is q l in
-      let c = coded q (read q i) in
-      let d = coded r (read r m) in
-      let e : resultCode f ≡ s .code = sym (ap resultCode (like-result q l)) ∙ c .sameCode ∙ a in
-      let g : resultRetry f ≡ s .retry = sym (ap resultRetry (like-result q l)) ∙ c .sameRetry ∙ b in
+      let (q, i, l) = k .one in let (a, b) = like-is q l in let c = coded q (read q i) in let d = coded r (read r m) in
+      let e : resultCode f ≡ s .code = sym (ap resultCode (like-result q l)) ∙ c .sameCode ∙ a in let g : resultRetry f ≡ s .retry = sym (ap resultRetry (like-result q l)) ∙ c .sameRetry ∙ b in
       rw (e, g, d .sameCode, d .sameRetry, both-comm (eqb (s .code) (r .result)), eqb-sym (s .code), eqb-sym (s .retry)) refl
 
   first-packed : packed (s .code) (s .retry) ≡ packedOf f
@@ -304,7 +242,7 @@ module _ (n v : ℕ) (s : Said) (rs : List Reply) (k : Fine v s rs) (good : areB
   agreeing-is q = count-heard (λ h. sameResult q (h .result)) rs
 
   some-agree : 0 < count (likeIt s) rs
-  some-agree = let (q, i, l) = k .one in some-counted (likeIt s) rs q i l
+  some-agree = let (q, i, l) = k .one in ltb-true _ _ (sym (any-counted (likeIt s) rs) ∙ some-any (likeIt s) rs q i l)
 
   all-parted : count (likeIt s) rs + length ds ≡ length rs
   all-parted = parted-length (likeIt s) rs
@@ -329,24 +267,21 @@ module _ (n v : ℕ) (s : Said) (rs : List Reply) (k : Fine v s rs) (good : areB
       let a : any (λ h. isFast n hs (h .result)) hs ≡ false = any-heard (λ h. isFast n hs (h .result)) rs ∙ none-any (λ r. isFast n hs (heard r .result)) rs (λ r m. lt-leb _ _ (few r m)) in
       none-first (λ h. provided (isFast n hs (h .result)) (h .result)) hs (λ h m. rw (any-none (λ h. isFast n hs (h .result)) hs a h m) refl)
 
+  -- whoever has another result than the first reply's differs from it
+  differs : (r : Reply) → r ∈ rs → likeIt s r ≡ false → (x : Reply) → sameResult (heard r .result) (heard x .result) ≡ true → unlikeIt s x ≡ true
+  differs r m d x t = ⊎-elim (λ h. impossible (like-heard r m ∙ rw (same-result (heard r .result) (heard x .result) t ∙ like-result x h) (result-same f)) d) (λ h. not-true-of _ h) (cases (likeIt s x))
+
   -- a fast result that is not the first reply's is that of all others
   others-fast : (r : Reply) → r ∈ rs → likeIt s r ≡ false → fastCount (fOf n) ≤ agreeing hs (heard r .result) → (rangeOf ds .least ≡ rangeOf ds .greatest) × (fastCount (fOf n) ≤ length ds)
   unfolding agreeing
   others-fast r m d l =
-      let q : Result = heard r .result in
-      let a = count-heard (λ h. sameResult q (h .result)) rs in
-      let b = count-those (λ x. sameResult q (heard x .result)) (unlikeIt s) apart rs in
-      let c = count-most (λ x. sameResult q (heard x .result)) ds in
-      let e = all-parted in
-      let p = some-agree in
-      let z = number-fits in
-      let w = fast-most n (facts .group) .1 in
-      let full : count (λ x. sameResult q (heard x .result)) ds ≡ length ds = omega arith in
-      (range-equal (packedOf q) ds r (in-those (unlikeIt s) rs r m (not-true-of _ d))
-      (λ x i. packed-heard x (read x (those-of (unlikeIt s) rs x i .0)) ∙ ap packedOf (sym (same-result q (heard x .result) (count-full (λ x. sameResult q (heard x .result)) ds full x i)))), omega arith)
-    where
-      apart : (x : Reply) → sameResult (heard r .result) (heard x .result) ≡ true → unlikeIt s x ≡ true
-      apart x t = ⊎-elim (λ h. impossible (like-heard r m ∙ rw (same-result (heard r .result) (heard x .result) t ∙ like-result x h) (result-same f)) d) (λ h. not-true-of _ h) (cases (likeIt s x))
+      let q : Result = heard r .result in let a = count-heard (λ h. sameResult q (h .result)) rs in let b = count-those (λ x. sameResult q (heard x .result)) (unlikeIt s) (differs r m d) rs in
+      let c = count-most (λ x. sameResult q (heard x .result)) ds in let e = all-parted in let p = some-agree in let z = number-fits in let w = fast-most n (facts .group) .1 in
+      let full : count (λ x. sameResult q (heard x .result)) ds ≡ length ds = omega arith in (
+        range-equal (packedOf q) ds r (in-those (unlikeIt s) rs r m (not-true-of _ d))
+            (λ x i. packed-heard x (read x (those-of (unlikeIt s) rs x i .0)) ∙ ap packedOf (sym (same-result q (heard x .result) (count-full (λ x. sameResult q (heard x .result)) ds full x i)))),
+        omega arith,
+      )
 
   fast-told : fastBy n (tallyOf v s rs) ≡ packedAs (fastOf n hs)
   unfolding fastBy
@@ -367,34 +302,26 @@ module _ (n v : ℕ) (s : Said) (rs : List Reply) (k : Fine v s rs) (good : areB
           at (inr y) = leb-false _ _ y
 
       go : (leb (fastCount (fOf n)) (count (likeIt s) rs) ≡ true) ⊎ (leb (fastCount (fOf n)) (count (likeIt s) rs) ≡ false) → (rangeOf ds .least ≡ rangeOf ds .greatest) ⊎ (eqb (rangeOf ds .least) (rangeOf ds .greatest) ≡ false) → (leb (fastCount (fOf n)) (length ds) ≡ true) ⊎ (leb (fastCount (fOf n)) (length ds) ≡ false) → fastBy n (tallyOf v s rs) ≡ packedAs (fastOf n hs)
-      go (inl t) x y =
-          let (q, m, l) = k .one in
-          let e = like-result q l in
-          rw (t, fast-found q m (rw (e, agree-first) (leb-true _ _ t)), e) first-packed
+      go (inl t) x y = let (q, m, l) = k .one in let e = like-result q l in rw (t, fast-found q m (rw (e, agree-first) (leb-true _ _ t)), e) first-packed
       go (inr t) (inr d) y = rw (t, others .3, d, few (leb-false _ _ t) (λ r m i. less r m i (λ z. eqb-false _ _ d (z .0)))) refl
       go (inr t) (inl e) (inr y) = rw (t, others .3, eq-eqb _ _ e, others .0, y, few (leb-false _ _ t) (λ r m i. less r m i (λ z. impossible (le-leb _ _ (z .1)) y))) refl
       go (inr t) (inl e) (inl y) = at ds refl
         where
           same-as : (r x : Reply) → r ∈ ds → x ∈ ds → sameResult (heard r .result) (heard x .result) ≡ true
           same-as r x m i =
-              let (a, b) = in-range ds r m in
-              let (c, d) = in-range ds x i in
-              let g : packedBy r ≡ packedBy x = omega arith in
+              let (a, b) = in-range ds r m in let (c, d) = in-range ds x i in let g : packedBy r ≡ packedBy x = omega arith in
               sym (same-packed (heard r .result) (heard x .result)) ∙ eq-eqb _ _ (sym (packed-heard r (read r (those-of (unlikeIt s) rs r m .0))) ∙ g ∙ packed-heard x (read x (those-of (unlikeIt s) rs x i .0)))
 
           all-agree : (r : Reply) → r ∈ ds → fastCount (fOf n) ≤ agreeing hs (heard r .result)
           all-agree r m =
-              let l : fastCount (fOf n) ≤ length ds = leb-true _ _ y in
-              let c = count-all (λ x. sameResult (heard r .result) (heard x .result)) ds (λ x i. same-as r x m i) in
-              let b = counts-those (λ x. sameResult (heard r .result) (heard x .result)) (unlikeIt s) rs in
-              let a = agreeing-is (heard r .result) in
-              omega arith
+              let l : fastCount (fOf n) ≤ length ds = leb-true _ _ y in let c = count-all (λ x. sameResult (heard r .result) (heard x .result)) ds (λ x i. same-as r x m i) in
+              let (inn, d) = those-of (unlikeIt s) rs r m in let b = count-those (λ x. sameResult (heard r .result) (heard x .result)) (unlikeIt s) (differs r inn (not-true _ d)) rs in
+              let a = agreeing-is (heard r .result) in omega arith
 
           at : (xs : List Reply) → ds ≡ xs → fastBy n (tallyOf v s rs) ≡ packedAs (fastOf n hs)
           at [] i = let l : fastCount (fOf n) ≤ length ds = leb-true _ _ y in let z = fast-most n (facts .group) .0 in let w = ap length i in absurd (omega arith)
           at (r ∷ xs) i =
-              let m : r ∈ ds = subst (λ (zs : List Reply). r ∈ zs) (sym i) (List·Memᴰ·head refl) in
-              let inn = those-of (unlikeIt s) rs r m .0 in
+              let m : r ∈ ds = subst (λ (zs : List Reply). r ∈ zs) (sym i) (List·Memᴰ·head refl) in let inn = those-of (unlikeIt s) rs r m .0 in
               let p : packedBy r ≡ rangeOf ds .greatest = let (a, b) = in-range ds r m in omega arith in
               rw (t, others .3, eq-eqb _ _ e, others .0, y, fast-found r inn (all-agree r m)) (sym p ∙ packed-heard r (read r inn))
 
@@ -416,23 +343,15 @@ module _ (n v : ℕ) (s : Said) (rs : List Reply) (k : Fine v s rs) (good : areB
     -- a reply has it
     final-by : (r : Reply) × (r ∈ ls) × (packedBy r ≡ packedOf q)
     final-by =
-        let (h, m, t, i) = final-from n hs q e in
-        let a = some-any (λ h. both (h .isFinal) (sameResult q (h .result))) hs h m (both-true t (rw i (result-same q))) in
+        let (h, m, t, i) = final-from n hs q e in let a = some-any (λ h. both (h .isFinal) (sameResult q (h .result))) hs h m (both-true t (rw i (result-same q))) in
         let (r, j, b) = any-some (λ r. both (heard r .isFinal) (sameResult q (heard r .result))) rs (sym (any-heard (λ h. both (h .isFinal) (sameResult q (h .result))) rs) ∙ a) in
         (r, in-those isLast rs r j (both-left _ _ b), packed-heard r (read r j) ∙ ap packedOf (sym (same-result q (heard r .result) (both-right _ _ b))))
 
     finals-some : rangeOf ls .greatest ≡ 0 → ⊥
-    finals-some z =
-        let (r, m, p) = final-by in
-        let (a, b) = in-range ls r m in
-        let l = code-fits q .0 in
-        omega arith
+    finals-some z = let (r, m, p) = final-by in let (a, b) = in-range ls r m in let l = code-fits q .0 in omega arith
 
     finals-same : rangeOf ls .least ≡ rangeOf ls .greatest → rangeOf ls .greatest ≡ packedOf q
-    finals-same i =
-        let (r, m, p) = final-by in
-        let (a, b) = in-range ls r m in
-        omega arith
+    finals-same i = let (r, m, p) = final-by in let (a, b) = in-range ls r m in omega arith
 
     finals-other : any (otherFinal q) hs ≡ not (eqb (rangeOf ls .least) (rangeOf ls .greatest))
     unfolding both
@@ -441,10 +360,7 @@ module _ (n v : ℕ) (s : Said) (rs : List Reply) (k : Fine v s rs) (good : areB
         go : (rangeOf ls .least ≡ rangeOf ls .greatest) ⊎ (eqb (rangeOf ls .least) (rangeOf ls .greatest) ≡ false) → (any (λ r. otherFinal q (heard r)) rs ≡ true) ⊎ (any (λ r. otherFinal q (heard r)) rs ≡ false) → any (λ r. otherFinal q (heard r)) rs ≡ not (eqb (rangeOf ls .least) (rangeOf ls .greatest))
         go (inl i) (inr a) = rw (eq-eqb _ _ i, a) refl
         go (inl i) (inl a) =
-            let (r, m, b) = any-some (λ r. otherFinal q (heard r)) rs a in
-            let last = in-those isLast rs r m (both-left _ _ b) in
-            let (c, d) = in-range ls r last in
-            let g = finals-same i in
+            let (r, m, b) = any-some (λ r. otherFinal q (heard r)) rs a in let last = in-those isLast rs r m (both-left _ _ b) in let (c, d) = in-range ls r last in let g = finals-same i in
             let p : packedOf q ≡ packedOf (heard r .result) = omega (arith, packed-heard r (read r m)) in
             impossible (sym (same-packed q (heard r .result)) ∙ eq-eqb _ _ p) (not-true (sameResult q (heard r .result)) (both-right (heard r .isFinal) _ b))
         go (inr d) (inl a) = rw (d, a) refl
@@ -481,22 +397,17 @@ module _ (n v : ℕ) (s : Said) (rs : List Reply) (k : Fine v s rs) (good : areB
 
       go : (s .code ≡ c) ⊎ (eqb (s .code) c ≡ false) → howMany c (tallyOf v s rs .first) m ≡ agreeing hs q
       go (inl i) =
-          let (r, j, l) = k .one in
-          let g : resultCode f ≡ c = sym (ap resultCode (like-result r l)) ∙ coded r (read r j) .sameCode ∙ like-is r l .0 ∙ i in
+          let (r, j, l) = k .one in let g : resultCode f ≡ c = sym (ap resultCode (like-result r l)) ∙ coded r (read r j) .sameCode ∙ like-is r l .0 ∙ i in
           rw (eq-eqb _ _ i, same-result q f (code f ∙ eq-eqb _ _ g)) (sym agree-first)
       go (inr d) = rw d (e ∙ count-those (λ r. eqb (r .result) c) (unlikeIt s) (unlike (eqb-false _ _ d)) rs ∙ sym by-code ∙ sym (agreeing-is q))
 
   retry-told : max (s .retry) (rangeOf ds .greatest / 8) ≡ greatestRetry hs
   unfolding greatestRetry
   retry-told =
-      let (r, m, l) = k .one in
-      let a = range-retry ds (all-every resultRead ds (λ x i. read x (those-of (unlikeIt s) rs x i .0))) in
-      let b = greatest-heard rs (k .read) in
-      let c = greatest-above (λ x. x .retry) rs r m in
-      let d = like-is r l .1 in
+      let (r, m, l) = k .one in let a = range-retry ds (all-every resultRead ds (λ x i. read x (those-of (unlikeIt s) rs x i .0))) in let b = greatest-heard rs (k .read) in
+      let c = greatest-above (λ x. x .retry) rs r m in let d = like-is r l .1 in
       let e = greatest-below (λ x. x .retry) ds (greatest (λ x. x .retry) rs) (λ x i. greatest-above (λ y. y .retry) rs x (those-of (unlikeIt s) rs x i .0)) in
-      let g = greatest-below (λ x. x .retry) rs (max (s .retry) (greatest (λ x. x .retry) ds)) (λ x i. at x i (cases (likeIt s x))) in
-      omega arith
+      let g = greatest-below (λ x. x .retry) rs (max (s .retry) (greatest (λ x. x .retry) ds)) (λ x i. at x i (cases (likeIt s x))) in omega arith
     where
       at : (x : Reply) → x ∈ rs → (likeIt s x ≡ true) ⊎ (likeIt s x ≡ false) → x .retry ≤ max (s .retry) (greatest (λ y. y .retry) ds)
       at x i (inl t) = let d = like-is x t .1 in omega arith
@@ -512,8 +423,7 @@ module _ (n v : ℕ) (s : Said) (rs : List Reply) (k : Fine v s rs) (good : areB
   slow-told : rangeOf ls .greatest ≡ 0 → slowBy n (tallyOf v s rs) ≡ packedOf (slowResult n hs)
   unfolding slowBy
   slow-told z =
-      let a = how-many-told 2 ABORT abort-code (othersOf ds .aborts) (others .2) in
-      let b = how-many-told 1 OK ok-code (othersOf ds .oks) (others .1) in
+      let a = how-many-told 2 ABORT abort-code (othersOf ds .aborts) (others .2) in let b = how-many-told 1 OK ok-code (othersOf ds .oks) (others .1) in
       rw (eq-eqb _ _ z, a, b, others .3, retry-told) (go (cases (ltb 0 (agreeing hs ABORT))) (cases (leb (quorum (fOf n)) (agreeing hs OK))) (cases (ltb 0 (greatestRetry hs))))
     where
       go : (ltb 0 (agreeing hs ABORT) ≡ true) ⊎ (ltb 0 (agreeing hs ABORT) ≡ false) → (leb (quorum (fOf n)) (agreeing hs OK) ≡ true) ⊎ (leb (quorum (fOf n)) (agreeing hs OK) ≡ false) → (ltb 0 (greatestRetry hs) ≡ true) ⊎ (ltb 0 (greatestRetry hs) ≡ false)
@@ -521,20 +431,14 @@ module _ (n v : ℕ) (s : Said) (rs : List Reply) (k : Fine v s rs) (good : areB
       go (inl x) y w = rw (x, slow-abort n hs _ refl (ltb-true _ _ x)) refl
       go (inr x) (inl y) w = rw (x, y, slow-ok n hs _ refl (ltb-false _ _ x) _ _ refl refl (leb-true _ _ y)) refl
       go (inr x) (inr y) (inl w) =
-          let l = retries-fit in
-          let e : packed 4 (greatestRetry hs) ≡ 8 * greatestRetry hs + 4 = omega arith in
+          let l = retries-fit in let e : packed 4 (greatestRetry hs) ≡ 8 * greatestRetry hs + 4 = omega arith in
           rw (x, y, w, slow-retry n hs _ refl (ltb-false _ _ x) _ _ refl refl (leb-false _ _ y) (facts .not-bad) _ refl (ltb-true _ _ w)) e
       go (inr x) (inr y) (inr w) = rw (x, y, w, slow-abstain n hs _ refl (ltb-false _ _ x) _ _ refl refl (leb-false _ _ y) (facts .not-bad) _ refl (ltb-false _ _ w)) refl
 
   -- ---- "fast with r ..; wait if fewer than f+1 replies; slow with .."
 
   number-told : count (likeIt s) rs % 256 + othersOf ds .number % 256 ≡ length hs
-  number-told =
-      let a = all-parted in
-      let b = others .0 in
-      let c = facts .atMost in
-      let d = length-map rs heard in
-      omega arith
+  number-told = let a = all-parted in let b = others .0 in let c = facts .atMost in let d = length-map rs heard in omega arith
 
   decided-told : contradicting n hs ≡ false → decidedBy n (tallyOf v s rs) (packedAs (fastOf n hs)) ≡ answerAs (decided n hs)
   unfolding decidedBy decided
@@ -589,7 +493,7 @@ group-answered n g {rs} (fine v s k e) = rw e (at (cases (leb (2 ^ n) (seenOf rs
 
 told-answered : (n : ℕ) {rs : List Reply} {t : Tally} → Told rs t → answered n t ≡ answerAs (countOf n rs)
 unfolding isBad
-told-answered n {rs} {t} told = ⊎-elim (λ g. group-answered n g told) (λ d. bad-answered n t rs (rw d refl) (sym (bad-group n rs d))) (cases (isGroup n))
+told-answered n {rs} {t} told = ⊎-elim (λ g. group-answered n g told) (λ d. bad-answered n t rs (rw d refl) (bad-group n rs d)) (cases (isGroup n))
 
 -- the count of a tally of up to seven replies is theirs
 pub tally-counted : (n : ℕ) (rs : List Reply) → length rs ≤ 7 → answered n (withReplies noTally rs) ≡ answerAs (countOf n rs)

@@ -8,12 +8,12 @@ use native.Mathlib.Omega.{arith}
 use lib.Dec.{eqb, ltb}
 use lib.ListN.{length, length-map}
 use borrow.Author.Tests.{not-false, eqb-true, eq-eqb, lt-ltb}
-use Rattle.rules.specs.Tests.{both, either, any, every, twice, somePair}
+use Rattle.rules.specs.Tests.{either, any, every, twice, somePair}
 use Rattle.rules.specs.Groups.{isGroup}
 use Rattle.rules.specs.Tables.{resultByRule}
 use Rattle.rules.specs.Count.{Heard, unequalViews, badReplies}
 use Rattle.rules.proofs.Logic.{impossible, cases, both-left, both-right, either-left, either-right, either-false, not-false-of}
-use Rattle.rules.proofs.Lists.{_∈_, none-any, pair-none, none-pair}
+use Rattle.rules.proofs.Lists.{_∈_, none-any, pair-none}
 use Rattle.rules.proofs.Groups.{group-bounds}
 use Rattle.rules.proofs.Votes.{different-below, replies-different, replies-inside}
 use Rattle.message.proofs.KeepingRules.{ResultCoded, result-coded}
@@ -43,14 +43,6 @@ unfolding any every
 read-by-rule [] h = refl
 read-by-rule (r ∷ rs) h = either-false (not-false-of _ (coded r (both-left _ _ h) .byRule)) (read-by-rule rs (both-right _ _ h))
 
-pub bad-group : (n : ℕ) (rs : List Reply) → isGroup n ≡ false → true ≡ areBad n rs
-unfolding areBad badReplies either
-bad-group n rs group = go (every resultRead rs)
-  where
-    go : (b : Bool) → true ≡ either (not b) (badReplies n (allHeard rs))
-    go true = rw group refl
-    go false = refl
-
 -- ---- what replies that are not bad are
 
 pub record Good (n : ℕ) (rs : List Reply) : Type 0 where
@@ -67,10 +59,8 @@ pub record Good (n : ℕ) (rs : List Reply) : Type 0 where
 pub good-facts : (n : ℕ) (rs : List Reply) → areBad n rs ≡ false → Good n rs
 unfolding areBad badReplies unequalViews
 good-facts n rs h =
-    let not-bad : badReplies n (allHeard rs) ≡ false = either-right _ _ h in
-    let size = group-bounds n (not-false _ (either-left _ _ not-bad)) in
-    let below = different-below (λ g. g .box) n (allHeard rs) (replies-different n (allHeard rs) not-bad) (replies-inside n (allHeard rs) not-bad) in
-    let same = length-map rs heard in
+    let not-bad : badReplies n (allHeard rs) ≡ false = either-right _ _ h in let size = group-bounds n (not-false _ (either-left _ _ not-bad)) in
+    let below = different-below (λ g. g .box) n (allHeard rs) (replies-different n (allHeard rs) not-bad) (replies-inside n (allHeard rs) not-bad) in let same = length-map rs heard in
     record {
       read = not-false _ (either-left _ _ h);
       not-bad = not-bad;
@@ -99,6 +89,9 @@ good-by n rs group read inside apart views =
 -- what cannot be good is bad
 pub bad-unless : (n : ℕ) (rs : List Reply) → (Good n rs → ⊥) → areBad n rs ≡ true
 bad-unless n rs d = ⊎-elim (λ e. e) (λ e. absurd (d (good-facts n rs e))) (cases (areBad n rs))
+
+pub bad-group : (n : ℕ) (rs : List Reply) → isGroup n ≡ false → areBad n rs ≡ true
+bad-group n rs d = bad-unless n rs (λ g. impossible (g .group) d)
 
 -- more than seven are too many for any group
 pub too-many : (n : ℕ) (rs : List Reply) → 7 < length rs → areBad n rs ≡ true

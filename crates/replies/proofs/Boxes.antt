@@ -1,16 +1,16 @@
 -- The boxes seen, as bits of one number.
-use mathlib.Core.Path.{_≡_, refl, sym, ap, _∙_}
+use mathlib.Core.Path.{_≡_, refl, _∙_}
 use mathlib.Core.Bool.{Bool, true, false}
 use mathlib.Core.Logic.{_⊎_, inl, inr, ⊎-elim}
 use mathlib.Core.List.{List, [], _∷_, List·Memᴰ·head, List·Memᴰ·tail, List·Memᴰ·cases-cons, List·Memᴰ·not-nil}
-use Prim.Native.Nat.{ℕ, zero, suc, _+_, _*_, _/_, _%_, _^_, _<_, _≤_, max}
+use Prim.Native.Nat.{ℕ, zero, suc, _/_, _%_, _^_, _<_, _≤_, max}
 use native.Mathlib.Omega.{arith}
 use lib.Bits.{bitOr, or-step, or-shr, or-lt, or-add-and, and-le-l, and-le-r}
 use lib.Dec.{eqb}
 use lib.Pow.{pow-lt}
 use borrow.Author.Tests.{eqb-true, eqb-false}
 use Rattle.rules.specs.Tests.{both, either, bit, any, every}
-use Rattle.rules.proofs.Logic.{same?, eqb-self}
+use Rattle.rules.proofs.Logic.{same?}
 use Rattle.rules.proofs.Lists.{_∈_, places, every-one}
 use Rattle.replies.specs.declared.held.Reply.{Reply}
 
@@ -95,7 +95,3 @@ seen-above n (q ∷ rs) r m l = go (List·Memᴰ·cases-cons m) (seen-above n rs
       where
         or-more : (x y : ℕ) → x ≤ bitOr x y
         or-more x y = let e = or-add-and x y in let l = and-le-r x y in omega arith
-
--- someone is seen
-pub seen-some : (r : Reply) (rs : List Reply) → seenOf (r ∷ rs) ≡ 0 → ⊥
-seen-some r rs e = let p = seen-above 0 (r ∷ rs) r (List·Memᴰ·head refl) (omega arith) in omega arith

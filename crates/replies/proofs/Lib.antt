@@ -1,3 +1,4 @@
+pub mod Counted
 pub mod Steps
 pub mod Boxes
 pub mod BadReplies

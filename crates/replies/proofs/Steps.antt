@@ -1,62 +1,37 @@
 -- What one reply more does to a tally, case by case.
-use mathlib.Core.Path.{_≡_, refl, sym, ap, _∙_}
-use mathlib.Core.Bool.{Bool, true, false, cond}
-use Prim.Native.Nat.{ℕ, _/_, _%_, _^_, _<_, _≤_}
+use mathlib.Core.Path.{_≡_, refl}
+use mathlib.Core.Bool.{true, false}
+use Prim.Native.Nat.{_/_, _%_, _^_, _<_, _≤_}
 use native.Mathlib.Omega.{arith}
-use lib.Dec.{eqb}
-use borrow.Author.Tests.{eq-eqb, ne-eqb, lt-ltb, le-ltb}
+use borrow.Author.Tests.{eq-eqb, ne-eqb, lt-ltb, le-ltb, le-leb, lt-leb}
 use Rattle.rules.specs.Tests.{both}
 use Rattle.message.specs.Messages.{resultByCode}
 use Rattle.replies.specs.declared.held.Reply.{Reply}
 use Rattle.replies.specs.declared.tally.Tally.{Tally}
-use Rattle.replies.specs.Inner.Tallies.{packedBy, inRange, spoilt, withFinality, firstBy, begunBy, isLike, agreedBy, withOther, followedBy, isNew, seenBy, withReply}
+use Rattle.replies.specs.Inner.Tallies.{spoilt, isSaid, withFinality, firstBy, agreedBy, withFirst, withOther, hasView, withResult, isNew, seenBy, withReply}
 
 module _ (t : Tally) (r : Reply) where
-  -- ---- "final or not"
+  -- ---- its result
 
-  pub not-final : r .finality ≡ 0 → withFinality t r ≡ t
-  unfolding withFinality
-  not-final e = rw (eq-eqb _ _ e) refl
+  pub one-agrees : isSaid (t .first) r ≡ true → withResult t r ≡ withFirst t (agreedBy (t .first))
+  unfolding withResult
+  one-agrees l = rw l refl
 
-  pub one-final : r .finality ≡ 1 → withFinality t r ≡ record { seen = t .seen; view = t .view; first = t .first; others = t .others; finals = inRange (t .finals) (packedBy r) }
-  unfolding withFinality
-  one-final e = rw e refl
+  module _ (l : isSaid (t .first) r ≡ false) where
+    pub bad-result : resultByCode (r .result) (r .retry) ≡ false → withResult t r ≡ spoilt t
+    unfolding withResult
+    bad-result e = rw (l, e) refl
 
-  pub bad-final : (r .finality ≡ 0 → ⊥) → (r .finality ≡ 1 → ⊥) → withFinality t r ≡ spoilt t
-  unfolding withFinality
-  bad-final d e = rw (ne-eqb _ _ d, ne-eqb _ _ e) refl
+    module _ (e : resultByCode (r .result) (r .retry) ≡ true) where
+      pub one-begins : t .first .agreeing ≡ 0 → withResult t r ≡ withFirst t (firstBy r)
+      unfolding withResult
+      one-begins z = rw (l, e, eq-eqb _ _ z) refl
 
-  -- ---- the first reply
+      pub one-differs : (t .first .agreeing ≡ 0 → ⊥) → withResult t r ≡ record { seen = t .seen; view = t .view; first = t .first; others = withOther (t .others) r; finals = t .finals }
+      unfolding withResult
+      one-differs z = rw (l, e, ne-eqb _ _ z) refl
 
-  pub begun-good : resultByCode (r .result) (r .retry) ≡ true → begunBy t r ≡ withFinality (record { seen = t .seen; view = r .view; first = firstBy r; others = t .others; finals = t .finals }) r
-  unfolding begunBy
-  begun-good e = rw e refl
-
-  pub begun-bad : resultByCode (r .result) (r .retry) ≡ false → begunBy t r ≡ spoilt t
-  unfolding begunBy
-  begun-bad e = rw e refl
-
-  -- ---- one behind it
-
-  pub other-view : (r .view ≡ t .view → ⊥) → followedBy t r ≡ spoilt t
-  unfolding followedBy
-  other-view d = rw (ne-eqb _ _ d) refl
-
-  module _ (v : r .view ≡ t .view) where
-    pub one-agrees : isLike (t .first) r ≡ true → followedBy t r ≡ withFinality (record { seen = t .seen; view = t .view; first = agreedBy (t .first); others = t .others; finals = t .finals }) r
-    unfolding followedBy
-    one-agrees l = rw (eq-eqb _ _ v, l) refl
-
-    module _ (l : isLike (t .first) r ≡ false) where
-      pub one-differs : resultByCode (r .result) (r .retry) ≡ true → followedBy t r ≡ withFinality (record { seen = t .seen; view = t .view; first = t .first; others = withOther (t .others) r; finals = t .finals }) r
-      unfolding followedBy
-      one-differs e = rw (eq-eqb _ _ v, l, e) refl
-
-      pub bad-result : resultByCode (r .result) (r .retry) ≡ false → followedBy t r ≡ spoilt t
-      unfolding followedBy
-      bad-result e = rw (eq-eqb _ _ v, l, e) refl
-
-  -- ---- its box
+  -- ---- what else is asked of it
 
   pub far-box : 7 ≤ r .boxnumber → withReply t r ≡ spoilt t
   unfolding withReply isNew both
@@ -72,10 +47,15 @@ module _ (t : Tally) (r : Reply) where
       unfolding isNew both
       is-new = rw (lt-ltb _ _ l) (eq-eqb (t .seen / 2 ^ r .boxnumber % 2) 0 (omega arith))
 
-      pub first-box : t .seen ≡ 0 → withReply t r ≡ begunBy (seenBy t r) r
-      unfolding withReply
-      first-box e = rw (is-new, eq-eqb _ _ e) refl
+      pub bad-final : 1 < r .finality → withReply t r ≡ spoilt t
+      unfolding withReply both
+      bad-final m = rw (is-new, lt-leb _ _ m) refl
 
-      pub next-box : (t .seen ≡ 0 → ⊥) → withReply t r ≡ followedBy (seenBy t r) r
-      unfolding withReply
-      next-box d = rw (is-new, ne-eqb _ _ d) refl
+      module _ (m : r .finality ≤ 1) where
+        pub other-view : hasView t (r .view) ≡ false → withReply t r ≡ spoilt t
+        unfolding withReply both
+        other-view v = rw (is-new, le-leb _ _ m, v) refl
+
+        pub next-reply : hasView t (r .view) ≡ true → withReply t r ≡ withResult (withFinality (seenBy t r) r) r
+        unfolding withReply both
+        next-reply v = rw (is-new, le-leb _ _ m, v) refl

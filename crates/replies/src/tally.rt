@@ -6,7 +6,7 @@ use rows::row;
 ghost use mathlib.Core.Path.{_≡_};
 ghost use Prim.Native.Nat.{_<_, _^_, min, max};
 ghost use Rattle.message.specs.Messages.{resultByCode};
-ghost use Rattle.replies.specs.Inner.Tallies.{packed, inRange, moreIf, noTally, spoilt, firstBy, isLike, agreedBy, withOther, withFinality, begunBy, followedBy, withReply};
+ghost use Rattle.replies.specs.Inner.Tallies.{packed, inRange, moreIf, noTally, spoilt, firstBy, isSaid, agreedBy, withOther, hasView, withFinality, withResult, withReply};
 
 // The least and the greatest of some results, each packed into one number: they are equal if all these results are the same.
 pub struct Range {
@@ -119,14 +119,17 @@ impl First {
         }
     }
 
-    // Whether a reply has the same result.
+    // Whether a reply has the same result. Before the first reply nobody has it.
     fn is_said(self, reply: Reply) -> bool
-        ensures { λ r. ⌜ r ≡ isLike self reply ⌝ }
+        ensures { λ r. ⌜ r ≡ isSaid self reply ⌝ }
     {
         if reply.retry != self.retry {
             return false;
         }
-        reply.result as u64 == self.code
+        if reply.result as u64 != self.code {
+            return false;
+        }
+        self.agreeing != 0
     }
 
     fn agreed(self) -> First
@@ -199,51 +202,46 @@ impl Tally {
         self
     }
 
-    // "Final or not" is 1 or 0.
+    // Whether a view is that of the replies before, if there was one.
+    fn has_view(self, view: u64) -> bool
+        ensures { λ r. ⌜ r ≡ hasView self view ⌝ }
+    {
+        if self.seen == 0 {
+            return true;
+        }
+        view == self.view
+    }
+
     fn with_finality(mut self, reply: Reply) -> Tally
         ensures { λ r. ⌜ r ≡ withFinality self reply ⌝ }
     {
-        if reply.finality == 0 {
-            return self;
-        }
         if reply.finality == 1 {
             self.finals = self.finals.with(pack(reply.result as u64, reply.retry));
             return self;
         }
-        self.spoil()
+        self
     }
 
-    // The first reply, which the others are held against.
-    fn begin(mut self, reply: Reply) -> Tally
-        ensures { λ r. ⌜ r ≡ begunBy self reply ⌝ }
+    // With the first reply's result it is by the rules, and is one more that agrees.
+    fn with_result(mut self, reply: Reply) -> Tally
+        ensures { λ r. ⌜ r ≡ withResult self reply ⌝ }
     {
-        if result_valid(reply) {
-            self.view = reply.view as u64;
-            self.first = First::of(reply);
-            return self.with_finality(reply);
-        }
-        self.spoil()
-    }
-
-    // A reply behind the first. With the first one's result it is by the rules, and is one more that agrees.
-    fn follow(mut self, reply: Reply) -> Tally
-        ensures { λ r. ⌜ r ≡ followedBy self reply ⌝ }
-    {
-        if reply.view as u64 != self.view {
-            return self.spoil();
-        }
         if self.first.is_said(reply) {
             self.first = self.first.agreed();
-            return self.with_finality(reply);
+            return self;
         }
         if result_valid(reply) {
+            if self.first.agreeing == 0 {
+                self.first = First::of(reply);
+                return self;
+            }
             self.others = self.others.with(reply);
-            return self.with_finality(reply);
+            return self;
         }
         self.spoil()
     }
 
-    // One reply more.
+    // One reply more. "Final or not" is 1 or 0.
     pub fn with(mut self, reply: Reply) -> Tally
         ensures { λ r. ⌜ r ≡ withReply self reply ⌝ }
     {
@@ -254,10 +252,14 @@ impl Tally {
         if (seen >> reply.boxnumber) % 2 == 1 {
             return self.spoil();
         }
-        self.seen = seen | power(reply.boxnumber);
-        if seen == 0 {
-            return self.begin(reply);
+        if 1 < reply.finality {
+            return self.spoil();
         }
-        self.follow(reply)
+        if self.has_view(reply.view as u64) {
+            self.seen = seen | power(reply.boxnumber);
+            self.view = reply.view as u64;
+            return self.with_finality(reply).with_result(reply);
+        }
+        self.spoil()
     }
 }

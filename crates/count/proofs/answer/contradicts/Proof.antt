@@ -1,4 +1,4 @@
-use mathlib.Core.Path.{refl, sym, _∙_}
+use mathlib.Core.Path.{refl}
 use borrow.Author.Tests.{eq-eqb, ne-eqb}
 use Rattle.count.specs.Inner.TallyAnswers.{contradictsBy}
 use Rattle.count.proofs.answer.contradicts.Statement.{statement}

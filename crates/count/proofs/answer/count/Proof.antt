@@ -1,5 +1,5 @@
 use mathlib.Core.Path.{_≡_, refl, sym, _∙_}
-use mathlib.Core.Bool.{Bool, true, false}
+use mathlib.Core.Bool.{true, false}
 use mathlib.Core.Logic.{_⊎_, inl, inr}
 use Prim.Native.Nat.{ℕ, _<_}
 use Rattle.rules.specs.Groups.{isGroup}
@@ -23,15 +23,9 @@ returns : tie.Need-returns
 unfolding answered
 returns c = rw (sym ((c .before) .is-bad .ensures) ∙ c .if1 .taken) refl
 
-fast-result-requires : tie.Need-fast-result-requires
-fast-result-requires c κs = above-zero _ _ (sym ((c .before) .is-bad .ensures) ∙ c .if1 .left)
-
 returns-2 : tie.Need-returns-2
 unfolding answered
 returns-2 c = rw (sym ((c .before .before .before .before) .is-bad .ensures) ∙ (c .before .before .before) .if1 .left, ← (c .before .before) .fast-result .ensures, sym ((c .before) .contradicts .ensures) ∙ c .if2 .taken) refl
-
-decide-requires : tie.Need-decide-requires
-decide-requires c κs = above-zero _ _ (sym ((c .before .before .before .before) .is-bad .ensures) ∙ (c .before .before .before) .if1 .left)
 
 returns-3 : tie.Need-returns-3
 unfolding answered
@@ -43,8 +37,8 @@ count-spec =
     (tie.spec
     (λ c κs. search needs)
     returns
-    fast-result-requires
+    (λ c κs. above-zero _ _ (sym ((c .before) .is-bad .ensures) ∙ c .if1 .left))
     (λ c κs. search needs)
     returns-2
-    decide-requires
+    (λ c κs. above-zero _ _ (sym ((c .before .before .before .before) .is-bad .ensures) ∙ (c .before .before .before) .if1 .left))
     returns-3)

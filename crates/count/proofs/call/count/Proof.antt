@@ -11,20 +11,11 @@ use Rattle.count.proofs.HeardBytes.{length-replies-of, count-whole, cou
 use Rattle.count.proofs.call.count.Statement.{statement}
 use Rattle.count.proofs.call.count.Tie as tie
 
-mul-if1 : tie.Need-mul-if1
-mul-if1 c = omega arith
-
 returns : tie.Need-returns
 returns c = let a = c .before .before .args in ap answerAs (sym (count-long (a .n) (now (a .bytes)) (omega arith)))
 
 returns-2 : tie.Need-returns-2
 returns-2 c = let a = c .before .before .before .args in ap answerAs (sym (count-broken (a .n) (now (a .bytes)) (omega arith)))
-
-gather-requires : tie.Need-gather-requires
-gather-requires c κs = search needs
-
-count-requires : tie.Need-count-requires
-count-requires c κs = search needs
 
 returns-3 : tie.Need-returns-3
 returns-3 c =
@@ -34,4 +25,4 @@ returns-3 c =
     rw (c .count .ensures, c .before .gather .ensures, count-whole (a .n) (now (a .bytes)) whole) (tally-counted (a .n) _ (omega arith))
 
 pub count-spec : {M : Type 1} → statement M
-count-spec = tie.close (tie.spec mul-if1 returns returns-2 gather-requires count-requires returns-3)
+count-spec = tie.close (tie.spec (λ c. omega arith) returns returns-2 (λ c κs. search needs) (λ c κs. search needs) returns-3)

@@ -37,27 +37,12 @@ rest-end : (h : Tally) (s : List ℕ) (at : ℕ) → length s ≤ at → withRes
 unfolding withReplies
 rest-end h s at l = rw (replies-end s at l)
 
-none-requires : tie.Need-none-requires Inv-loop μ-loop
-none-requires c κs = tt
-
 loop-holds : tie.Need-loop-holds Inv-loop μ-loop
 loop-holds c = (omega arith, omega arith, rw (c .none .ensures, sub-zero))
 
 -- so the turn has its reply
 here : (c : tie.In-loop Inv-loop μ-loop) → c .before .loop .at + 15 ≤ length (now (c .before .before .before .before .args .bytes))
 here c = room _ _ (c .before .loop .inv .0) (c .before .before .before .before .pre) (c .loop-test .taken)
-
-reply-at-requires : tie.Need-reply-at-requires Inv-loop μ-loop
-reply-at-requires c κs = here c
-
-with-requires : tie.Need-with-requires Inv-loop μ-loop
-with-requires c κs = tt
-
-add-at : tie.Need-add-at Inv-loop μ-loop
-add-at c = let l = here (c .before .before) in omega arith
-
-loop-less : tie.Need-loop-less Inv-loop μ-loop
-loop-less c = omega arith
 
 loop-again : tie.Need-loop-again Inv-loop μ-loop
 loop-again c =
@@ -74,11 +59,11 @@ gather-spec =
     (tie.spec
     Inv-loop
     μ-loop
-    none-requires
+    (λ c κs. tt)
     loop-holds
-    reply-at-requires
-    with-requires
-    add-at
-    loop-less
+    (λ c κs. here c)
+    (λ c κs. tt)
+    (λ c. let l = here (c .before .before) in omega arith)
+    (λ c. omega arith)
     loop-again
     returns)

@@ -6,8 +6,9 @@ use borrow.Author.Needs.{needs}
 use Rattle.replies.proofs.tally.power.Statement.{statement}
 use Rattle.replies.proofs.tally.power.Tie as tie
 
-returns : tie.Need-returns
-returns c = let l = c .pre in shl-exact {a = 1} 1 (c .args .k) 64 (omega arith) (omega arith) ∙ one-mul _
-
 pub power-spec : {M : Type 1} → statement M
-power-spec = tie.close (tie.spec (λ c. search needs) returns)
+power-spec =
+    tie.close
+    (tie.spec
+    (λ c. search needs)
+    (λ c. let l = c .pre in shl-exact {a = 1} 1 (c .args .k) 64 (omega arith) (omega arith) ∙ one-mul _))

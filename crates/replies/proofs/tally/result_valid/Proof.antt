@@ -1,9 +1,9 @@
 use mathlib.Core.Path.{_≡_, refl, sym, _∙_}
-use mathlib.Core.Bool.{not, true, false}
+use mathlib.Core.Bool.{not}
 use Prim.Native.Nat.{ℕ, zero, suc, _≤_}
 use native.Mathlib.Omega.{arith}
 use lib.Dec.{eqb, leb}
-use borrow.Author.Tests.{eq-eqb, ne-eqb, le-leb, lt-leb}
+use borrow.Author.Tests.{ne-eqb, le-leb, lt-leb}
 use Rattle.rules.specs.Tests.{both, either}
 use Rattle.rules.proofs.Logic.{both-false, both-whole}
 use Rattle.rows.specs.Fields.{retryByCode}
@@ -29,12 +29,6 @@ returns-2 : tie.Need-returns-2
 unfolding resultByCode both
 returns-2 c = rw (lt-leb _ _ (c .if2 .taken)) (sym (both-false (leb 1 (c .before .before .before .before .args .reply .result))))
 
-returns-3 : tie.Need-returns-3
-returns-3 c = sym (without-stamp _ _ ((c .before .before .before .before) .if1 .left) ((c .before .before) .if2 .left) ∙ rw (ne-eqb _ _ (c .if3 .taken)) (both-false _))
-
-returns-4 : tie.Need-returns-4
-returns-4 c = sym (without-stamp _ _ ((c .before .before .before .before .before) .if1 .left) ((c .before .before .before) .if2 .left) ∙ rw ((c .before) .if3 .left) (both-whole _ ∙ above-zero ((c .before .before .before .before .before .before .before) .args .reply .result)))
-
 pub result-valid-spec : {M : Type 1} → statement M
 result-valid-spec =
     tie.close
@@ -42,5 +36,5 @@ result-valid-spec =
     (λ c κs. search needs)
     returns
     returns-2
-    returns-3
-    returns-4)
+    (λ c. sym (without-stamp _ _ ((c .before .before .before .before) .if1 .left) ((c .before .before) .if2 .left) ∙ rw (ne-eqb _ _ (c .if3 .taken)) (both-false _)))
+    (λ c. sym (without-stamp _ _ ((c .before .before .before .before .before) .if1 .left) ((c .before .before .before) .if2 .left) ∙ rw ((c .before) .if3 .left) (both-whole _ ∙ above-zero ((c .before .before .before .before .before .before .before) .args .reply .result)))))

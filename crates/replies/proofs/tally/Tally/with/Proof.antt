@@ -1,18 +1,9 @@
-use mathlib.Core.Path.{sym, ap, _∙_}
+use mathlib.Core.Path.{sym, _∙_}
 use native.Mathlib.Omega.{arith}
-use Rattle.replies.proofs.Steps.{far-box, old-box, first-box, next-box}
+use Rattle.replies.proofs.Steps.{far-box, old-box, bad-final, other-view, next-reply}
 use borrow.Author.Needs.{needs}
 use Rattle.replies.proofs.tally.Tally.with.Statement.{statement}
 use Rattle.replies.proofs.tally.Tally.with.Tie as tie
-
-returns-2 : tie.Need-returns-2
-returns-2 c = c .spoil2 .ensures ∙ sym (old-box _ _ ((c .before .before .before) .if1 .left) ((c .before) .if2 .taken))
-
-returns-3 : tie.Need-returns-3
-returns-3 c = rw (c .begin .ensures, (c .before .before) .power .ensures) (sym (first-box _ _ ((c .before .before .before .before .before) .if1 .left) ((c .before .before .before) .if2 .left) ((c .before) .if3 .taken)))
-
-returns-4 : tie.Need-returns-4
-returns-4 c = rw (c .follow .ensures, (c .before .before) .power .ensures) (sym (next-box _ _ ((c .before .before .before .before .before) .if1 .left) ((c .before .before .before) .if2 .left) ((c .before) .if3 .left)))
 
 pub with-spec : {M : Type 1} → statement M
 with-spec =
@@ -23,9 +14,15 @@ with-spec =
     (λ c. search needs)
     (λ c. search needs)
     (λ c κs. search needs)
-    returns-2
-    (λ c κs. let l = (c .before .before) .if1 .left in omega arith)
+    (λ c. c .spoil2 .ensures ∙ sym (old-box _ _ ((c .before .before .before) .if1 .left) ((c .before) .if2 .taken)))
     (λ c κs. search needs)
-    returns-3
+    (λ c. c .spoil3 .ensures ∙ sym (bad-final _ _ ((c .before .before .before .before .before) .if1 .left) ((c .before .before .before) .if2 .left) ((c .before) .if3 .taken)))
+    (λ c. search needs)
     (λ c κs. search needs)
-    returns-4)
+    (λ c κs. let l = (c .before .before .before .before .before .before .before) .if1 .left in omega arith)
+    (λ c. search needs)
+    (λ c κs. search needs)
+    (λ c κs. search needs)
+    (λ c. rw (c .with-result .ensures, (c .before) .with-finality .ensures, (c .before .before .before) .power .ensures) (sym (next-reply _ _ ((c .before .before .before .before .before .before .before .before .before .before .before) .if1 .left) ((c .before .before .before .before .before .before .before .before .before) .if2 .left) ((c .before .before .before .before .before .before .before) .if3 .left) (sym ((c .before .before .before .before .before) .has-view .ensures) ∙ (c .before .before .before .before) .if4 .taken))))
+    (λ c κs. search needs)
+    (λ c. c .spoil4 .ensures ∙ sym (other-view _ _ ((c .before .before .before .before .before .before .before .before) .if1 .left) ((c .before .before .before .before .before .before) .if2 .left) ((c .before .before .before .before) .if3 .left) (sym ((c .before .before) .has-view .ensures) ∙ (c .before) .if4 .left))))
