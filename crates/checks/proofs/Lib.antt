@@ -3,3 +3,4 @@ pub mod Registers
 pub mod Marks
 pub mod StateBytes
 pub mod Rounds
+pub mod NewestWrite

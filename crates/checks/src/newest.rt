@@ -1,14 +1,16 @@
-// Message 7: the greatest done-commit write of a register, by one pass over the rows from the last to the first.
+// Message 7: the greatest done-commit write of a register, by one pass over the rows from the last on.
 use crate::accesses;
 use crate::accesses::Write;
 use rows::row;
 use rows::row::RowFields;
 ghost use mathlib.Core.Path.{_≡_};
-ghost use Rattle.rules.specs.Messages.{found, later, writeOf};
+ghost use mathlib.Core.Bool.{true};
+ghost use Rattle.rules.specs.Tables.{rising};
+ghost use Rattle.rules.specs.Messages.{found, writeOf};
 ghost use Rattle.rows.specs.Read.{rowOf, rowsAt};
 ghost use Rattle.rows.specs.Inner.Rows.{BodyInside, RowsInside};
 ghost use Rattle.checks.specs.Inner.Given.{foundAs};
-ghost use Rattle.checks.specs.Inner.Passed.{asFound, foundIn};
+ghost use Rattle.checks.specs.Inner.Passed.{foundIn};
 
 // A version and its value; both 0 if none was found.
 pub struct Found {
@@ -58,30 +60,22 @@ fn found_in(image: &[u8], row: RowFields, stamp: u64, register: u8) -> Found
     write_in(image, row, register)
 }
 
-// The one of two with the greater version.
-fn later(a: Found, b: Found) -> Found
-    ensures { λ r. ⌜ r ≡ foundAs (later (asFound a) (asFound b)) ⌝ }
-{
-    if b.version < a.version {
-        return a;
-    }
-    b
-}
-
-// The greatest committed write of a register at or below a stamp.
+// The greatest committed write of a register at or below a stamp. Rows rise, so it is the first that is met from the last row on.
 pub fn newest(image: &[u8], begin: usize, rows: usize, stamp: u64, register: u8) -> Found
-    requires { ⌜ RowsInside (now image) begin rows ⌝ }
+    requires { ⌜ RowsInside (now image) begin rows × (rising 0 (rowsAt (now image) begin rows) ≡ true) ⌝ }
     ensures { λ r. ⌜ r ≡ foundAs (found (rowsAt (now (image .entry)) begin rows) stamp register) ⌝ }
 {
-    let mut best = Found {
-        version: 0,
-        value: 0,
-    };
     let mut i = rows;
     while 0 < i {
         i -= 1;
         let row = row::row_at(image, begin, i);
-        best = later(found_in(image, row, stamp, register), best);
+        let found = found_in(image, row, stamp, register);
+        if 0 < found.version {
+            return found;
+        }
     }
-    best
+    Found {
+        version: 0,
+        value: 0,
+    }
 }

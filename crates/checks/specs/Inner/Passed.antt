@@ -11,7 +11,6 @@ use Rattle.rules.specs.DayOrder.{common}
 use Rattle.rules.specs.Inner.Clashes.{clash}
 use Rattle.rules.specs.Messages as rules
 use Rattle.checks.specs.declared.pass.Seen.{Seen}
-use Rattle.checks.specs.declared.newest.Found.{Found}
 
 -- ---- the check
 
@@ -63,9 +62,6 @@ unfoldable pub answerOf : Seen → Result
 answerOf seen = cond (seen .abort) ABORT (cond (seen .retry) (RETRY (seen .advice)) (cond (seen .abstain) ABSTAIN OK))
 
 -- ---- message 7
-
-abbrev pub asFound : Found → rules.Found
-asFound f = record { version = f .version; value = f .value }
 
 -- the "done-commit write of that register at or below the stamp" of one row
 unfoldable pub foundIn : Row → ℕ → ℕ → rules.Found

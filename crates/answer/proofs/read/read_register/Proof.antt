@@ -6,7 +6,7 @@ use Rattle.table.proofs.Images.{valley-sound}
 use Rattle.table.specs.Images.{formatOne}
 use Rattle.edit.proofs.Holding.{one-starts, holds-least}
 use Rattle.seek.proofs.HeldRows.{image-holds}
-use Rattle.seek.proofs.SoughtRows.{rows-inside}
+use Rattle.seek.proofs.SoughtRows.{rows-inside, can-be-sought}
 use Rattle.answer.proofs.RegisterRead.{read-refused, read-taken}
 use Rattle.answer.proofs.read.read_register.Statement.{statement}
 use Rattle.answer.proofs.read.read_register.Tie as tie
@@ -24,7 +24,7 @@ cast-newest : tie.Need-cast-newest
 cast-newest c = search needs
 
 newest-requires : tie.Need-newest-requires
-newest-requires c κs = let p = (c .before .before .before .before .before) in rw ((c .before .before .before) .read .ensures) (rows-inside valley (now (p .args .table)) valley-sound (p .pre))
+newest-requires c κs = let p = (c .before .before .before .before .before) in rw ((c .before .before .before) .read .ensures) (rows-inside valley (now (p .args .table)) valley-sound (p .pre), can-be-sought valley (now (p .args .table)) valley-sound (p .pre) .1)
 
 returns-2 : tie.Need-returns-2
 returns-2 c = let p = (c .before .before .before .before .before .before) in rw (c .newest .ensures, (c .before .before .before .before) .read .ensures) (read-taken valley (now (p .args .table)) (p .args .stamp) (p .args .register) (image-holds valley (now (p .args .table)) (p .pre)) (rw ((c .before .before .before .before) .read .ensures) at ((c .before .before) .if1 .left)) .0)
