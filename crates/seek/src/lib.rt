@@ -117,7 +117,7 @@ fn needed_body<'a>(table: &'a [u8], message: &'a [u8], place: Place, given: RowF
     lookup::held_body(table, header::LENGTH, place)
 }
 
-// Whether two parts of the same length hold the same bytes.
+// Whether two parts of the same length hold the same bytes. A merge asks it of the bodies of one stamp in two tables.
 pub fn same_bytes(a: &[u8], b: &[u8]) -> bool
     requires { ⌜ length (now a) ≡ length (now b) ⌝ }
     ensures { λ r. ⌜ r ≡ begins (now (a .entry)) (now (b .entry)) ⌝ }
@@ -148,7 +148,7 @@ fn other_counts(table: &[u8], place: Place, given: RowFields) -> bool
     held.writes != given.writes
 }
 
-// Whether a stamp is held with another body than a message has: what is needed for the answer is then not what the message says. A merge asks the same of two tables: the other one is lent in the message's place.
+// Whether a stamp is held with another body than a message has: what is needed for the answer is then not what the message says.
 pub fn other_body<'a>(table: &'a [u8], message: &'a [u8], place: Place, given: RowFields) -> bool
     requires { ⌜ BeginsWithImage valley (now table) × (place ≡ placeOf (tableAt formatOne (now table) .rows) (given .stamp)) × BodyInside (now message) given ⌝ }
     ensures { λ r. ⌜ r ≡ heldWithOtherBody (tableAt formatOne (now (table .entry))) (given .stamp) (bodyAt (now (message .entry)) (given .offset) (given .reads) (given .writes)) ⌝ }
