@@ -202,14 +202,14 @@ impl Tally {
         self
     }
 
-    // Whether a view is that of the replies before, if there was one.
+    // Whether a view is that of the replies before, if there was one. For all replies but the first one comparison is enough.
     fn has_view(self, view: u64) -> bool
         ensures { λ r. ⌜ r ≡ hasView self view ⌝ }
     {
-        if self.seen == 0 {
+        if view == self.view {
             return true;
         }
-        view == self.view
+        self.seen == 0
     }
 
     fn with_finality(mut self, reply: Reply) -> Tally
