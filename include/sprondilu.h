@@ -263,8 +263,9 @@ uint8_t sprondilu_answer(uint8_t *table, size_t table_len, const uint8_t *messag
  * Nothing but that search is counted, so the number is no measure of a call's fetches. Every answer goes over all rows
  * once to judge whether the table keeps 01's rules, before it looks at the message. Message 1 that adds a row goes once
  * more over those from the floor of its check on. The floor is its stamp or the least version that it read, whichever is
- * lower, and its place is found by halving. Message 7 goes over all rows for its register. None of these rows is
- * counted, nor is a body that is compared, nor are rows that move.
+ * lower, and its place is found by halving. Message 7 goes from the last row on and ends at the first committed write
+ * of its register at or below its stamp. Where there is none, it goes over all rows. None of these rows is counted,
+ * nor is a body that is compared, nor are rows that move.
  */
 SPRONDILU_MUST_USE
 uint64_t sprondilu_answer_compared(uint8_t *table, size_t table_len, const uint8_t *message, size_t message_len,
