@@ -6,7 +6,7 @@ use mathlib.Core.Option.{Option, none, some}
 use Prim.Native.Nat.{ℕ, ◌+◌, ◌-◌, ◌/◌, ◌≤◌}
 use native.Mathlib.Omega.{arith}
 use lib.ListN.{length}
-use borrow.Author.Tests.{ltb-false, le-ltb, not_true}
+use borrow.Author.Tests.{ltb-false, le-ltb, not-true}
 use Rattle.rules.specs.Tests.{both, either}
 use Rattle.rules.specs.Groups.{f_of}
 use Rattle.rules.specs.Stamps.{Body}
@@ -49,7 +49,7 @@ ShareAdded M T = (M.row_limit - T.start) / (f_of T.n + 1) ≤ length T.rows - T.
 module _ (M : Model) (T : Table) (s : ℕ) where
   new_but_full_lem : new_but_full M keeps_room T s ≡ true → (held T.rows s ≡ none) × ShareAdded M T
   unfolding new_but_full keeps_room
-  new_but_full_lem h = (new_unheld M T s h, ltb-false _ _ (not_true _ (both_right _ _ h)))
+  new_but_full_lem h = (new_unheld M T s h, ltb-false _ _ (not-true _ (both_right _ _ h)))
 
   full_and_new : held T.rows s ≡ none → ShareAdded M T → new_but_full M keeps_room T s ≡ true
   unfolding new_but_full keeps_room

@@ -9,7 +9,7 @@ use Prim.Native.Nat.{ℕ, ◌*◌, ◌/◌, ◌≤◌, ◌<◌}
 use native.Mathlib.Omega.{arith}
 use lib.Dec.{eqb, ltb, leb}
 use lib.ListN.{length}
-use borrow.Author.Tests.{eqb-true, eqb-false, eq-eqb, ltb-false, leb-true, le-leb, not_true, not_false}
+use borrow.Author.Tests.{eqb-true, eqb-false, eq-eqb, ltb-false, leb-true, le-leb, not-true, not-false}
 use Rattle.rules.specs.Tests.{both, either, any, every, twice, some_pair}
 use Rattle.rules.specs.Groups.{is_group, f_of, quorum, fast_count}
 use Rattle.rules.specs.Tables.{Result, same_result, result_by_rule}
@@ -160,14 +160,14 @@ module _ (n : ℕ) (lent : Lent) where
   unfolding are_bad bad_replies unequal_views some_pair
   bad_found b =
       whichever _ _ b unread
-      (λ c. whichever _ _ c (λ t. bad_group (not_true _ t))
+      (λ c. whichever _ _ c (λ t. bad_group (not-true _ t))
       (λ d. whichever _ _ d beyond (λ e. whichever _ _ e boxes (λ f. whichever _ _ f views unruly))))
     where
       unread : not (every result_read (lent_replies lent)) ≡ true → BadLent n lent
-      unread t = ⊎_elim (λ a. let (r, m, f) = any_some (λ r. not (result_read r)) (lent_replies lent) a in bad_result r m (not_true _ f)) (λ a. impossible (all_every result_read (lent_replies lent) (λ r m. not_false _ (any_none (λ q. not (result_read q)) (lent_replies lent) a r m))) (not_true _ t)) (cases (any (λ r. not (result_read r)) (lent_replies lent)))
+      unread t = ⊎_elim (λ a. let (r, m, f) = any_some (λ r. not (result_read r)) (lent_replies lent) a in bad_result r m (not-true _ f)) (λ a. impossible (all_every result_read (lent_replies lent) (λ r m. not-false _ (any_none (λ q. not (result_read q)) (lent_replies lent) a r m))) (not-true _ t)) (cases (any (λ r. not (result_read r)) (lent_replies lent)))
 
       beyond : any (λ h. not (ltb h.box n)) (lent_heard lent) ≡ true → BadLent n lent
-      beyond t = let (r, m, f) = said (λ h. not (ltb h.box n)) t in outside r m (ltb-false _ _ (not_true _ f))
+      beyond t = let (r, m, f) = said (λ h. not (ltb h.box n)) t in outside r m (ltb-false _ _ (not-true _ f))
 
       boxes : twice (λ h. h.box) (lent_heard lent) ≡ true → BadLent n lent
       boxes t =
@@ -176,10 +176,10 @@ module _ (n : ℕ) (lent : Lent) where
       views : any (λ h. any (λ g. not (eqb h.view g.view)) (lent_heard lent)) (lent_heard lent) ≡ true → BadLent n lent
       views t =
           let (r, m, u) = said (λ h. any (λ g. not (eqb h.view g.view)) (lent_heard lent)) t in let (q, i, f) = said (λ g. not (eqb r.view g.view)) u in
-          other_view r q m i (eqb-false _ _ (not_true _ f))
+          other_view r q m i (eqb-false _ _ (not-true _ f))
 
       unruly : any (λ h. not (result_by_rule h.result)) (lent_heard lent) ≡ true → BadLent n lent
-      unruly t = let (r, m, f) = said (λ h. not (result_by_rule h.result)) t in go r m (not_true _ f) (cases (result_read r))
+      unruly t = let (r, m, f) = said (λ h. not (result_by_rule h.result)) t in go r m (not-true _ f) (cases (result_read r))
         where
           go : (r : Reply) → r ∈ lent_replies lent → result_by_rule (heard r).result ≡ false → (result_read r ≡ true) ⊎ (result_read r ≡ false) → BadLent n lent
           go r m f (inl c) = impossible (coded r c).by_rule f
@@ -213,7 +213,7 @@ module _ (n : ℕ) (lent : Lent) where
 
 -- results that the test tells apart are not equal
 other_result : (r q : Result) → not (same_result r q) ≡ true → r ≡ q → ⊥
-other_result r q h e = impossible (ap (same_result r) (sym e) ∙ result_same r) (not_true _ h)
+other_result r q h e = impossible (ap (same_result r) (sym e) ∙ result_same r) (not-true _ h)
 
 -- a result that boxes agree on is one box's
 agreed_by_lem : (hs : List Heard) (r : Result) → 0 < agreeing hs r → (g : Heard) × (g ∈ hs) × (r ≡ g.result)

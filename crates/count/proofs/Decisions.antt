@@ -7,7 +7,7 @@ use mathlib.Core.Option.{none, some}
 use Prim.Native.Nat.{ℕ, ◌+◌, ◌<◌, ◌≤◌, max}
 use native.Mathlib.Omega.{arith}
 use lib.Dec.{eqb, ltb}
-use borrow.Author.Tests.{ltb-true, ltb-false, not_false, lt-ltb, le-ltb, le-leb, lt-leb}
+use borrow.Author.Tests.{ltb-true, ltb-false, not-false, lt-ltb, le-ltb, le-leb, lt-leb}
 use Rattle.rules.specs.Tests.{both, either, any, count, greatest, some_pair, provided, first_of}
 use Rattle.rules.specs.Groups.{f_of, quorum}
 use Rattle.rules.specs.Stamps.{is_stamp}
@@ -31,7 +31,7 @@ module _ (n : ℕ) (hs : List Heard) (good : bad_replies n hs ≡ false) where
   results_good = either_right _ _ (either_right _ _ (either_right _ _ (either_right _ _ good)))
 
   pub by_rule_lem : (h : Heard) → h ∈ hs → result_by_rule h.result ≡ true
-  by_rule_lem h m = not_false _ (any_none _ hs results_good h m)
+  by_rule_lem h m = not-false _ (any_none _ hs results_good h m)
 
   -- a fast or a final result is a reply's, and so by the rules
   pub chosen_by_rule : (test : Heard → Bool) (r : Result) → first_of (λ h. provided (test h) h.result) hs ≡ some r → result_by_rule r ≡ true
@@ -140,7 +140,7 @@ greater a b = ⊎_elim (λ t. let l = ltb-true 0 a t in rw t (sym (lt-ltb 0 (max
 pub any_retried : (hs : List Heard) → any (λ h. not (result_by_rule h.result)) hs ≡ false → any (λ h. eqb (result_code h.result) 4) hs ≡ ltb 0 (greatest_retry hs)
 unfolding any greatest_retry greatest
 any_retried [] h = refl
-any_retried (g ∷ hs) h = rw (retried g.result (not_false _ (either_left _ _ h)), any_retried hs (either_right _ _ h)) (greater (result_retry g.result) (greatest_retry hs))
+any_retried (g ∷ hs) h = rw (retried g.result (not-false _ (either_left _ _ h)), any_retried hs (either_right _ _ h)) (greater (result_retry g.result) (greatest_retry hs))
 
 module _ (n : ℕ) (hs : List Heard) (aborts : ℕ) (ea : aborts ≡ agreeing hs ABORT) where
   pub slow_abort : 0 < aborts → slow_result n hs ≡ ABORT

@@ -9,7 +9,7 @@ use Prim.Native.Nat.{ℕ, ◌+◌, ◌*◌, ◌/◌, ◌%◌, ◌^◌, ◌<◌, 
 use native.Mathlib.Omega.{arith}
 use lib.Dec.{eqb, ltb, leb}
 use lib.ListN.{length, length-map}
-use borrow.Author.Tests.{eqb-true, eqb-false, eq-eqb, ne_eqb, ltb-true, ltb-false, lt-ltb, leb-true, leb-false, le-leb, lt-leb, not_true}
+use borrow.Author.Tests.{eqb-true, eqb-false, eq-eqb, ne_eqb, ltb-true, ltb-false, lt-ltb, leb-true, leb-false, le-leb, lt-leb, not-true}
 use Rattle.rules.specs.Tests.{both, either, bit, any, every, count, those, kept, greatest, some_pair, twice, provided, first_of}
 use Rattle.rules.specs.Groups.{is_group, f_of, quorum, fast_count}
 use Rattle.rules.specs.Stamps.{is_stamp}
@@ -316,7 +316,7 @@ module _ (n v : ℕ) (s : Said) (rs : List Reply) (k : Fine v s rs) (good : are_
           all_agree : (r : Reply) → r ∈ ds → fast_count (f_of n) ≤ agreeing hs (heard r).result
           all_agree r m =
               let l : fast_count (f_of n) ≤ length ds = leb-true _ _ y in let c = count_all (λ x. same_result (heard r).result (heard x).result) ds (λ x i. same_as r x m i) in
-              let (inn, d) = those_of (unlike_it s) rs r m in let b = count-those (λ x. same_result (heard r).result (heard x).result) (unlike_it s) (differs r inn (not_true _ d)) rs in
+              let (inn, d) = those_of (unlike_it s) rs r m in let b = count-those (λ x. same_result (heard r).result (heard x).result) (unlike_it s) (differs r inn (not-true _ d)) rs in
               let a = agreeing_is (heard r).result in omega arith
 
           at : (xs : List Reply) → ds ≡ xs → fast_by n (tally_of v s rs) ≡ packed_as (fast_of n hs)
@@ -363,7 +363,7 @@ module _ (n v : ℕ) (s : Said) (rs : List Reply) (k : Fine v s rs) (good : are_
         go (inl i) (inl a) =
             let (r, m, b) = any_some (λ r. other_final q (heard r)) rs a in let last = in_those is_last rs r m (both_left _ _ b) in let (c, d) = in_range_lem ls r last in let g = finals_same i in
             let p : packed_of q ≡ packed_of (heard r).result = omega (arith, packed_heard r (read r m)) in
-            impossible (sym (same_packed q (heard r).result) ∙ eq-eqb _ _ p) (not_true (same_result q (heard r).result) (both_right (heard r).is_final _ b))
+            impossible (sym (same_packed q (heard r).result) ∙ eq-eqb _ _ p) (not-true (same_result q (heard r).result) (both_right (heard r).is_final _ b))
         go (inr d) (inl a) = rw (d, a) refl
         go (inr d) (inr a) =
             let (r, m, p) = final_by in

@@ -2,6 +2,8 @@
 //
 // Every change is promised by `edited`: the image of the changed table, zeros where the old image was longer, and every other byte as it was.
 // What stands under it writes parts, and says by `replaced`, `slipped` or `laid` which; where rows begin is an argument there.
+#![tactic(auto)]
+
 pub mod add;
 pub mod state;
 pub mod take;

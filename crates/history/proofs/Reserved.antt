@@ -9,7 +9,7 @@ use Prim.Native.Nat.{ℕ, suc, ◌+◌, ◌-◌, ◌*◌, ◌/◌, ◌≤◌, �
 use native.Mathlib.Omega.{arith}
 use lib.Dec.{eqb, ltb}
 use lib.ListN.{length, length-map}
-use borrow.Author.Tests.{eq-eqb, ne_eqb, eqb-true, ltb-true, le-ltb, not_false}
+use borrow.Author.Tests.{eq-eqb, ne_eqb, eqb-true, ltb-true, le-ltb, not-false}
 use Rattle.rules.specs.Tests.{both, either, every, is_some, all_of, greatest}
 use Rattle.rules.specs.Groups.{is_group, f_of, quorum}
 use Rattle.rules.specs.Tables.{Prepare.final, Outcome.done, Row, Table, Model, rising, normal_mode, fresh_table}
@@ -129,7 +129,7 @@ module _ (M : Model) (n : ℕ) (begun : ℕ → List Row) where
           go : (h : Option Row) → held T.rows s ≡ h → let rows = cond (is_some h) (changed s change T.rows) (added q T.rows) in Begun T rows × Few T rows
           go (some p) k = changed_within s change keeps
           go none k =
-              let free = not_false _ (rw k at given) in
+              let free = not-false _ (rw k at given) in
               let l = reserves M.row_limit (f_of T.n) T.start (length T.rows) t.start free in
               (λ r m. held_when_added q T.rows (rw e k) r.stamp (w.began r m), rw (length-added q T.rows) (rw size at l))
 

@@ -7,7 +7,7 @@ use mathlib.Core.List.{List, [], ◌∷◌}
 use Prim.Native.Nat.{ℕ, ◌-◌}
 use lib.Dec.{eqb, leb}
 use lib.ListN.{length}
-use borrow.Author.Tests.{eqb-true, leb-true, not_true}
+use borrow.Author.Tests.{eqb-true, leb-true, not-true}
 use Rattle.rules.specs.Tests.{both, either, any, every, those, twice, provided, first_of, all_of}
 use Rattle.rules.specs.Groups.{f_of, quorum}
 use Rattle.rules.specs.Stamps.{Body, same_body}
@@ -271,7 +271,7 @@ module _ (G : Group) where
   unfolding quorum_of
   quorum_of_lem test P holds h =
       let bs = those test (boxes_below G.n) in
-      (bs, not_true (twice (λ b. b) bs) (both_left _ _ h), leb-true _ _ (both_right (not (twice (λ b. b) bs)) _ h), λ b i. holds b (those_of test (boxes_below G.n) b i).1)
+      (bs, not-true (twice (λ b. b) bs) (both_left _ _ h), leb-true _ _ (both_right (not (twice (λ b. b) bs)) _ h), λ b i. holds b (those_of test (boxes_below G.n) b i).1)
 
   -- rule 6
   unfoldable pub on_acceptances : ℕ → ℕ → Verdict → Bool

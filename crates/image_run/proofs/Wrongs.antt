@@ -6,7 +6,7 @@ use Prim.Native.Nat.{ℕ, ◌≤◌, ◌<◌}
 use native.Mathlib.Omega.{arith}
 use lib.Dec.{eqb}
 use lib.ListN.{length}
-use borrow.Author.Tests.{eqb-true, not_false}
+use borrow.Author.Tests.{eqb-true, not-false}
 use Rattle.rules.specs.Tests.{either, any, twice}
 use Rattle.rules.specs.Groups.{f_of, quorum}
 use Rattle.rules.specs.Tables.{Table, valley, normal_mode}
@@ -66,6 +66,6 @@ module _ (s : List ℕ) (some : 0 < length s) (are : Images valley s) where
   -- f+1 boxes of at most seven
   pub right_few : (v : ℕ) → are_wrong v (tables_of valley s) ≡ false → length (tables_of valley s) ≤ 4
   right_few v right =
-      let e : length (tables_of valley s) ≡ quorum (f_of (header_at s).n) = eqb-true _ _ (not_false _ (either_left _ _ (sym (wrong_as v) ∙ right))) in
+      let e : length (tables_of valley s) ≡ quorum (f_of (header_at s).n) = eqb-true _ _ (not-false _ (either_left _ _ (sym (wrong_as v) ∙ right))) in
       let l : (header_at s).n ≤ 7 = rw (n_read s) at (group_bounds _ (image_regular valley s t.has_image).0.group).1 in
       omega arith

@@ -1,4 +1,6 @@
 // The counts of a group of n boxes.
+#![tactic(auto)]
+
 ghost use Rattle.std.specs.Prelude.{◌≡◌, ◌<◌};
 ghost use Rattle.rules.specs.Groups as groups;
 

@@ -8,7 +8,7 @@ use Prim.Native.Nat.{ℕ, ◌<◌, ◌≤◌}
 use native.Mathlib.Omega.{arith}
 use lib.Dec.{eqb, ltb}
 use lib.ListN.{length, length-map}
-use borrow.Author.Tests.{not_false, eqb-true, eq-eqb, lt-ltb}
+use borrow.Author.Tests.{not-false, eqb-true, eq-eqb, lt-ltb}
 use Rattle.rules.specs.Tests.{either, any, every, twice, some_pair}
 use Rattle.rules.specs.Groups.{is_group}
 use Rattle.rules.specs.Tables.{result_by_rule}
@@ -60,18 +60,18 @@ pub record Good (n : ℕ) (rs : List Reply) : Type 0 where
 pub good_facts : (n : ℕ) (rs : List Reply) → are_bad n rs ≡ false → Good n rs
 unfolding are_bad bad_replies unequal_views
 good_facts n rs h =
-    let not_bad : bad_replies n (all_heard rs) ≡ false = either_right _ _ h in let size = group_bounds n (not_false _ (either_left _ _ not_bad)) in
+    let not_bad : bad_replies n (all_heard rs) ≡ false = either_right _ _ h in let size = group_bounds n (not-false _ (either_left _ _ not_bad)) in
     let below = different_below (λ g. g.box) n (all_heard rs) (replies_different n (all_heard rs) not_bad) (replies_inside n (all_heard rs) not_bad) in let same = length-map rs heard in
     record {
-      read = not_false _ (either_left _ _ h);
+      read = not-false _ (either_left _ _ h);
       not_bad = not_bad;
-      group = not_false _ (either_left _ _ not_bad);
+      group = not-false _ (either_left _ _ not_bad);
       positive = size.0;
       below = λ r m. replies_inside n (all_heard rs) not_bad (heard r) (Memᴰ.map heard m);
       at_most = omega arith;
       inside = λ r m. let l = replies_inside n (all_heard rs) not_bad (heard r) (Memᴰ.map heard m) in omega arith;
       apart = rw (twice_heard rs) at (replies_different n (all_heard rs) not_bad);
-      one_view = λ r q m i. eqb-true _ _ (not_false _ (pair_none _ (all_heard rs) (either_left _ _ (either_right _ _ (either_right _ _ (either_right _ _ not_bad)))) (heard r) (heard q) (Memᴰ.map heard m) (Memᴰ.map heard i)));
+      one_view = λ r q m i. eqb-true _ _ (not-false _ (pair_none _ (all_heard rs) (either_left _ _ (either_right _ _ (either_right _ _ (either_right _ _ not_bad)))) (heard r) (heard q) (Memᴰ.map heard m) (Memᴰ.map heard i)));
     }
 
 -- and what is all that is not bad

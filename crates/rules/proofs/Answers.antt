@@ -8,7 +8,7 @@ use Prim.Native.Nat.{ℕ, ◌+◌, ◌≤◌, ◌<◌}
 use native.Mathlib.Omega.{arith}
 use lib.Dec.{eqb, ltb}
 use lib.ListN.{length}
-use borrow.Author.Tests.{eqb-true, ltb-true, leb-false, lt-ltb, not_false}
+use borrow.Author.Tests.{eqb-true, ltb-true, leb-false, lt-ltb, not-false}
 use Rattle.rules.specs.Tests.{both, either, every, is_some}
 use Rattle.rules.specs.Groups.{is_group, f_of}
 use Rattle.rules.specs.Stamps.{Body, is_stamp, body_by_rule}
@@ -40,7 +40,7 @@ proposal_clear = day_clear
 pub fresh_by_rule : (M : Model) (n box : ℕ) → bad_group n box ≡ false → table_by_rule M (fresh_table n box) ≡ true
 unfolding bad_group fresh_table is_view mode_by_rule rising every both either
 fresh_by_rule M n box h =
-    let g = not_false _ h in
+    let g = not-false _ h in
     table_by M
     (record { group = both_left (is_group n) (ltb box n) g; box = ltb-true box n (both_right (is_group n) (ltb box n) g); view = refl; promised = refl; mode = refl; start = omega arith; rise = refl; rows = refl })
     (omega arith)
@@ -153,7 +153,7 @@ met_none M room T m h = number_done (circumstances M room T m) h
 
 pub taken_by_rule : (M : Model) (room : Room) (T : Table) (m : Message) → answer_number M room T m ≡ 0 → message_by_rule M T.n m ≡ true
 unfolding circumstances
-taken_by_rule M room T m h = not_false _ (met_none M room T m h bad_message _ (search places depth 11) (search places))
+taken_by_rule M room T m h = not-false _ (met_none M room T m h bad_message _ (search places depth 11) (search places))
 
 -- ---- the table after a message that was taken
 
@@ -235,7 +235,7 @@ module _ (M : Model) (room : Room) (check : Check) (fits : RoomFits room) (T : T
   -- there is room for a new stamp, since the message was not refused as full
   has_room : (s : ℕ) → new_but_full M room T s ≡ false → held T.rows s ≡ none → length T.rows < M.row_limit
   unfolding new_but_full both
-  has_room s h e = fits M.row_limit (f_of T.n) T.start (length T.rows) (not_false _ (rw e at h))
+  has_room s h e = fits M.row_limit (f_of T.n) T.start (length T.rows) (not-false _ (rw e at h))
 
   -- a row changed, or one more where there is room
   changed_or_added : (s : ℕ) (change : Row → Row) (r : Row) → new_but_full M room T s ≡ false → length (cond (is_some (held T.rows s)) (changed s change T.rows) (added r T.rows)) ≤ M.row_limit

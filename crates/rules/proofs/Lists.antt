@@ -9,7 +9,7 @@ use Prim.Native.Nat.{ℕ, ◌+◌, ◌≤◌, max}
 use native.Mathlib.Omega.{arith}
 use native.Mathlib.Nat.{zero-max, max-zero, le-max_left, le-max_right, max-le, max-eq_left, max-eq_right}
 use lib.Dec.{leb}
-use borrow.Author.Tests.{leb-true, leb-false, not_true, not_false}
+use borrow.Author.Tests.{leb-true, leb-false, not-true, not-false}
 use Rattle.rules.specs.Tests.{both, either, any, every, count, kept, those, greatest, some_pair, provided, or_else, and_also, first_of, all_of}
 use Rattle.rules.proofs.Logic.{impossible, same_test, not_true_of, not_false_of, cases, both_assoc, either_cases, either_left, either_right, either_false, either_assoc}
 
@@ -103,7 +103,7 @@ module _ {A : Type 0} where
       go false e = refl
 
   pub every_one : (test : A → Bool) (xs : List A) → every test xs ≡ true → (x : A) → x ∈ xs → test x ≡ true
-  every_one test xs e x m = not_false (test x) (any_none (λ y. not (test y)) xs (not_true _ (sym (every_is test xs) ∙ e)) x m)
+  every_one test xs e x m = not-false (test x) (any_none (λ y. not (test y)) xs (not-true _ (sym (every_is test xs) ∙ e)) x m)
 
   pub all_every : (test : A → Bool) (xs : List A) → ((x : A) → x ∈ xs → test x ≡ true) → every test xs ≡ true
   all_every test xs h = every_is test xs ∙ not_true_of _ (none_any (λ y. not (test y)) xs (λ x m. not_false_of _ (h x m)))

@@ -6,7 +6,7 @@ use mathlib.Core.List.{List}
 use mathlib.Core.Option.{Option, none, some}
 use Prim.Native.Nat.{ℕ}
 use lib.Dec.{eqb, leb}
-use borrow.Author.Tests.{eqb-true, not_false}
+use borrow.Author.Tests.{eqb-true, not-false}
 use Rattle.rules.specs.Tests.{both, either, any, provided, first_of}
 use Rattle.rules.specs.Groups.{f_of, fast_count, agreement_count}
 use Rattle.rules.specs.Tables.{Result, Result.OK, Result.ABORT, result_code, result_retry, same_result, Row, Model, Table}
@@ -182,7 +182,7 @@ module _ {Ts Us : List Table} (p : Reordered Ts Us) where
   group_kept h = head_kept group_of (λ T. T.n) (λ T more. refl) Ts Us p (λ T U m_t m_u. is T m_t ∙ sym (is U m_u))
     where
       is : (T : Table) → T ∈ Ts → T.n ≡ group_of Ts
-      is T m = eqb-true _ _ (not_false _ (any_none _ Ts h T m))
+      is T m = eqb-true _ _ (not-false _ (any_none _ Ts h T m))
 
   wrong_same : (v : ℕ) → mixed Ts ≡ false → are_wrong v Ts ≡ are_wrong v Us
   unfolding are_wrong

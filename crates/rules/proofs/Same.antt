@@ -4,7 +4,7 @@ use mathlib.Core.Bool.{true, false, not}
 use mathlib.Core.List.{List, [], ◌∷◌}
 use Prim.Native.Nat.{ℕ}
 use lib.Dec.{eqb}
-use borrow.Author.Tests.{eqb-true, not_false}
+use borrow.Author.Tests.{eqb-true, not-false}
 use Rattle.rules.specs.Tests.{both}
 use Rattle.rules.specs.Stamps.{Access, Body, same_accesses, same_body}
 use Rattle.rules.specs.Tables.{Result, Result.OK, Result.ABORT, Result.ABSTAIN, Result.RETRY, Verdict, Verdict.commit, Verdict.abort, result_code, result_retry, verdict_code, same_result}
@@ -36,7 +36,7 @@ unfolding same_result
 result_same r = both_true (eqb_self (result_code r)) (eqb_self (result_retry r))
 
 pub not_other_result : (r q : Result) → not (same_result r q) ≡ false → r ≡ q
-not_other_result r q h = same_result_lem r q (not_false (same_result r q) h)
+not_other_result r q h = same_result_lem r q (not-false (same_result r q) h)
 
 -- ---- verdicts
 
@@ -76,4 +76,4 @@ unfolding same_body
 body_same x = both_true (accesses_same x.reads) (accesses_same x.writes)
 
 pub not_other_body : (x y : Body) → not (same_body x y) ≡ false → x ≡ y
-not_other_body x y h = same_body_lem x y (not_false (same_body x y) h)
+not_other_body x y h = same_body_lem x y (not-false (same_body x y) h)

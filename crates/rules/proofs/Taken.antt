@@ -5,7 +5,7 @@ use mathlib.Core.Logic.{◌⊎◌, inl, inr}
 use mathlib.Core.Option.{Option, none, some}
 use Prim.Native.Nat.{ℕ, ◌≤◌, ◌<◌}
 use lib.Dec.{eqb, leb, ltb}
-use borrow.Author.Tests.{eqb-true, ltb-false, leb-false, not_false}
+use borrow.Author.Tests.{eqb-true, ltb-false, leb-false, not-false}
 use Rattle.rules.specs.Tests.{either}
 use Rattle.rules.specs.Stamps.{Body}
 use Rattle.rules.specs.Tables.{Result, Prepare, Prepare.no_prepare, Prepare.tentative, Prepare.final, Verdict, Outcome, Outcome.no_outcome, Outcome.noted, Outcome.done, prepare_code, outcome_code, Row, Table, Model, table_by_rule}
@@ -31,8 +31,8 @@ verdict_from o r h = go r.outcome refl h
   where
     go : (x : Outcome) → r.outcome ≡ x → opposite_outcome o x ≡ false → (r.outcome ≡ no_outcome) ⊎ HasVerdict o r
     go no_outcome e k = inl e
-    go (noted u) e k = inr (inl (e ∙ ap noted (sym (same_verdict o u (not_false _ k)))))
-    go (done u) e k = inr (inr (e ∙ ap done (sym (same_verdict o u (not_false _ k)))))
+    go (noted u) e k = inr (inl (e ∙ ap noted (sym (same_verdict o u (not-false _ k)))))
+    go (done u) e k = inr (inr (e ∙ ap done (sym (same_verdict o u (not-false _ k)))))
 
 module _ (M : Model) (room : Room) (T : Table) where
   normal_if : (m : Message) → answer_number M room T m ≡ 0 → (changing, is_changing T) ∈ circumstances M room T m → is_changing T ≡ false
@@ -42,7 +42,7 @@ module _ (M : Model) (room : Room) (T : Table) where
   finalises : (m : Message) (v : ℕ) (lacking opposed : Bool) → answer_number M room T m ≡ 0 → (changing, is_changing T) ∈ circumstances M room T m → (other_view, for_other_view T v) ∈ circumstances M room T m → (unknown, lacking) ∈ circumstances M room T m → (contradiction, opposed) ∈ circumstances M room T m → (is_changing T ≡ false) × (v ≡ T.view) × (lacking ≡ false) × (opposed ≡ false)
   unfolding for_other_view
   finalises m v lacking opposed h a b c d =
-      (normal_if m h a, eqb-true v T.view (not_false _ (met_none M room T m h other_view (not (eqb v T.view)) (search places depth 11) b)), met_none M room T m h unknown lacking (search places depth 11) c, met_none M room T m h contradiction opposed (search places depth 11) d)
+      (normal_if m h a, eqb-true v T.view (not-false _ (met_none M room T m h other_view (not (eqb v T.view)) (search places depth 11) b)), met_none M room T m h unknown lacking (search places depth 11) c, met_none M room T m h contradiction opposed (search places depth 11) d)
 
   pub taken_1 : (s : ℕ) (x : Body) → answer_number M room T (propose_prepare s x) ≡ 0 → is_changing T ≡ false
   unfolding circumstances further_circumstances

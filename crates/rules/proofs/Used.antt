@@ -9,7 +9,7 @@ use Prim.Native.Nat.{ℕ, ◌≤◌}
 use native.Mathlib.Omega.{arith}
 use lib.Dec.{eqb}
 use lib.ListN.{length}
-use borrow.Author.Tests.{eqb-true, eq-eqb, ltb-false, not_false}
+use borrow.Author.Tests.{eqb-true, eq-eqb, ltb-false, not-false}
 use Rattle.rules.specs.Tests.{some_pair, either, any, greatest}
 use Rattle.rules.specs.Tables.{Outcome.done, Model, Table}
 use Rattle.rules.specs.Numbers.{Number.full, Number.wrong_tables, Number.other_body, Number.contradiction}
@@ -69,4 +69,4 @@ module _ (M : Model) (v : ℕ) (Ts : List Table) (done : merge_number M v Ts ≡
       go [] h = impossible refl (either_left _ _ h)
       go (T ∷ Us) h =
           let p = either_right _ _ (either_right _ _ (either_right _ _ (either_right _ _ h))) in
-          (T, Memᴰ.head refl, refl, eqb-true T.promised v (not_false _ (any_none _ (T ∷ Us) p T (Memᴰ.head refl))))
+          (T, Memᴰ.head refl, refl, eqb-true T.promised v (not-false _ (any_none _ (T ∷ Us) p T (Memᴰ.head refl))))

@@ -9,7 +9,7 @@ use Prim.Native.Nat.{ℕ, zero, suc, ◌+◌, ◌≤◌, ◌<◌}
 use native.Mathlib.Omega.{arith}
 use lib.Dec.{eqb, ltb, leb}
 use lib.ListN.{length}
-use borrow.Author.Tests.{ltb-true, lt-ltb, le-ltb, leb-true, not_false, eqb-true, eqb-false, eq-eqb}
+use borrow.Author.Tests.{ltb-true, lt-ltb, le-ltb, leb-true, not-false, eqb-true, eqb-false, eq-eqb}
 use Rattle.rules.specs.Tests.{either, bit, any, count, kept, those, greatest, twice, and_also, all_of}
 use Rattle.rules.specs.Groups.{f_of, quorum, fast_count, agreement_count}
 use Rattle.rules.specs.Tables.{Result, Prepare, Prepare.no_prepare, Prepare.tentative, Prepare.final, same_result, Row, Table}
@@ -137,7 +137,7 @@ agreed_once agreement rs r q few = half_once (λ a row. holds_tentative a row.pr
 
 pub tables_few : (v : ℕ) (Ts : List Table) → are_wrong v Ts ≡ false → length Ts ≡ quorum (f_of (group_of Ts))
 unfolding are_wrong
-tables_few v Ts w = eqb-true _ _ (not_false _ (either_left _ _ w))
+tables_few v Ts w = eqb-true _ _ (not-false _ (either_left _ _ w))
 
 -- each table gives at most one row
 pub rows_few : (Ts : List Table) (s : ℕ) → length (rows_of (used Ts) s) ≤ length Ts
@@ -158,10 +158,10 @@ replies_different n hs good = either_left _ _ (either_right _ _ (either_right _ 
 
 pub replies_inside : (n : ℕ) (hs : List Heard) → bad_replies n hs ≡ false → (h : Heard) → h ∈ hs → h.box < n
 unfolding bad_replies
-replies_inside n hs good h m = ltb-true _ _ (not_false _ (any_none _ hs (either_left _ _ (either_right _ _ good)) h m))
+replies_inside n hs good h m = ltb-true _ _ (not-false _ (any_none _ hs (either_left _ _ (either_right _ _ good)) h m))
 
 pub fast_one : (n : ℕ) (hs : List Heard) (r q : Result) → bad_replies n hs ≡ false → is_fast n hs r ≡ true → is_fast n hs q ≡ true → r ≡ q
 unfolding bad_replies is_fast agreeing
 fast_one n hs r q good =
     half_once (λ a h. same_result a h.result) (λ a b h e e'. same_result_lem a h.result e ∙ sym (same_result_lem b h.result e')) (fast_count (f_of n)) hs r q
-    (omega (arith, group_size n (not_false _ (either_left _ _ good)), fast_once (f_of n), different_below (λ h. h.box) n hs (replies_different n hs good) (replies_inside n hs good)))
+    (omega (arith, group_size n (not-false _ (either_left _ _ good)), fast_once (f_of n), different_below (λ h. h.box) n hs (replies_different n hs good) (replies_inside n hs good)))

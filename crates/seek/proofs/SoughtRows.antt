@@ -46,13 +46,13 @@ use Rattle.seek.specs.Inner.Findings.{row_or_unknown, new_or_full, to_finalise, 
 use Rattle.seek.proofs.HeldRows.{held_here, index_here, image_holds}
 use Rattle.seek.proofs.BodiesAlike.{bodies_alike, same_begins}
 
-not_false : (b : Bool) → not b ≡ false → b ≡ true
-not_false true h = refl
-not_false false h = impossible refl h
+not-false : (b : Bool) → not b ≡ false → b ≡ true
+not-false true h = refl
+not-false false h = impossible refl h
 
-not_true : (b : Bool) → (b ≡ true → ⊥) → b ≡ false
-not_true true n = absurd (n refl)
-not_true false n = refl
+not-true : (b : Bool) → (b ≡ true → ⊥) → b ≡ false
+not-true true n = absurd (n refl)
+not-true false n = refl
 
 -- ---- the header's words
 
@@ -186,7 +186,7 @@ module _ (s m : List ℕ) (i : ℕ) (g : RowFields) (bytes : AllBytes s) (given 
   same_counts r w = other_is ∙ rw (bodies_alike s m f g bytes given body_inside_here inside r w)
 
   other_counts_lem : (same_body (body_at m g.offset g.reads g.writes) (body_at s f.offset f.reads f.writes) ≡ true → ⊥) → held_with_other_body (table_at format_one s) g.stamp (body_at m g.offset g.reads g.writes) ≡ true
-  other_counts_lem n = other_is ∙ rw (not_true _ n)
+  other_counts_lem n = other_is ∙ rw (not-true _ n)
 
   pub other_reads : ((fields_at s (24 + 24 * i)).reads ≡ g.reads → ⊥) → held_with_other_body (table_at format_one s) g.stamp (body_at m g.offset g.reads g.writes) ≡ true
   unfolding body_at
@@ -222,7 +222,7 @@ module _ (s m : List ℕ) (g : RowFields) (bytes : AllBytes s) (given : AllBytes
   module _ (same : other_counts s g (place_of (table_at format_one s).rows g.stamp) ≡ false) where
     held_counts : (i : ℕ) → place_of (table_at format_one s).rows g.stamp ≡ Held i → ((fields_at s (24 + 24 * i)).reads ≡ g.reads) × ((fields_at s (24 + 24 * i)).writes ≡ g.writes)
     held_counts i e =
-        let both-same = not_false _ (rw e at same) in
+        let both-same = not-false _ (rw e at same) in
         (eqb-true _ _ (both_left _ _ both-same), eqb-true _ _ (both_right _ _ both-same))
 
     pub needed_length : (place : Place) → place ≡ place_of (table_at format_one s).rows g.stamp → length (needed_body s m g place) ≡ length (body_part m g)

@@ -1,4 +1,6 @@
 // The row that a message is about, or the number for which it is refused before a row's state is looked at.
+#![tactic(auto)]
+
 ghost use Rattle.std.specs.Prelude.{◌≡◌, ◌≤◌, ◌<◌, length};
 ghost use Rattle.rules.specs.Groups.{f_of};
 ghost use Rattle.rules.specs.Tables.{valley};

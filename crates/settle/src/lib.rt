@@ -1,4 +1,6 @@
 // The checks of a merge, over the merged table where it stands. A row that waits for its check holds nothing yet, so that a check sees the rows settled before it and no other.
+#![tactic(auto)]
+
 pub mod marks;
 
 ghost use Rattle.std.specs.Prelude.{◌≡◌, true, ◌+◌, ◌*◌, ◌≤◌, ◌<◌, length};

@@ -1,6 +1,8 @@
 // The C boundary: what box firmware and the host program link. include/sprondilu.h says the same in C's words.
 //
 // A `&[u8]` passes as a pointer and a length. That the pointers are good is assumed and proved by nobody; all else is the crates' below.
+#![tactic(auto)]
+
 ghost use Rattle.std.specs.Prelude.{◌≡◌, ◌<◌, ◌^◌};
 ghost use Rattle.rules.specs.Tables.{valley};
 ghost use Rattle.table.specs.Images.{format_one};

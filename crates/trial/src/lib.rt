@@ -1,6 +1,8 @@
 // The changes of `edit`, one by one, the body that a lookup hands out, and the stepping of a group in one lent buffer, for the tests and the measurements of host/. No part of the library: what box firmware links never changes a table but by an answer.
 //
 // Each asks what the function under it asks. The changes and the lookup ask something, which their caller must see to: nothing is tested here. The stepping of a group asks nothing, and whatever is lent to it is answered.
+#![tactic(auto)]
+
 ghost use Rattle.std.specs.Prelude.{◌≡◌, true, ◌+◌, ◌≤◌, ◌<◌, length};
 ghost use Rattle.rules.specs.Tables.{rising, valley};
 ghost use Rattle.wire.specs.Parts.{replaced};

@@ -2,6 +2,8 @@
 //
 // Nothing here knows what the bytes are for. Whoever writes says by `replaced` which bytes took the place of which; all others stay.
 // A number is read and written by one function for every width, so that its proof is one proof. Only the numbers of four bytes, as every row has one, are read in a way of their own.
+#![tactic(auto)]
+
 ghost use Rattle.std.specs.Prelude.{◌≡◌, ◌++◌, ◌+◌, ◌≤◌, ◌<◌, ◌^◌, length, replicate};
 ghost use Rattle.wire.specs.Parts.{part, replaced};
 ghost use Rattle.wire.specs.Numbers.{number_at, bytes};

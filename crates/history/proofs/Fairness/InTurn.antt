@@ -7,7 +7,7 @@ use mathlib.Core.List.{List, [], ◌∷◌}
 use Prim.Native.Nat.{ℕ, suc}
 use native.Mathlib.Omega.{arith}
 use lib.Dec.{eqb}
-use borrow.Author.Tests.{eq-eqb, not_true}
+use borrow.Author.Tests.{eq-eqb, not-true}
 use Rattle.rules.specs.Tests.{both, those}
 use Rattle.rules.specs.Tables.{Result, Result.OK, Prepare.final, Row, Table}
 use Rattle.rules.specs.Messages.{with_prepare}
@@ -65,7 +65,7 @@ module _ (agreement : ℕ) (Us : List Table) where
 
   -- a stamp that waits holds nothing yet
   pub waits_unsettled : (among : Standing → Bool) (s : ℕ) → Waits among s → is_settled (before s) ≡ false
-  waits_unsettled among s w = not_true _ (both_right _ _ w)
+  waits_unsettled among s w = not-true _ (both_right _ _ w)
 
   -- ---- one check
 

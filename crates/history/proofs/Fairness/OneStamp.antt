@@ -7,7 +7,7 @@ use mathlib.Core.List.{List}
 use Prim.Native.Nat.{ℕ, ◌+◌, ◌<◌}
 use native.Mathlib.Omega.{arith}
 use lib.Dec.{eqb, leb}
-use borrow.Author.Tests.{lt-ltb, leb-true, not_false}
+use borrow.Author.Tests.{lt-ltb, leb-true, not-false}
 use Rattle.rules.specs.Tests.{both, either, any, count}
 use Rattle.rules.specs.Tables.{Result, Result.OK, Result.ABORT, Result.ABSTAIN, Result.RETRY, Prepare, Prepare.no_prepare, Prepare.tentative, Prepare.final, prepare_code, result_code, Verdict, Verdict.commit, Verdict.abort, Outcome, Outcome.no_outcome, Outcome.noted, Outcome.done, outcome_code, verdict_code, something_held, Row}
 use Rattle.rules.specs.Messages.{with_prepare}
@@ -27,8 +27,8 @@ use Rattle.rules.proofs.Merge.{final_held}
 
 not_opposite : (u v : Verdict) (o : Outcome) → holds_verdict v o ≡ true → opposite_outcome u o ≡ false → u ≡ v
 not_opposite u v no_outcome h c = impossible h refl
-not_opposite u v (noted a) h c = same_verdict u a (not_false _ c) ∙ sym (same_verdict v a h)
-not_opposite u v (done a) h c = same_verdict u a (not_false _ c) ∙ sym (same_verdict v a h)
+not_opposite u v (noted a) h c = same_verdict u a (not-false _ c) ∙ sym (same_verdict v a h)
+not_opposite u v (done a) h c = same_verdict u a (not-false _ c) ∙ sym (same_verdict v a h)
 
 one_verdict_lem : (u v : Verdict) (o p : Outcome) → holds_verdict u o ≡ true → holds_verdict v p ≡ true → opposite_outcomes o p ≡ false → u ≡ v
 one_verdict_lem u v no_outcome p h k c = impossible h refl

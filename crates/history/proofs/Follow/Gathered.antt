@@ -9,7 +9,7 @@ use Prim.Native.Nat.{ℕ, ◌≤◌, ◌<◌}
 use native.Mathlib.Omega.{arith}
 use lib.Dec.{eqb, ltb}
 use lib.ListN.{length}
-use borrow.Author.Tests.{eqb-true, ltb-true, not_false}
+use borrow.Author.Tests.{eqb-true, ltb-true, not-false}
 use Rattle.rules.specs.Tests.{both, greatest, twice}
 use Rattle.rules.specs.Groups.{f_of, quorum, agreement_count}
 use Rattle.rules.specs.Tables.{Row, Table, normal_mode, changing_mode, mode_by_rule}
@@ -70,7 +70,7 @@ module _ (W : World) (facts : List Fact) (v : ℕ) (Ts : List Table) (rows : Lis
     right_tables =
         let a = either_right _ _ (either_right _ _ right) in
         let b = either_right _ _ a in
-        (either_left _ _ a, λ T m. (any_none _ Ts (either_left _ _ b) T m, eqb-true _ _ (not_false _ (any_none _ Ts (either_right _ _ b) T m))))
+        (either_left _ _ a, λ T m. (any_none _ Ts (either_left _ _ b) T m, eqb-true _ _ (not-false _ (any_none _ Ts (either_right _ _ b) T m))))
 
     -- it changes to view v, and has handed over what it held in its last normal view
     abbrev pub HandedOver : Table → Type 0

@@ -3,7 +3,7 @@ use mathlib.Core.Bool.{false}
 use mathlib.Core.Path.{◌≡◌, sym, ◌∙◌}
 use native.Mathlib.Omega.{arith}
 use lib.Seq.{length-take-le}
-use borrow.Author.Tests.{not_true, not_false}
+use borrow.Author.Tests.{not-true, not-false}
 use borrow.Author.Rules.{rules}
 use Rattle.rules.specs.Tables.{valley}
 use Rattle.boxes.specs.Inner.OneBuffer.{no_run_room}
@@ -26,10 +26,10 @@ all-whole-requires c κs = search rules
 returns-3 : tie.Need-returns-3
 returns-3 c =
     let a = c.before.before.before.before.before.before.before.before.args in
-    together_bad valley a.tables.now a.boxes.now a.view a.run.now a.out.now (fits c.before.before.before) c.before.before.if2.false (sym c.before.all_whole.ensures ∙ not_true _ c.if3.true)
+    together_bad valley a.tables.now a.boxes.now a.view a.run.now a.out.now (fits c.before.before.before) c.before.before.if2.false (sym c.before.all_whole.ensures ∙ not-true _ c.if3.true)
 
 lay-images-requires : tie.Need-lay-images-requires
-lay-images-requires c κs = let a = c.before.before.before.before.before.before.before.before.before.args in (sym c.before.before.all_whole.ensures ∙ not_false _ c.before.if3.false, room valley (omega arith) a.boxes.now a.run.now c.before.before.before.before.if1.false)
+lay-images-requires c κs = let a = c.before.before.before.before.before.before.before.before.before.args in (sym c.before.before.all_whole.ensures ∙ not-false _ c.before.if3.false, room valley (omega arith) a.boxes.now a.run.now c.before.before.before.before.if1.false)
 
 slice-reshare-prefix-merge : tie.Need-slice-reshare-prefix-merge
 slice-reshare-prefix-merge c = let laid = c.before.before.lay-images in rw laid.ensures.0 (laid_within _ _ _ laid.ensures.1)

@@ -4,7 +4,7 @@ use mathlib.Core.Bool.{true}
 use Prim.Native.Nat.{◌+◌, ◌*◌}
 use native.Mathlib.Omega.{arith}
 use lib.ListN.{length}
-use borrow.Author.Tests.{not_true, not_false}
+use borrow.Author.Tests.{not-true, not-false}
 use borrow.Author.Rules.{rules}
 use Rattle.rules.specs.Check.{accepted}
 use Rattle.rules.specs.DayOrder.{day_a, day_b}
@@ -25,7 +25,7 @@ returns : tie.Need-returns
 returns c read-marked written-marked =
     let a = c.before.before.before.before.args in
     let x = body_at a.body.now 0 a.reads a.writes in
-    day_passed a.image.now (fields_at a.image.now (a.begin + 24 * a.index)) a.stamp x a.seen (sym c.before.row-accepted.ensures ∙ not_true _ c.if1.true)
+    day_passed a.image.now (fields_at a.image.now (a.begin + 24 * a.index)) a.stamp x a.seen (sym c.before.row-accepted.ensures ∙ not-true _ c.if1.true)
 
 row-at-requires : tie.Need-row-at-requires
 row-at-requires c κs = search rules
@@ -36,7 +36,7 @@ inside c = rw c.row_at.ensures c.before.before.before.before.before.requires.1
 
 -- and it is accepted
 counts : (c : tie.After-row-at) → accepted (row_of c.before.before.before.before.before.args.image.now c.row_at.result) ≡ true
-counts c = rw c.row_at.ensures (sym c.before.before.row-accepted.ensures ∙ not_false _ c.before.if1.false)
+counts c = rw c.row_at.ensures (sym c.before.before.row-accepted.ensures ∙ not-false _ c.before.if1.false)
 
 body-of-requires : tie.Need-body-of-requires
 body-of-requires c κs = inside c

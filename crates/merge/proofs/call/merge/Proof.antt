@@ -4,7 +4,7 @@ use mathlib.Core.Bool.{true, false}
 use Prim.Native.Nat.{◌-◌, ◌≤◌}
 use native.Mathlib.Omega.{arith}
 use lib.ListN.{length}
-use borrow.Author.Tests.{not_true, not_false}
+use borrow.Author.Tests.{not-true, not-false}
 use borrow.Author.Rules.{rules}
 use Rattle.rules.specs.Tables.{valley, Model}
 use Rattle.rules.specs.Merge.{are_wrong}
@@ -31,7 +31,7 @@ told : (c : tie.After-is-whole) → c.is_whole.result ≡ is_some (run_tables va
 told c = c.is_whole.ensures ∙ ap (λ (M : Model). is_some (run_tables M c.before.before.before.before.before.before.args.run.now)) c.before.before.before.valley.ensures
 
 whole : (c : tie.Else2) → is_some (run_tables valley c.before.before.before.before.before.before.before.args.run.now) ≡ true
-whole c = sym (told c.before) ∙ not_false _ c.if2.false
+whole c = sym (told c.before) ∙ not-false _ c.if2.false
 
 right : (c : tie.Else3) → are_wrong c.before.before.before.before.before.before.before.before.before.args.view (tables_of valley c.before.before.before.before.before.before.before.before.before.args.run.now) ≡ false
 right c = sym c.before.are-wrong.ensures ∙ c.if3.false
@@ -49,7 +49,7 @@ is-whole-requires : tie.Need-is-whole-requires
 is-whole-requires c κs = search rules
 
 returns-2 : tie.Need-returns-2
-returns-2 c = kept_bad _ _ _ (long c.before.before) (sym (told c.before) ∙ not_true _ c.if2.true)
+returns-2 c = kept_bad _ _ _ (long c.before.before) (sym (told c.before) ∙ not-true _ c.if2.true)
 
 are-wrong-requires : tie.Need-are-wrong-requires
 are-wrong-requires c κs = let r = run_told valley _ (whole c) in (r.0, r.2)

@@ -4,7 +4,7 @@ use Prim.Native.Nat.{◌+◌, ◌-◌, ◌*◌, ◌≤◌}
 use native.Mathlib.Nat.{add-zero, sub-zero}
 use native.Mathlib.Omega.{arith}
 use lib.Dec.{eqb, leb}
-use borrow.Author.Tests.{not_true, not_false}
+use borrow.Author.Tests.{not-true, not-false}
 use Rattle.rules.specs.Tests.{both, either, every}
 use Rattle.rules.specs.Circumstances.{settled}
 use Rattle.rows.specs.Fields.{fields_at}
@@ -43,7 +43,7 @@ codes-settled-requires c κs = tt
 returns : tie.Need-returns invariant-loop decreases-loop
 unfolding both
 returns c =
-    let e = sym c.before.codes-settled.ensures ∙ not_true _ c.if1.true in
+    let e = sym c.before.codes-settled.ensures ∙ not-true _ c.if1.true in
     sym (turn c.before.before.before ∙ rw (← c.before.before.row_at.ensures, e))
 
 add-i : tie.Need-overflow-add-i invariant-loop decreases-loop
@@ -55,7 +55,7 @@ loop-less c = omega arith
 loop-again : tie.Need-loop-preserved invariant-loop decreases-loop
 unfolding both
 loop-again c =
-    let e = sym c.before.codes-settled.ensures ∙ not_false _ c.if1.false in
+    let e = sym c.before.codes-settled.ensures ∙ not-false _ c.if1.false in
     (omega arith, turn c.before.before.before ∙ rw (← c.before.before.row_at.ensures, e))
 
 returns-2 : tie.Need-returns-2 invariant-loop decreases-loop

@@ -4,7 +4,7 @@ use mathlib.Core.Path.{◌≡◌, sym, ◌∙◌}
 use Prim.Native.Nat.{◌+◌, ◌-◌, ◌*◌, ◌≤◌}
 use native.Mathlib.Nat.{add-zero, sub-zero}
 use native.Mathlib.Omega.{arith}
-use borrow.Author.Tests.{not_true, not_false}
+use borrow.Author.Tests.{not-true, not-false}
 use Rattle.wire.proofs.Numbers.{all_of}
 use Rattle.rules.specs.Tests.{both}
 use Rattle.rows.specs.Inner.Rows.{size_of, row_by_rule_at, rows_by_rule_at}
@@ -66,7 +66,7 @@ row-valid-requires c κs = c.before.before.before.before.before.requires.1
 returns : tie.Need-returns invariant-loop decreases-loop
 unfolding both
 returns c =
-    let e : row_by_rule_at _ _ _ _ _ ≡ false = sym c.before.row-valid.ensures ∙ not_true _ c.if1.true in
+    let e : row_by_rule_at _ _ _ _ _ ≡ false = sym c.before.row-valid.ensures ∙ not-true _ c.if1.true in
     sym (walked c.before.before.before.before.before ∙ turn c.before.before.before.before ∙ rw (← c.before.before.before.row_at.ensures, e))
 
 add-i : tie.Need-overflow-add-i invariant-loop decreases-loop
@@ -78,7 +78,7 @@ loop-less c = omega arith
 loop-again : tie.Need-loop-preserved invariant-loop decreases-loop
 unfolding both
 loop-again c =
-    let h = sym c.before.row-valid.ensures ∙ not_false _ c.if1.false in
+    let h = sym c.before.row-valid.ensures ∙ not-false _ c.if1.false in
     let room = row_room _ _ _ _ _ h in
     let size = c.before.before.body_length_lem.ensures.0 in
     (omega arith, omega arith, turn c.before.before.before.before ∙ rw (← c.before.before.before.row_at.ensures, h, size))
