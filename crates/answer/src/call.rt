@@ -15,7 +15,7 @@ use transact::reply;
 use transact::reply::{CountedReply, Reply};
 
 // The number of an answer, and how many rows were compared to find the row of the message's stamp.
-#[derive(Drop)]
+#[derive(Clone, Copy)]
 pub struct Answered {
     pub number: u8,
     pub compared: usize,

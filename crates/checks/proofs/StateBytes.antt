@@ -7,7 +7,7 @@ use Prim.Native.Nat.{ℕ, ◌-◌, ◌≤◌, ◌<◌}
 use native.Mathlib.Omega.{arith}
 use lib.Dec.{eqb, leb}
 use borrow.Author.Tests.{leb-true, leb-false, eqb-true, lt-leb, ne_eqb, eq-eqb}
-use Rattle.rules.specs.Tests.{both, either}
+use Rattle.rules.specs.Tests.{either}
 use Rattle.rules.specs.Tables.{Result, Result.OK, Result.ABORT, Result.ABSTAIN, Result.RETRY, Prepare, Prepare.tentative, Prepare.final, Outcome.done, Verdict.abort, result_code, prepare_code, outcome_code}
 use Rattle.rules.specs.Check.{committed, prepared, accepted}
 use Rattle.rules.proofs.Logic.{cases, same?, same_test, both_comm, either_none}

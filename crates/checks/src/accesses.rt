@@ -5,7 +5,7 @@ ghost use Rattle.rows.specs.Read.{accesses_at};
 ghost use Rattle.checks.specs.Inner.RegisterWrites.{write_to, Marked, any_marked};
 
 // What a search for a register among writes gives: the value, or that none is there.
-#[derive(Drop)]
+#[derive(Clone, Copy)]
 pub enum Write {
     Value { value: u64 },
     Missing,

@@ -13,7 +13,7 @@ use rows::row;
 use rows::row::RowFields;
 
 // A version and its value; both 0 if none was found.
-#[derive(Drop)]
+#[derive(Clone, Copy)]
 pub struct Found {
     pub version: u64,
     pub value: u64,

@@ -14,7 +14,7 @@ use rows::result::Result;
 use rows::row;
 
 // What the rows passed say: the advice, which is the greatest stamp of an accepted row that B names or 0; whether A holds of a committed one, whether B does, whether C holds of one. A prepared row raises the advice and B does not fire on it, so B has a mark of its own. The stamp stands first so that the marks lie side by side: apart, each would drag its padding through every turn of the loop.
-#[derive(Drop)]
+#[derive(Clone, Copy)]
 pub struct Seen {
     pub advice: u64,
     pub abort: bool,

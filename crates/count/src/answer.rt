@@ -16,7 +16,7 @@ const ABSTAIN: u64 = 3;
 const RETRY: u64 = 4;
 
 // What a count answers: a result with its retry stamp, to wait for more, or a refusal.
-#[derive(Drop)]
+#[derive(Clone, Copy)]
 pub enum Counted {
     Fast { result: u8, retry: u64 },
     Slow { result: u8, retry: u64 },

@@ -12,7 +12,7 @@ use gather::stamps::Cursors;
 use gather::{bodies, held, stamps, state};
 
 // Whether a stamp has two bodies, whether one is held with a contradiction, and how many stamps there are.
-#[derive(Drop)]
+#[derive(Clone, Copy)]
 pub struct Survey {
     pub bodies: bool,
     pub contradiction: bool,

@@ -6,7 +6,7 @@ use gather::state::State;
 use rows::result::Result;
 
 // A row's state: the prepare byte with its retry stamp, and the outcome byte.
-#[derive(Drop)]
+#[derive(Clone, Copy)]
 pub struct Unchecked {
     pub prepare: u8,
     pub retry: u64,

@@ -16,14 +16,14 @@ use rows::row::RowFields;
 use table::header;
 
 // The row of a stamp in each table of a run, in their order, and the cursors behind that stamp. Where a table holds none or is not used stand zeros, which say nothing.
-#[derive(Drop)]
+#[derive(Clone, Copy)]
 pub struct Gathered {
     pub rows: [RowFields; 4],
     pub cursors: Cursors,
 }
 
 // Where the first image that holds a stamp begins in a run, and the stamp's row there.
-#[derive(Drop)]
+#[derive(Clone, Copy)]
 pub struct First {
     pub at: usize,
     pub row: RowFields,

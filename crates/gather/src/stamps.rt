@@ -16,7 +16,7 @@ use table::header;
 pub const NO_STAMP: u64 = 0x1_0000_0000_0000;
 
 // How far a walk over the stamps has come: the last one, and for each table of the run the index of its first row above that. It stays 0 for a table of another view than `newest`, which is not used. A merge has at most four tables.
-#[derive(Drop)]
+#[derive(Clone, Copy)]
 pub struct Cursors {
     pub newest: u32,
     pub last: u64,

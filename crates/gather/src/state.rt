@@ -7,7 +7,7 @@ use crate::held::Gathered;
 use rows::row::RowFields;
 
 // The first final result, with its retry stamp, or 0; whether a prepare byte is held at all; whether another final result is held; whether a commit is, and whether an abort is.
-#[derive(Drop)]
+#[derive(Clone, Copy)]
 pub struct State {
     pub prepare: u8,
     pub retry: u64,

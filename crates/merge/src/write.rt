@@ -21,14 +21,14 @@ use settle::marks;
 use table::header;
 
 // Where the next body is due, and whether the stamp's result is agreed.
-#[derive(Drop)]
+#[derive(Clone, Copy)]
 pub struct WrittenStamp {
     pub due: usize,
     pub agreed: bool,
 }
 
 // Where the image then ends, and a mark for each row: whether its stamp's result is agreed.
-#[derive(Drop)]
+#[derive(Clone, Copy)]
 pub struct WrittenRows {
     pub end: usize,
     pub marks: [u8; 64],

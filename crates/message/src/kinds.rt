@@ -10,7 +10,7 @@ use crate::{carried, start};
 use table::model::Model;
 
 // A message that keeps every rule, by its fields. A body lies behind the counts, at `PREPARE_BODY` or `OUTCOME_BODY`; an image at 5.
-#[derive(Drop)]
+#[derive(Clone, Copy)]
 pub enum Message {
     ProposePrepare {
         stamp: u64,

@@ -1,6 +1,6 @@
 // One reply as it is lent: any numbers may stand in it. Its fields are laid out as C does it, so that a C caller can lend a list of them; the small ones come first, which leaves one byte between them unused.
 #[repr(C)]
-#[derive(Drop)]
+#[derive(Clone, Copy)]
 pub struct Reply {
     pub boxnumber: u8,
     pub result: u8,

@@ -9,14 +9,14 @@ use crate::held::Reply;
 use rows::row;
 
 // The least and the greatest of some results, each packed into one number: they are equal if all these results are the same.
-#[derive(Drop)]
+#[derive(Clone, Copy)]
 pub struct Range {
     pub least: u64,
     pub greatest: u64,
 }
 
 // The result of the first reply, and how many have it.
-#[derive(Drop)]
+#[derive(Clone, Copy)]
 pub struct First {
     pub code: u64,
     pub retry: u64,
@@ -24,7 +24,7 @@ pub struct First {
 }
 
 // The replies with another result than the first one's: how many they are, how many of them are OK, how many ABORT.
-#[derive(Drop)]
+#[derive(Clone, Copy)]
 pub struct Others {
     pub number: u64,
     pub oks: u64,
@@ -33,7 +33,7 @@ pub struct Others {
 }
 
 // The boxes are bits, box 0 the lowest. Bit 7, which is no box's, says that something was bad.
-#[derive(Drop)]
+#[derive(Clone, Copy)]
 pub struct Tally {
     pub seen: u64,
     pub view: u64,

@@ -10,5 +10,3 @@ pub mod Sought
 pub mod HalvingSteps
 pub mod Halving
 pub mod HalvingMost
-pub mod Readers
-pub mod ReaderCalls

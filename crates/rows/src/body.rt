@@ -4,7 +4,7 @@ ghost use Rattle.rules.specs.Stamps.{counts_by_rule, accesses_by_rule, contents_
 ghost use Rattle.rows.specs.Read.{access_at, accesses_at, body_at};
 
 // A register, and a read's version or a write's value.
-#[derive(Drop)]
+#[derive(Clone, Copy)]
 pub struct Access {
     pub register: u8,
     pub number: u64,

@@ -9,14 +9,14 @@ ghost use Rattle.rows.specs.Inner.Places.{place_of, FoundInside, body_found};
 use crate::row;
 
 // The index of the stamp's row, or the one that its row would have.
-#[derive(Drop)]
+#[derive(Clone, Copy)]
 pub enum Place {
     Held { row: usize },
     Absent { row: usize },
 }
 
 // What a search gives: where the stamp stands, and how many rows were compared to find that.
-#[derive(Drop)]
+#[derive(Clone, Copy)]
 pub struct Sought {
     pub place: Place,
     pub compared: usize,

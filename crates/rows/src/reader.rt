@@ -9,7 +9,7 @@ use crate::row;
 use crate::row::RowFields;
 
 // An image, where its rows begin, and the index of a row.
-#[derive(Drop)]
+#[derive(Clone, Copy)]
 pub struct Reader<'a> {
     pub image: &'a [u8],
     pub begin: usize,

@@ -15,7 +15,7 @@ use crate::{body, reader};
 pub const LENGTH: usize = 24;
 
 // The fields of a row, in the order in which they stand.
-#[derive(Drop)]
+#[derive(Clone, Copy)]
 pub struct RowFields {
     pub stamp: u64,
     pub retry: u64,

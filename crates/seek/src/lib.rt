@@ -29,14 +29,14 @@ use table::header::Header;
 pub const GREATEST_ROW: usize = 96;
 
 // What is found for a message that finalises.
-#[derive(Drop)]
+#[derive(Clone, Copy)]
 pub enum Finding {
     Known { index: usize },
     Refused { number: u8 },
 }
 
 // What is found for a message that proposes: the stamp's row, or the index that its row would have.
-#[derive(Drop)]
+#[derive(Clone, Copy)]
 pub enum Proposal {
     Held { index: usize },
     New { index: usize },
@@ -44,13 +44,13 @@ pub enum Proposal {
 }
 
 // Either of them, with the rows that were compared to find it.
-#[derive(Drop)]
+#[derive(Clone, Copy)]
 pub struct FoundToFinalise {
     pub finding: Finding,
     pub compared: usize,
 }
 
-#[derive(Drop)]
+#[derive(Clone, Copy)]
 pub struct FoundToPropose {
     pub proposal: Proposal,
     pub compared: usize,

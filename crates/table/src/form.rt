@@ -6,7 +6,7 @@ ghost use Rattle.table.specs.Inner.Forms.{form_of, Known};
 use crate::header;
 
 // The format in the header, and how many bytes stand before the rows: the header, and whatever this format stores behind it.
-#[derive(Drop)]
+#[derive(Clone, Copy)]
 pub struct Form {
     pub format: u8,
     pub begin: usize,

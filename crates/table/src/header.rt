@@ -16,7 +16,7 @@ pub const LENGTH: usize = 24;
 
 pub const FORMAT_ONE: u8 = 1;
 
-#[derive(Drop)]
+#[derive(Clone, Copy)]
 pub struct Header {
     pub format: u8,
     pub boxnumber: u8,

@@ -23,7 +23,7 @@ fn whole_valid(s: &[u8], h: Header, format: u8, begin: usize, limit: u16) -> boo
 }
 
 // What a look for an image answers.
-#[derive(Drop)]
+#[derive(Clone, Copy)]
 pub enum Found {
     Image { length: usize },
     Nothing,

@@ -7,7 +7,7 @@ ghost use Rattle.table.specs.Inner.Models.{model_of};
 pub const VALLEY_BUFFER: usize = 49176;
 
 // How many rows a kind of box holds at most, and how many bytes its table or output buffer has at least.
-#[derive(Drop)]
+#[derive(Clone, Copy)]
 pub struct Model {
     pub limit: u16,
     pub least: usize,

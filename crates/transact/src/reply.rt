@@ -8,7 +8,7 @@ ghost use Rattle.transact.specs.Replies.{reply_as, reply_bytes};
 pub const LENGTH: usize = 24;
 
 // The fields of a reply, in the order in which they stand.
-#[derive(Drop)]
+#[derive(Clone, Copy)]
 pub struct Reply {
     pub number: u8,
     pub kind: u8,
@@ -20,7 +20,7 @@ pub struct Reply {
 }
 
 // A reply, and how many rows were compared to find the row of its stamp. That number is none of the 24 bytes.
-#[derive(Drop)]
+#[derive(Clone, Copy)]
 pub struct CountedReply {
     pub reply: Reply,
     pub compared: usize,

@@ -1,0 +1,40 @@
+-- The mode first, then the look-up: room for a row that is not held, or the body of one that is.
+use mathlib.Core.Path.{sym, ◌∙◌}
+use Rattle.wire.proofs.Numbers.{all_of}
+use Rattle.wire.specs.Inner.ByteLists.{AllBytes}
+use Rattle.rules.specs.Tables.{valley}
+use Rattle.rows.specs.Read.{body_at}
+use Rattle.table.specs.Images.{format_one}
+use Rattle.edit.proofs.Holding.{one_starts, holds_least}
+use Rattle.seek.proofs.HeldRows.{image_holds, some_boxes, began_with, held_here}
+use Rattle.seek.proofs.SoughtRows.{propose_changing, propose_other, propose_held, propose_new}
+use Rattle.seek.proofs.row_to_propose.Goals as goal
+
+pub read-h-requires : goal.read-h-requires
+read-h-requires c = let p = c in holds_least format_one p.args.table.now one_starts (image_holds valley p.args.table.now p.requires.0)
+
+pub returns-then-h-eq1 : goal.returns-then-h-eq1
+returns-then-h-eq1 c = let p = c in rw (c.refused.ensures.0, c.refused.ensures.1) (propose_changing p.args.table.now p.args.given.stamp p.args.limit (body_at p.args.message.now p.args.given.offset p.args.given.reads p.args.given.writes) (rw c.read-h.ensures at c.if-h-eq1.true))
+
+pub new_row-requires : goal.new_row-requires
+new_row-requires c = let p = c in
+    rw c.read-h.ensures (some_boxes valley p.args.table.now p.requires.0, began_with valley p.args.table.now p.requires.0)
+
+pub returns-in_default : goal.returns-in_default
+returns-in_default c = let p = c in
+    rw (c.new_row.ensures, c.read-h.ensures) (propose_new p.args.table.now p.args.given.stamp p.args.limit (body_at p.args.message.now p.args.given.offset p.args.given.reads p.args.given.writes) (rw c.read-h.ensures at c.if-h-eq1.false) _ _ c.find-sought.ensures _ c.in_default.is)
+
+pub other_body-requires : goal.other_body-requires
+other_body-requires c = let p = c in (p.requires.0, sym c.in-Held.is ∙ c.find-sought.ensures.0, p.requires.1)
+
+pub returns-then-other_body : goal.returns-then-other_body
+returns-then-other_body c = let p = c in
+    rw (c.refused-then-other_body.ensures.0, c.refused-then-other_body.ensures.1) (propose_other p.args.table.now p.args.given.stamp p.args.limit (body_at p.args.message.now p.args.given.offset p.args.given.reads p.args.given.writes) (rw c.read-h.ensures at c.if-h-eq1.false) _ _ c.find-sought.ensures (sym c.other_body.ensures ∙ c.if-other_body.true))
+
+pub returns : goal.returns
+returns c =
+    let table-bytes : AllBytes c.args.table.now = all_of c.args.table.now (λ i. (c.shared_slice_known-1.given i).fits) in
+    let p = c in
+    let here = c.in-Held.is in
+    let there = held_here valley p.args.table.now p.args.given.stamp _ table-bytes p.requires.0 (sym c.find-sought.ensures.0 ∙ here) in
+    propose_held p.args.table.now p.args.given.stamp p.args.limit (body_at p.args.message.now p.args.given.offset p.args.given.reads p.args.given.writes) (rw c.read-h.ensures at c.if-h-eq1.false) _ _ c.find-sought.ensures _ _ here there (sym c.other_body.ensures ∙ c.if-other_body.false)
