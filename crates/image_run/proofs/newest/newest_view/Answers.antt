@@ -1,0 +1,33 @@
+-- The greatest view of those passed, with those that are left.
+use mathlib.Core.Path.{◌≡◌, sym, ap, ◌∙◌}
+use mathlib.Core.Logic.{⊎_elim}
+use Prim.Native.Nat.{◌-◌, max}
+use native.Mathlib.Nat.{zero-max, max-zero, max-eq_left, max-eq_right, le_of_lt}
+use native.Mathlib.Omega.{arith}
+use Rattle.rules.proofs.Lists.{max_assoc}
+use Rattle.image_run.proofs.Walks.{room, goes_on, goes_far, view_turn, view_end}
+use Rattle.image_run.proofs.newest.newest_view.Goals as goal
+
+pub loop-at-init : goal.loop-at-init
+loop-at-init c = (omega arith, c.requires, zero-max _)
+
+pub read-h-requires : goal.read-h-requires
+read-h-requires c = let l = c in room _ _ c.loop-at-test.true l.loop-at.invariant.1
+
+pub loop-at-smaller : goal.loop-at-smaller
+loop-at-smaller c =
+    let r = c in
+    let far = goes_far _ _ r.loop-at-test.true r.loop-at.invariant.1 _ r.read-h.ensures in
+    omega arith
+
+pub loop-at-preserved : goal.loop-at-preserved
+loop-at-preserved c =
+    let greater : c.if-newest-h.newest ≡ max c.loop-at.newest c.read-h.result.view = ⊎_elim (λ w. w.1 ∙ sym (max-eq_right (le_of_lt w.0.taken))) (λ w. w.1 ∙ sym (max-eq_left w.0.left)) c.if-newest-h.branch in
+    let r = c in
+    let l = r in
+    let on = goes_on _ _ r.loop-at-test.true l.loop-at.invariant.1 _ r.read-h.ensures in
+    let turned = view_turn _ _ r.loop-at-test.true l.loop-at.invariant.1 _ r.read-h.ensures in
+    (on.0, on.1, rw greater (max_assoc _ _ _ ∙ ap (max l.loop-at.newest) (sym turned) ∙ l.loop-at.invariant.2))
+
+pub returns : goal.returns
+returns c = let l = c in rw (view_end _ _ c.loop-at-test.false, max-zero) at l.loop-at.invariant.2

@@ -1,0 +1,50 @@
+-- The outcome byte that stands there decides.
+use mathlib.Core.Path.{sym, ◌∙◌}
+use Rattle.wire.proofs.Numbers.{all_of}
+use Rattle.wire.specs.Inner.ByteLists.{AllBytes}
+use Rattle.rules.specs.Tables.{valley}
+use Rattle.table.specs.Images.{format_one}
+use Rattle.edit.proofs.Holding.{one_starts, holds_least, holds_row_inside}
+use Rattle.seek.proofs.HeldRows.{index_here, codes_here, image_holds}
+use Rattle.transact.proofs.Proposed.{note_opposed, note_taken}
+use Rattle.transact.proofs.outcome.note_held.Goals as goal
+
+pub row_at-held-requires : goal.row_at-held-requires
+row_at-held-requires c =
+    let known : AllBytes c.args.table.now = all_of c.args.table.now (λ i. (c.slice_known-1.given i).fits) in
+    let p = c in holds_row_inside format_one p.args.table.now p.args.index one_starts (image_holds valley p.args.table.now p.requires.0) (index_here valley p.args.table.now p.args.stamp p.args.index known p.requires.0 p.requires.1)
+
+pub opposite-requires : goal.opposite-requires
+opposite-requires c =
+    let known : AllBytes c.args.table.now = all_of c.args.table.now (λ i. (c.slice_known-1.given i).fits) in
+    let p = c in rw c.row_at-held.ensures ((codes_here valley p.args.table.now p.args.stamp p.args.index known p.requires.0 p.requires.1).1, p.requires.2)
+
+pub returns-then-opposite : goal.returns-then-opposite
+returns-then-opposite c =
+    let known : AllBytes c.args.table.now = all_of c.args.table.now (λ i. (c.slice_known-1.given i).fits) in
+    λ M x found.
+    let p = c in
+    rw c.refusal.ensures (note_opposed M p.args.table.now p.args.stamp p.args.verdict x p.requires.0 p.args.index known (rw (← c.row_at-held.ensures) (sym c.opposite.ensures ∙ c.if-opposite.true)))
+
+pub read-h-requires : goal.read-h-requires
+read-h-requires c = let p = c in holds_least format_one p.args.table.now one_starts (image_holds valley p.args.table.now p.requires.0)
+
+pub noted_as-outcome-requires : goal.noted_as-outcome-requires
+noted_as-outcome-requires c =
+    let known : AllBytes c.args.table.now = all_of c.args.table.now (λ i. (c.slice_known-1.given i).fits) in
+    let p = c in rw c.row_at-held.ensures ((codes_here valley p.args.table.now p.args.stamp p.args.index known p.requires.0 p.requires.1).1, p.requires.2)
+
+pub set_outcome-requires : goal.set_outcome-requires
+set_outcome-requires c =
+    let known : AllBytes c.args.table.now = all_of c.args.table.now (λ i. (c.slice_known-1.given i).fits) in
+    let p = c in (image_holds valley p.args.table.now p.requires.0, (index_here valley p.args.table.now p.args.stamp p.args.index known p.requires.0 p.requires.1), c.noted_as-outcome.ensures.1)
+
+pub returns : goal.returns
+returns c =
+    let known : AllBytes c.args.table.now = all_of c.args.table.now (λ i. (c.slice_known-1.given i).fits) in
+    λ M x found.
+    let p = c in
+    let s = p.args.table.now in
+    let e = rw c.row_at-held.ensures at c.noted_as-outcome.ensures.0 in
+    rw (c.set_outcome.ensures, c.read-h.ensures)
+    (note_taken M s p.args.stamp p.args.verdict x p.requires.0 p.args.index known c.noted_as-outcome.result e c.noted_as-outcome.ensures.1 (rw (← c.row_at-held.ensures) (sym c.opposite.ensures ∙ c.if-opposite.false)))

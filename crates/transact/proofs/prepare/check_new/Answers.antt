@@ -1,0 +1,24 @@
+-- The rows are walked where they stand, the body where it lies in the message.
+use native.Mathlib.Omega.{arith}
+use Rattle.rules.specs.Tables.{valley}
+use Rattle.rules.specs.Answers.{proposal_check}
+use Rattle.rows.proofs.Turns.{length_body_part, body_of_part}
+use Rattle.table.proofs.Images.{valley_sound}
+use Rattle.table.specs.Images.{format_one}
+use Rattle.edit.proofs.Holding.{holds_rows_at, one_starts, holds_least}
+use Rattle.seek.proofs.HeldRows.{image_holds}
+use Rattle.seek.proofs.SoughtRows.{rows_inside, rows_rise}
+use Rattle.transact.proofs.prepare.check_new.Goals as goal
+
+pub read-h-requires : goal.read-h-requires
+read-h-requires c = let p = c in holds_least format_one p.args.table.now one_starts (image_holds valley p.args.table.now p.requires.0)
+
+pub check-requires : goal.check-requires
+check-requires c = let p = c in
+    let l = length_body_part p.args.message.now p.args.row p.requires.1 in
+    rw (c.read-h.ensures, c.body_of.ensures) (rows_inside valley p.args.table.now valley_sound p.requires.0, omega (arith, l), rows_rise valley p.args.table.now valley_sound p.requires.0)
+
+pub returns : goal.returns
+unfolding proposal_check
+returns c = let p = c in
+    rw (c.check.ensures, c.read-h.ensures, c.body_of.ensures, body_of_part p.args.message.now p.args.row p.requires.1, holds_rows_at format_one p.args.table.now)
