@@ -8,6 +8,7 @@ use Rattle.table.specs.Images.{format_one}
 use Rattle.edit.proofs.Holding.{one_starts, holds_least, holds_row_inside}
 use Rattle.settle.proofs.CheckedInPlace.{inside, rows_begin, rows_passed, rows_checked, rows_end}
 use Rattle.settle.proofs.check_rows.Goals as goal
+use Rattle.settle.proofs.check_rows.Goals.{then-row_waits, else-row_waits}
 
 pub read-rows-requires : goal.read-rows-requires
 read-rows-requires c = let p = c in holds_least format_one p.args.out.now one_starts p.requires.0
@@ -40,10 +41,10 @@ pub loop-i-preserved : goal.loop-i-preserved
 loop-i-preserved c =
     let l = c.loop-i-test.true in
     let inv = c.loop-i.invariant in
-    ⊎_elim
-    (λ w. rw w.5 (omega arith, inv.1, w.2.kept.0 ∙ inv.2, rows_checked _ _ _ _ _ _ inv.3 l _ w.2.ensures (all_of w.2.last.0 (λ i. (w.4.given i).fits)) (sym c.row_waits.ensures ∙ w.0.taken)))
-    (λ w. rw w.1 (omega arith, inv.1, inv.2, rows_passed _ _ _ _ _ _ inv.3 l (sym c.row_waits.ensures ∙ w.0.left)))
-    c.if-row_waits.branch
+    elim c.if-row_waits.branch [
+      | then-row_waits w ↦ rw w.out-is (omega arith, inv.1, w.check_row.auto.out ∙ inv.2, rows_checked _ _ _ _ _ _ inv.3 l _ w.check_row.ensures (all_of w.check_row.new.out (λ i. (w.slice_known-then-row_waits-1.given i).fits)) (sym c.row_waits.ensures ∙ w.if-row_waits.true))
+      | else-row_waits w ↦ rw w.out-is (omega arith, inv.1, inv.2, rows_passed _ _ _ _ _ _ inv.3 l (sym c.row_waits.ensures ∙ w.if-row_waits.false))
+    ]
 
 pub shape_of-out : goal.shape_of-out
 shape_of-out c = c.loop-i.invariant.2

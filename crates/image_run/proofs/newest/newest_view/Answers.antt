@@ -7,6 +7,7 @@ use native.Mathlib.Omega.{arith}
 use Rattle.rules.proofs.Lists.{max_assoc}
 use Rattle.image_run.proofs.Walks.{room, goes_on, goes_far, view_turn, view_end}
 use Rattle.image_run.proofs.newest.newest_view.Goals as goal
+use Rattle.image_run.proofs.newest.newest_view.Goals.{then-newest-h, else-newest-h}
 
 pub loop-at-init : goal.loop-at-init
 loop-at-init c = (omega arith, c.requires, zero-max _)
@@ -22,7 +23,7 @@ loop-at-smaller c =
 
 pub loop-at-preserved : goal.loop-at-preserved
 loop-at-preserved c =
-    let greater : c.if-newest-h.newest ≡ max c.loop-at.newest c.read-h.result.view = ⊎_elim (λ w. w.1 ∙ sym (max-eq_right (le_of_lt w.0.taken))) (λ w. w.1 ∙ sym (max-eq_left w.0.left)) c.if-newest-h.branch in
+    let greater : c.if-newest-h.newest ≡ max c.loop-at.newest c.read-h.result.view = elim c.if-newest-h.branch [ then-newest-h w ↦ w.newest-is ∙ sym (max-eq_right (le_of_lt w.if-newest-h.true)) | else-newest-h w ↦ w.newest-is ∙ sym (max-eq_left w.if-newest-h.false) ] in
     let r = c in
     let l = r in
     let on = goes_on _ _ r.loop-at-test.true l.loop-at.invariant.1 _ r.read-h.ensures in

@@ -24,7 +24,7 @@ returns-then-opposite c =
     let known : AllBytes c.args.table.now = all_of c.args.table.now (λ i. (c.slice_known-1.given i).fits) in
     λ M x found.
     let p = c in
-    rw c.refusal.ensures (note_opposed M p.args.table.now p.args.stamp p.args.verdict x p.requires.0 p.args.index known (rw (← c.row_at-held.ensures) (sym c.opposite.ensures ∙ c.if-opposite.true)))
+    rw c.refusal.ensures (note_opposed M p.args.table.now p.args.stamp p.args.verdict x p.requires.0 p.args.index known found (rw (← c.row_at-held.ensures) (sym c.opposite.ensures ∙ c.if-opposite.true)))
 
 pub read-h-requires : goal.read-h-requires
 read-h-requires c = let p = c in holds_least format_one p.args.table.now one_starts (image_holds valley p.args.table.now p.requires.0)
@@ -47,4 +47,4 @@ returns c =
     let s = p.args.table.now in
     let e = rw c.row_at-held.ensures at c.noted_as-outcome.ensures.0 in
     rw (c.set_outcome.ensures, c.read-h.ensures)
-    (note_taken M s p.args.stamp p.args.verdict x p.requires.0 p.args.index known c.noted_as-outcome.result e c.noted_as-outcome.ensures.1 (rw (← c.row_at-held.ensures) (sym c.opposite.ensures ∙ c.if-opposite.false)))
+    (note_taken M s p.args.stamp p.args.verdict x p.requires.0 p.args.index known found c.noted_as-outcome.result e c.noted_as-outcome.ensures.1 (rw (← c.row_at-held.ensures) (sym c.opposite.ensures ∙ c.if-opposite.false)))
