@@ -36,8 +36,8 @@ add_new-requires c = let p = c in
     let found = (sym c.row_to_propose-found.ensures.0 ∙ c.in-New.is) in
     let clear = new_clear M T p.args.stamp x _ found in
     let unheld = absent_none T.rows p.args.stamp _ clear.1 in
-    let room = room_for_row s p.args.limit (record { stamp = p.args.stamp; retry = 0; offset = 12; reads = p.args.reads; writes = p.args.writes; prepare = 0; outcome = p.args.verdict }) p.requires.begins_with_image.0 p.requires.begins_with_image.1 p.requires.begins_with_image.2 p.requires.1.1 p.requires.1.2 (let (low, high) = verdict_range p.args.verdict p.requires.1.0 in omega arith) (room_found M T p.args.stamp unheld clear.0.2) in
-    ((image_holds valley s p.requires.0.0, (image_regular valley s p.requires.0.0).0.rise, clear.1), (((p.requires.1.2, omega arith, (let (low, high) = verdict_range p.args.verdict p.requires.1.0 in omega arith), no_retry), p.requires.1.3), room))
+    let room = room_for_row s p.args.limit (record { stamp = p.args.stamp; retry = 0; offset = 12; reads = p.args.reads; writes = p.args.writes; prepare = 0; outcome = p.args.verdict }) p.requires.begins_with_image.0 p.requires.begins_with_image.1 p.requires.begins_with_image.2 p.requires.verdict_value.1 p.requires.verdict_value.2 (let (low, high) = verdict_range p.args.verdict p.requires.verdict_value.0 in omega arith) (room_found M T p.args.stamp unheld clear.0.2) in
+    record { holds = (image_holds valley s p.requires.begins_with_image.0, (image_regular valley s p.requires.begins_with_image.0).0.rise, clear.1); storable = ((p.requires.verdict_value.2, omega arith, (let (low, high) = verdict_range p.args.verdict p.requires.verdict_value.0 in omega arith), no_retry), p.requires.verdict_value.3); table_bound = room }
 
 pub returns-in-Against : goal.returns-in-Against
 unfolding served_compared
@@ -67,4 +67,4 @@ returns-in-New c = let p = c in
     let M = limited p.args.limit in
     let T = table_at format_one s in
     let (reply, after) = note_new_taken M s p.args.stamp p.args.verdict x p.requires.begins_with_image.0 _ p.args.message.now (record { stamp = p.args.stamp; retry = 0; offset = 12; reads = p.args.reads; writes = p.args.writes; prepare = 0; outcome = p.args.verdict }) p.requires.verdict_value.0 (sym c.row_to_propose-found.ensures.0 ∙ c.in-New.is) refl refl refl refl in
-    record { reply_value = (c.with_compared-in-New.ensures.0 ∙ c.add_new.ensures.0 ∙ reply, c.with_compared-in-New.ensures.1 ∙ c.row_to_propose-found.ensures.1); table_after = c.add_new.ensures.1 ∙ after }
+    record { reply_value = (c.with_compared-in-New.ensures.0 ∙ c.add_new.ensures.value ∙ reply, c.with_compared-in-New.ensures.1 ∙ c.row_to_propose-found.ensures.1); table_after = c.add_new.ensures.table_after ∙ after }

@@ -18,7 +18,7 @@ add_new-requires c = let p = c in
     let r = p.args.row in
     let x = body_at p.args.message.now r.offset r.reads r.writes in
     let k = checked_storable valley s r.stamp x q.0 in
-    rw (c.with_prepare.ensures, c.check_new-checked.ensures) ((image_holds valley s q.0, (image_regular valley s q.0).0.rise, q.1), (((q.3, k.0, rw q.4 (omega arith), k.1), q.2), p.requires.1))
+    rw (c.with_prepare.ensures, c.check_new-checked.ensures) record { holds = (image_holds valley s q.0, (image_regular valley s q.0).0.rise, q.1); storable = ((q.3, k.0, rw q.4 (omega arith), k.1), q.2); table_bound = p.requires.table_bound }
 
 pub returns : goal.returns
 returns c = λ M found.

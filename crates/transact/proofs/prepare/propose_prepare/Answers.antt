@@ -33,8 +33,8 @@ add_checked-requires c = let p = c in
     let found = (sym c.row_to_propose-found.ensures.0 ∙ c.in-New.is) in
     let clear = new_clear M T p.args.stamp x _ found in
     let unheld = absent_none T.rows p.args.stamp _ clear.1 in
-    let room = room_for_row s p.args.limit (record { stamp = p.args.stamp; retry = 0; offset = 11; reads = p.args.reads; writes = p.args.writes; prepare = 0; outcome = 0 }) p.requires.begins_with_image.0 p.requires.begins_with_image.1 p.requires.begins_with_image.2 p.requires.1.0 p.requires.1.1 (omega arith) (room_found M T p.args.stamp unheld clear.0.2) in
-    ((p.requires.0.0, clear.1, p.requires.1.2, p.requires.1.1, refl), room)
+    let room = room_for_row s p.args.limit (record { stamp = p.args.stamp; retry = 0; offset = 11; reads = p.args.reads; writes = p.args.writes; prepare = 0; outcome = 0 }) p.requires.begins_with_image.0 p.requires.begins_with_image.1 p.requires.begins_with_image.2 p.requires.stamp_value.0 p.requires.stamp_value.1 (omega arith) (room_found M T p.args.stamp unheld clear.0.2) in
+    record { begins_with_image = (p.requires.begins_with_image.0, clear.1, p.requires.stamp_value.2, p.requires.stamp_value.1, refl); table_bound = room }
 
 pub returns-in-Against : goal.returns-in-Against
 unfolding served_compared

@@ -1,0 +1,41 @@
+-- The counts first, then the bytes of both bodies.
+use mathlib.Core.Path.{refl}
+use borrow.Author.Tests.{eq-eqb, ne_eqb}
+use Rattle.wire.proofs.Numbers.{all_of}
+use Rattle.rules.specs.Tests.{both}
+use Rattle.rows.proofs.Turns.{length_body_part}
+use Rattle.seek.proofs.BodiesAlike.{bodies_alike}
+use Rattle.gather.proofs.OneRow.{reads_differ, writes_differ}
+use Rattle.gather.proofs.bodies.is_other.Goals as goal
+
+pub returns-then-row-eq0 : goal.returns-then-row-eq0
+unfolding both
+returns-then-row-eq0 c = rw (eq-eqb _ _ c.if-row-eq0.true) refl
+
+pub returns-then-row-given : goal.returns-then-row-given
+unfolding both
+returns-then-row-given c =
+    let a = c.args in
+    rw (ne_eqb _ _ c.if-row-eq0.false, reads_differ a.image.now a.first.now a.row a.given c.if-row-given.true) refl
+
+pub returns-then-row-given-2 : goal.returns-then-row-given-2
+unfolding both
+returns-then-row-given-2 c =
+    let a = c.args in
+    rw (ne_eqb _ _ c.if-row-eq0.false, writes_differ a.image.now a.first.now a.row a.given c.if-row-given-2.true) refl
+
+pub body_of-requires : goal.body_of-requires
+body_of-requires c = c.requires.0 c.if-row-eq0.false
+
+pub same_bytes-requires : goal.same_bytes-requires
+same_bytes-requires c =
+    let p = c in
+    rw (c.body_of.ensures, c.body_of-2.ensures, length_body_part p.args.image.now p.args.row (p.requires.0 c.if-row-eq0.false), length_body_part p.args.first.now p.args.given p.requires.1, c.if-row-given.false, c.if-row-given-2.false) refl
+
+pub returns : goal.returns
+unfolding both
+returns c =
+    let p = c in
+    let a = p.args in
+    let alike = bodies_alike a.image.now a.first.now a.row a.given (all_of a.image.now (λ i. (c.shared_slice_known-1.given i).fits)) (all_of a.first.now (λ i. (c.shared_slice_known-2-1.given i).fits)) (p.requires.0 c.if-row-eq0.false) p.requires.1 c.if-row-given.false c.if-row-given-2.false in
+    rw (ne_eqb _ _ c.if-row-eq0.false, c.same_bytes.ensures, c.body_of.ensures, c.body_of-2.ensures, alike) refl
