@@ -4,4 +4,3 @@ pub mod Decisions
 pub mod CountWays
 pub mod CountCall
 pub mod TallyCounts
-pub mod Walks

@@ -1,19 +1,16 @@
 -- What is kept, with the replies of the bytes that are left.
 use mathlib.Core.Path.{◌≡◌, sym, ◌∙◌}
 use mathlib.Core.List.{List}
-use Prim.Native.Nat.{ℕ, ◌+◌, ◌-◌, ◌*◌, ◌/◌, ◌≤◌, ◌<◌}
+use Prim.Native.Nat.{ℕ, ◌+◌, ◌*◌, ◌/◌, ◌≤◌, ◌<◌}
 use native.Mathlib.Nat.{sub-zero}
 use native.Mathlib.Omega.{arith}
-use lib.ListN.{length, drop}
+use lib.ListN.{length}
 use Rattle.replies.specs.declared.tally.Tally.{Tally}
 use Rattle.replies.specs.Inner.Tallies.{with_reply, with_replies}
-use Rattle.count.specs.Calls.{reply_at, replies_of}
+use Rattle.count.specs.Calls.{reply_at}
 use Rattle.count.proofs.HeardBytes.{replies_turn, replies_end}
+use Rattle.count.proofs.call.gather.Invariants.{with_rest}
 use Rattle.count.proofs.call.gather.Goals as goal
-
--- with the replies from a place on
-abbrev with_rest : Tally → List ℕ → ℕ → Tally
-with_rest h s at = with_replies h (replies_of ((length s - at) / 15) (drop at s))
 
 -- of whole replies, before the end there is one more
 room : (at len : ℕ) → at ≡ 15 * (at / 15) → len ≡ 15 * (len / 15) → at < len → at + 15 ≤ len
@@ -34,20 +31,15 @@ loop-at-init c = (omega arith, omega arith, rw (c.none-tally.ensures, sub-zero))
 
 pub loop-at-preserved : goal.loop-at-preserved
 loop-at-preserved c =
-    let here : c.loop-at.at + 15 ≤ length c.args.bytes.now = room _ _ c.loop-at.invariant.0 c.requires c.loop-at-test.true in
-    let l = here in
     let x = c.loop-at in
+    let l = room _ _ x.invariant.0 c.requires c.loop-at-test.true in
     (omega arith, omega arith, rw (c.with-tally.ensures, c.reply_at.ensures) (rest-turn x.tally _ x.at l ∙ x.invariant.2))
 
 pub returns : goal.returns
 returns c = sym (rest_end c.loop-at.tally c.args.bytes.now c.loop-at.at c.loop-at-test.false) ∙ c.loop-at.invariant.2
 
 pub reply_at-requires : goal.reply_at-requires
-reply_at-requires c =
-    let here : c.loop-at.at + 15 ≤ length c.args.bytes.now = room _ _ c.loop-at.invariant.0 c.requires c.loop-at-test.true in
-    here
+reply_at-requires c = room _ _ c.loop-at.invariant.0 c.requires c.loop-at-test.true
 
 pub overflow_add-at : goal.overflow_add-at
-overflow_add-at c =
-    let here : c.loop-at.at + 15 ≤ length c.args.bytes.now = room _ _ c.loop-at.invariant.0 c.requires c.loop-at-test.true in
-    let l = here in omega arith
+overflow_add-at c = let l = room _ _ c.loop-at.invariant.0 c.requires c.loop-at-test.true in omega arith
