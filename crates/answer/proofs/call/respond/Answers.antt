@@ -1,0 +1,31 @@
+-- No table, or what the message is to the table that was found.
+use mathlib.Core.Path.{refl, sym, ◌∙◌}
+use Rattle.table.specs.Images.{format_one}
+use Rattle.table.specs.Parse.{parse}
+use Rattle.seek.specs.Inner.Limits.{limited}
+use Rattle.seek.proofs.HeldRows.{some_boxes}
+use Rattle.answer.proofs.Responding.{found_nothing, found_begins, widened, heard_so, heard_compared_lem}
+use Rattle.answer.proofs.call.respond.Goals as goal
+
+pub returns-in_default : goal.returns-in_default
+returns-in_default c = let p = c in
+    let nothing = found_nothing (parse format_one (limited p.args.limit) p.args.table.now) (sym c.in_default.is ∙ c.find.ensures) in
+    rw nothing record { reply_value = (c.with_compared.ensures.0 ∙ c.refusal.ensures, c.with_compared.ensures.1); table_after = refl }
+
+pub read-asked-requires : goal.read-asked-requires
+read-asked-requires c = let p = c in rw c.read-n.ensures (some_boxes (limited p.args.limit) p.args.table.now (found_begins (limited p.args.limit) p.args.table.now _ (sym c.in-Image.is ∙ c.find.ensures)))
+
+pub serve-requires : goal.serve-requires
+serve-requires c = let p = c in
+    let m = c.read-asked.ensures in
+    record { begins_with_image = (widened p.args.limit p.args.table.now p.requires.0 (found_begins (limited p.args.limit) p.args.table.now _ (sym c.in-Image.is ∙ c.find.ensures)), p.requires.0, p.requires.1); asked_value = (rw c.read-n.ensures at m.0, m.1) }
+
+pub returns : goal.returns
+returns c = let p = c in
+    let s = p.args.table.now in
+    let begins = found_begins (limited p.args.limit) s _ (sym c.in-Image.is ∙ c.find.ensures) in
+    let told = rw c.read-n.ensures at c.read-asked.ensures.result_value in
+    let (reply, buffer) = heard_so (limited p.args.limit) s p.args.message.now _ begins told in
+    let compared = heard_compared_lem (limited p.args.limit) s p.args.message.now _ begins told in
+    let n = c.serve.ensures in
+    record { reply_value = (n.0.0 ∙ reply, n.0.1 ∙ compared); table_after = n.1 ∙ buffer }

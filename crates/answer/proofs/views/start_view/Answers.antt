@@ -1,0 +1,40 @@
+-- A view below the promised one, or at or below the last normal one, is refused; the image of any other is taken.
+use mathlib.Core.Path.{◌∙◌}
+use Prim.Native.Nat.{◌≤◌}
+use Rattle.rules.specs.Tables.{valley}
+use Rattle.table.specs.Headers.{header_at}
+use Rattle.table.specs.Images.{format_one}
+use Rattle.table.specs.Parse.{table_at}
+use Rattle.edit.proofs.Holding.{one_starts, holds_least}
+use Rattle.seek.proofs.HeldRows.{image_holds}
+use Rattle.answer.proofs.ViewsServed.{start_refused, below_promised, at_or_below_view, start_taken, view_said}
+use Rattle.answer.proofs.views.start_view.Goals as goal
+
+pub read-h-requires : goal.read-h-requires
+read-h-requires c = let p = c in holds_least format_one p.args.table.now one_starts (image_holds valley p.args.table.now p.requires.0)
+
+pub returns-then-view-h : goal.returns-then-view-h
+returns-then-view-h c = let p = c in
+    let s = p.args.table.now in
+    let holds = image_holds valley s p.requires.0 in
+    let I = table_at format_one p.args.image.now in
+    rw c.refusal.ensures (start_refused s p.args.view holds I (below_promised s p.args.view holds I (rw c.read-h.ensures at c.if-view-h.true)))
+
+pub returns-then-view-h-2 : goal.returns-then-view-h-2
+returns-then-view-h-2 c = let p = c in
+    let s = p.args.table.now in
+    let holds = image_holds valley s p.requires.0 in
+    let I = table_at format_one p.args.image.now in
+    let met : (header_at s).promised ≤ p.args.view = rw c.read-h.ensures at c.if-view-h.false in
+    let old : p.args.view ≤ (header_at s).view = rw c.read-h.ensures at c.if-view-h-2.true in
+    rw c.refusal-then-view-h-2.ensures (start_refused s p.args.view holds I (at_or_below_view s p.args.view holds I met old))
+
+pub take_image-requires : goal.take_image-requires
+take_image-requires c = let p = c in
+    (image_holds valley p.args.table.now p.requires.0, image_holds valley p.args.image.now p.requires.1, p.requires.3)
+
+pub returns : goal.returns
+returns c = let p = c in
+    let s = p.args.table.now in
+    rw (c.take_image.ensures, c.read-h.ensures) (start_taken s p.args.view (image_holds valley s p.requires.0) (table_at format_one p.args.image.now)
+    (rw c.read-h.ensures at c.if-view-h.false) (rw c.read-h.ensures at c.if-view-h-2.false) (view_said p.args.image.now ∙ p.requires.2))
