@@ -10,6 +10,7 @@ use Rattle.gather.specs.Inner.UsedTables.{no_fields}
 use Rattle.gather.specs.Inner.Agreed.{has_codes}
 use Rattle.gather.proofs.RowsTold.{votes_on, votes_over}
 use Rattle.gather.proofs.agreed.votes.Goals as goal
+use Rattle.gather.proofs.agreed.votes.Goals.{then-has_codes, else-has_codes}
 
 pub loop-k-init : goal.loop-k-init
 loop-k-init c = (omega arith, omega arith, omega arith)
@@ -31,7 +32,7 @@ loop-k-smaller c = let l = c.loop-k-test.true in omega arith
 
 pub loop-k-preserved : goal.loop-k-preserved
 loop-k-preserved c =
-    let counted : (let a = c.args in let i = c.loop-k in c.if-has_codes.n ≡ i.n + bit (has_codes a.prepare a.retry (get_or a.gathered.rows i.k no_fields))) = rw (← c.has_codes.ensures) (⊎_elim (λ w. w.1 ∙ rw w.0.taken refl) (λ w. w.1 ∙ rw w.0.left (omega arith)) c.if-has_codes.branch) in
+    let counted : (let a = c.args in let i = c.loop-k in c.if-has_codes.n ≡ i.n + bit (has_codes a.prepare a.retry (get_or a.gathered.rows i.k no_fields))) = rw (← c.has_codes.ensures) (elim c.if-has_codes.branch [ then-has_codes w ↦ w.n-is ∙ rw w.if-has_codes.true refl | else-has_codes w ↦ w.n-is ∙ rw w.if-has_codes.false (omega arith) ]) in
     let a = c.args in
     let i = c.loop-k in
     let l = c.loop-k-test.true in

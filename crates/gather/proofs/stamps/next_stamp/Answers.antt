@@ -8,6 +8,7 @@ use Rattle.wire.proofs.Numbers.{all_of}
 use Rattle.image_run.proofs.Walks.{room, goes_on, goes_far}
 use Rattle.gather.proofs.Gathered.{image_part, few_on, cursor_on, cursors_on, next_step, next_over, next_start, cursors_all}
 use Rattle.gather.proofs.stamps.next_stamp.Goals as goal
+use Rattle.gather.proofs.stamps.next_stamp.Goals.{then-above-next, else-above-next}
 
 still : (a b c d : ℕ) → a ≡ min b c → b ≤ d → a ≤ d
 still a b c d e l = omega arith
@@ -51,7 +52,7 @@ loop-at-smaller c = let far = goes_far _ _ c.loop-at-test.true c.loop-at.invaria
 
 pub loop-at-preserved : goal.loop-at-preserved
 loop-at-preserved c =
-    let lesser : c.if-above-next.next ≡ min c.loop-at.next c.stamp_above-above.result = (⊎_elim (λ w. w.1 ∙ (let l = w.0.taken in omega arith)) (λ w. w.1 ∙ (let l = w.0.left in omega arith)) c.if-above-next.branch) in
+    let lesser : c.if-above-next.next ≡ min c.loop-at.next c.stamp_above-above.result = (elim c.if-above-next.branch [ then-above-next w ↦ omega arith | else-above-next w ↦ omega arith ]) in
     let bytes : AllBytes c.args.run.now = all_of c.args.run.now (λ i. (c.shared_slice_known-1.given i).fits) in
     let a = c.args.cursors in
     let i = c.loop-at in
