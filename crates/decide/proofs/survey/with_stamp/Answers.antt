@@ -16,10 +16,7 @@ use Rattle.gather.proofs.StateSeen.{state_contradicts}
 use Rattle.gather.proofs.RowsTold.{state_gathered}
 use Rattle.decide.specs.declared.survey.Survey.{Survey}
 use Rattle.decide.proofs.survey.with_stamp.Goals as goal
-
--- the rows of the stamp
-abbrev rows : goal.Start → List Row
-rows p = rows_in p.args.run.now p.args.gathered
+use Rattle.decide.proofs.survey.with_stamp.Goals.{then-two_bodies, else-two_bodies, then-contradicts, else-contradicts}
 
 abbrev with_bodies : Bool → Survey → Survey
 with_bodies b x = record { bodies = either x.bodies b; contradiction = x.contradiction; stamps = x.stamps }
@@ -29,18 +26,18 @@ with_contradiction b x = record { bodies = x.bodies; contradiction = either x.co
 
 pub overflow_add-survey : goal.overflow_add-survey
 overflow_add-survey c =
-    let bodies-seen : (let p = c in c.if-two_bodies.survey ≡ with_bodies (two_bodies (rows p)) p.args.survey) = (let e = c.two_bodies.ensures in ⊎_elim (λ w. w.1 ∙ rw (sym e ∙ w.0.taken, either_second _ true refl) refl) (λ w. w.1 ∙ rw (sym e ∙ w.0.left, either_none) refl) c.if-two_bodies.branch) in
-    let contradiction-seen : (let p = c in c.if-contradicts.survey ≡ with_contradiction (contradictory (rows p)) c.if-two_bodies.survey) = (let p = c in let s = p.args.run.now in let seen = state_gathered s (all_of s (λ i. (c.shared_slice_known-1.given i).fits)) p.requires.0.0 p.requires.0.1 p.args.gathered p.requires.0.2 in let e = c.contradicts.ensures ∙ ap contradicts (c.state_of.ensures ∙ seen) ∙ state_contradicts (rows p) in ⊎_elim (λ w. w.1 ∙ rw (sym e ∙ w.0.taken, either_second _ true refl) refl) (λ w. w.1 ∙ rw (sym e ∙ w.0.left, either_none) refl) c.if-contradicts.branch) in
-    let both-seen : (let p = c in c.if-contradicts.survey ≡ with_contradiction (contradictory (rows p)) (with_bodies (two_bodies (rows p)) p.args.survey)) = contradiction-seen ∙ ap (with_contradiction (contradictory (rows c.before.before.before.before.before.before))) bodies-seen in
+    let bodies-seen : (let p = c in c.if-two_bodies.survey ≡ with_bodies (two_bodies (rows_in c.args.run.now c.args.gathered)) p.args.survey) = (let e = c.two_bodies.ensures in elim c.if-two_bodies.branch [ then-two_bodies w ↦ w.survey-is ∙ rw (sym e ∙ w.if-two_bodies.true, either_second _ true refl) refl | else-two_bodies w ↦ w.survey-is ∙ rw (sym e ∙ w.if-two_bodies.false, either_none) refl ]) in
+    let contradiction-seen : (let p = c in c.if-contradicts.survey ≡ with_contradiction (contradictory (rows_in c.args.run.now c.args.gathered)) c.if-two_bodies.survey) = (let p = c in let s = p.args.run.now in let seen = state_gathered s (all_of s (λ i. (c.shared_slice_known-1.given i).fits)) p.requires.images.0 p.requires.images.1 p.args.gathered p.requires.images.2 in let e = c.contradicts.ensures ∙ ap contradicts (c.state_of.ensures ∙ seen) ∙ state_contradicts (rows_in c.args.run.now c.args.gathered) in elim c.if-contradicts.branch [ then-contradicts w ↦ w.survey-is ∙ rw (sym e ∙ w.if-contradicts.true, either_second _ true refl) refl | else-contradicts w ↦ w.survey-is ∙ rw (sym e ∙ w.if-contradicts.false, either_none) refl ]) in
+    let both-seen : (let p = c in c.if-contradicts.survey ≡ with_contradiction (contradictory (rows_in c.args.run.now c.args.gathered)) (with_bodies (two_bodies (rows_in c.args.run.now c.args.gathered)) p.args.survey)) = contradiction-seen ∙ ap (with_contradiction (contradictory (rows_in c.args.run.now c.args.gathered))) bodies-seen in
     let p = c in
     let e : c.if-contradicts.survey.stamps ≡ p.args.survey.stamps = ap (λ (x : Survey). x.stamps) both-seen in
-    let l = p.requires.1.0 in
-    let k = p.requires.1.1 in
+    let l = p.requires.stamps_lt_last.0 in
+    let k = p.requires.stamps_lt_last.1 in
     omega arith
 
 pub returns : goal.returns
 returns c =
-    let bodies-seen : (let p = c in c.if-two_bodies.survey ≡ with_bodies (two_bodies (rows p)) p.args.survey) = (let e = c.two_bodies.ensures in ⊎_elim (λ w. w.1 ∙ rw (sym e ∙ w.0.taken, either_second _ true refl) refl) (λ w. w.1 ∙ rw (sym e ∙ w.0.left, either_none) refl) c.if-two_bodies.branch) in
-    let contradiction-seen : (let p = c in c.if-contradicts.survey ≡ with_contradiction (contradictory (rows p)) c.if-two_bodies.survey) = (let p = c in let s = p.args.run.now in let seen = state_gathered s (all_of s (λ i. (c.shared_slice_known-1.given i).fits)) p.requires.0.0 p.requires.0.1 p.args.gathered p.requires.0.2 in let e = c.contradicts.ensures ∙ ap contradicts (c.state_of.ensures ∙ seen) ∙ state_contradicts (rows p) in ⊎_elim (λ w. w.1 ∙ rw (sym e ∙ w.0.taken, either_second _ true refl) refl) (λ w. w.1 ∙ rw (sym e ∙ w.0.left, either_none) refl) c.if-contradicts.branch) in
-    let both-seen : (let p = c in c.if-contradicts.survey ≡ with_contradiction (contradictory (rows p)) (with_bodies (two_bodies (rows p)) p.args.survey)) = contradiction-seen ∙ ap (with_contradiction (contradictory (rows c.before.before.before.before.before.before))) bodies-seen in
+    let bodies-seen : (let p = c in c.if-two_bodies.survey ≡ with_bodies (two_bodies (rows_in c.args.run.now c.args.gathered)) p.args.survey) = (let e = c.two_bodies.ensures in elim c.if-two_bodies.branch [ then-two_bodies w ↦ w.survey-is ∙ rw (sym e ∙ w.if-two_bodies.true, either_second _ true refl) refl | else-two_bodies w ↦ w.survey-is ∙ rw (sym e ∙ w.if-two_bodies.false, either_none) refl ]) in
+    let contradiction-seen : (let p = c in c.if-contradicts.survey ≡ with_contradiction (contradictory (rows_in c.args.run.now c.args.gathered)) c.if-two_bodies.survey) = (let p = c in let s = p.args.run.now in let seen = state_gathered s (all_of s (λ i. (c.shared_slice_known-1.given i).fits)) p.requires.images.0 p.requires.images.1 p.args.gathered p.requires.images.2 in let e = c.contradicts.ensures ∙ ap contradicts (c.state_of.ensures ∙ seen) ∙ state_contradicts (rows_in c.args.run.now c.args.gathered) in elim c.if-contradicts.branch [ then-contradicts w ↦ w.survey-is ∙ rw (sym e ∙ w.if-contradicts.true, either_second _ true refl) refl | else-contradicts w ↦ w.survey-is ∙ rw (sym e ∙ w.if-contradicts.false, either_none) refl ]) in
+    let both-seen : (let p = c in c.if-contradicts.survey ≡ with_contradiction (contradictory (rows_in c.args.run.now c.args.gathered)) (with_bodies (two_bodies (rows_in c.args.run.now c.args.gathered)) p.args.survey)) = contradiction-seen ∙ ap (with_contradiction (contradictory (rows_in c.args.run.now c.args.gathered))) bodies-seen in
     ap (λ (x : Survey). record { bodies = x.bodies; contradiction = x.contradiction; stamps = x.stamps + 1 }) both-seen
