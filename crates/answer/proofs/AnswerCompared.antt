@@ -116,6 +116,7 @@ module _ (M : Model) (table message reply : List ℕ) where
       go (Memᴰ.tail (Memᴰ.tail (Memᴰ.head e))) = said 3 e refl
       go (Memᴰ.tail (Memᴰ.tail (Memᴰ.tail (Memᴰ.head e)))) = said 4 e refl
       go (Memᴰ.tail (Memᴰ.tail (Memᴰ.tail (Memᴰ.tail (Memᴰ.head e))))) = said 9 e refl
+      go (Memᴰ.tail (Memᴰ.tail (Memᴰ.tail (Memᴰ.tail (Memᴰ.tail x))))) = elim x [ ]
 
   module _ (T : Table) (m : Message) (parses : parse format_one M table ≡ some T) (reads : message_at format_one message ≡ some m) where
     -- messages 5 to 7 seek no stamp
@@ -137,6 +138,7 @@ module _ (M : Model) (table message reply : List ℕ) where
         go (Memᴰ.tail (Memᴰ.tail (Memᴰ.head is))) = said 6 is refl
         go (Memᴰ.tail (Memᴰ.tail (Memᴰ.tail (Memᴰ.head is)))) = said 7 is refl
         go (Memᴰ.tail (Memᴰ.tail (Memᴰ.tail (Memᴰ.tail (Memᴰ.head is))))) = said 8 is refl
+        go (Memᴰ.tail (Memᴰ.tail (Memᴰ.tail (Memᴰ.tail (Memᴰ.tail x))))) = elim x [ ]
 
     -- "an empty table gives 0"
     pub empty_compares_none : T.rows ≡ [] → call_compared M table message reply ≡ 0

@@ -11,7 +11,6 @@ use lib.ListN.{length}
 use borrow.Author.Tests.{eqb-true, ne_eqb}
 use Rattle.wire.specs.Parts.{replaced}
 use Rattle.rules.specs.Tests.{both, either}
-use Rattle.rules.proofs.Groups.{group_bounds}
 use Rattle.rules.specs.Tables.{Model, Table, valley, table_by_rule}
 use Rattle.rules.specs.Messages.{Message, table_after}
 use Rattle.rules.specs.Circumstances.{too_small, reply_too_small, message_by_rule}

@@ -18,7 +18,7 @@ read-asked-requires c = let p = c in rw c.read-n.ensures (some_boxes (limited p.
 pub serve-requires : goal.serve-requires
 serve-requires c = let p = c in
     let m = c.read-asked.ensures in
-    record { begins_with_image = (widened p.args.limit p.args.table.now p.requires.0 (found_begins (limited p.args.limit) p.args.table.now _ (sym c.in-Image.is ∙ c.find.ensures)), p.requires.0, p.requires.1); asked_value = (rw c.read-n.ensures at m.0, m.1) }
+    record { begins_with_image = (widened p.args.limit p.args.table.now p.requires.0 (found_begins (limited p.args.limit) p.args.table.now _ (sym c.in-Image.is ∙ c.find.ensures)), p.requires.0, p.requires.1); asked_value = (rw c.read-n.ensures at m.result_value, m.coded) }
 
 pub returns : goal.returns
 returns c = let p = c in
@@ -28,4 +28,4 @@ returns c = let p = c in
     let (reply, buffer) = heard_so (limited p.args.limit) s p.args.message.now _ begins told in
     let compared = heard_compared_lem (limited p.args.limit) s p.args.message.now _ begins told in
     let n = c.serve.ensures in
-    record { reply_value = (n.0.0 ∙ reply, n.0.1 ∙ compared); table_after = n.1 ∙ buffer }
+    record { reply_value = (n.reply_value.0 ∙ reply, n.reply_value.1 ∙ compared); table_after = n.table_after ∙ buffer }

@@ -58,8 +58,8 @@ pub returns-in-FinalisePrepare : goal.returns-in-FinalisePrepare
 returns-in-FinalisePrepare c =
     let p = c in
     let n = c.finalise_prepare.ensures in
-    let (reply, after) = kept_any valley (limited p.args.limit) _ p.args.table.now (λ T. same_2 valley (limited p.args.limit) T _ _ _) (n.0.0, n.1) in
-    rw c.in-FinalisePrepare.is ((reply, n.0.1), after)
+    let (reply, after) = kept_any valley (limited p.args.limit) _ p.args.table.now (λ T. same_2 valley (limited p.args.limit) T _ _ _) (n.reply_value.0, n.table_after) in
+    rw c.in-FinalisePrepare.is record { reply_value = (reply, n.reply_value.1); table_after = after }
 
 pub returns-in-ProposeOutcome : goal.returns-in-ProposeOutcome
 returns-in-ProposeOutcome c = rw c.in-ProposeOutcome.is c.propose_outcome.ensures
@@ -68,23 +68,23 @@ pub returns-in-FinaliseOutcome : goal.returns-in-FinaliseOutcome
 returns-in-FinaliseOutcome c =
     let p = c in
     let n = c.finalise_outcome.ensures in
-    let (reply, after) = kept_any valley (limited p.args.limit) _ p.args.table.now (λ T. same_4 valley (limited p.args.limit) T _ _ _) (n.0.0, n.1) in
-    rw c.in-FinaliseOutcome.is ((reply, n.0.1), after)
+    let (reply, after) = kept_any valley (limited p.args.limit) _ p.args.table.now (λ T. same_4 valley (limited p.args.limit) T _ _ _) (n.reply_value.0, n.table_after) in
+    rw c.in-FinaliseOutcome.is record { reply_value = (reply, n.reply_value.1); table_after = after }
 
 pub returns-in-ChangeView : goal.returns-in-ChangeView
 unfolding served_compared
 returns-in-ChangeView c =
     let p = c in
-    let (reply, after) = kept_any valley (limited p.args.limit) _ p.args.table.now (λ T. same_5 valley (limited p.args.limit) T _) c.change_view.ensures in
-    rw c.in-ChangeView.is ((c.with_compared.ensures.0 ∙ reply, c.with_compared.ensures.1), after)
+    let (reply, after) = kept_any valley (limited p.args.limit) _ p.args.table.now (λ T. same_5 valley (limited p.args.limit) T _) (c.change_view.ensures.value, c.change_view.ensures.table_after) in
+    rw c.in-ChangeView.is record { reply_value = (c.with_compared.ensures.0 ∙ reply, c.with_compared.ensures.1); table_after = after }
 
 pub returns-in-StartView : goal.returns-in-StartView
 unfolding served_compared
 returns-in-StartView c =
     let p = c in
     let I = table_at format_one (drop 5 p.args.message.now) in
-    let (reply, after) = kept_any valley (limited p.args.limit) _ p.args.table.now (λ T. same_6 valley (limited p.args.limit) T _ I) (rw (up_to_end p.args.message.now 5) at c.start_view.ensures) in
-    rw c.in-StartView.is ((c.with_compared-in-StartView.ensures.0 ∙ reply, c.with_compared-in-StartView.ensures.1), after)
+    let (reply, after) = kept_any valley (limited p.args.limit) _ p.args.table.now (λ T. same_6 valley (limited p.args.limit) T _ I) (rw (up_to_end p.args.message.now 5) at c.start_view.ensures.value, rw (up_to_end p.args.message.now 5) at c.start_view.ensures.table_after) in
+    rw c.in-StartView.is record { reply_value = (c.with_compared-in-StartView.ensures.0 ∙ reply, c.with_compared-in-StartView.ensures.1); table_after = after }
 
 pub returns-in-ReadRegister : goal.returns-in-ReadRegister
 unfolding served_compared

@@ -11,11 +11,13 @@ read-h-requires c = let p = c in holds_least format_one p.args.table.now one_sta
 
 pub returns-then-view-h : goal.returns-then-view-h
 returns-then-view-h c = let p = c in
-    rw c.refusal.ensures (change_refused p.args.table.now p.args.view (image_holds valley p.args.table.now p.requires) (rw c.read-h.ensures at c.if-view-h.true))
+    let (reply, after) = change_refused p.args.table.now p.args.view (image_holds valley p.args.table.now p.requires) (rw c.read-h.ensures at c.if-view-h.true) in
+    rw c.refusal.ensures record { value = reply; table_after = after }
 
 pub promise-requires : goal.promise-requires
 promise-requires c = let p = c in image_holds valley p.args.table.now p.requires
 
 pub returns : goal.returns
 returns c = let p = c in
-    rw (c.promise.ensures, c.read-h.ensures) (change_taken p.args.table.now p.args.view (image_holds valley p.args.table.now p.requires) (rw c.read-h.ensures at c.if-view-h.false))
+    let (reply, after) = change_taken p.args.table.now p.args.view (image_holds valley p.args.table.now p.requires) (rw c.read-h.ensures at c.if-view-h.false) in
+    rw (c.promise.ensures, c.read-h.ensures) record { value = reply; table_after = after }

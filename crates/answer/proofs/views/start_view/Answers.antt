@@ -18,7 +18,8 @@ returns-then-view-h c = let p = c in
     let s = p.args.table.now in
     let holds = image_holds valley s p.requires.0 in
     let I = table_at format_one p.args.image.now in
-    rw c.refusal.ensures (start_refused s p.args.view holds I (below_promised s p.args.view holds I (rw c.read-h.ensures at c.if-view-h.true)))
+    let (reply, after) = start_refused s p.args.view holds I (below_promised s p.args.view holds I (rw c.read-h.ensures at c.if-view-h.true)) in
+    rw c.refusal.ensures record { value = reply; table_after = after }
 
 pub returns-then-view-h-2 : goal.returns-then-view-h-2
 returns-then-view-h-2 c = let p = c in
@@ -27,7 +28,8 @@ returns-then-view-h-2 c = let p = c in
     let I = table_at format_one p.args.image.now in
     let met : (header_at s).promised ≤ p.args.view = rw c.read-h.ensures at c.if-view-h.false in
     let old : p.args.view ≤ (header_at s).view = rw c.read-h.ensures at c.if-view-h-2.true in
-    rw c.refusal-then-view-h-2.ensures (start_refused s p.args.view holds I (at_or_below_view s p.args.view holds I met old))
+    let (reply, after) = start_refused s p.args.view holds I (at_or_below_view s p.args.view holds I met old) in
+    rw c.refusal-then-view-h-2.ensures record { value = reply; table_after = after }
 
 pub take_image-requires : goal.take_image-requires
 take_image-requires c = let p = c in
@@ -36,5 +38,6 @@ take_image-requires c = let p = c in
 pub returns : goal.returns
 returns c = let p = c in
     let s = p.args.table.now in
-    rw (c.take_image.ensures, c.read-h.ensures) (start_taken s p.args.view (image_holds valley s p.requires.0) (table_at format_one p.args.image.now)
-    (rw c.read-h.ensures at c.if-view-h.false) (rw c.read-h.ensures at c.if-view-h-2.false) (view_said p.args.image.now ∙ p.requires.2))
+    let (reply, after) = start_taken s p.args.view (image_holds valley s p.requires.0) (table_at format_one p.args.image.now)
+    (rw c.read-h.ensures at c.if-view-h.false) (rw c.read-h.ensures at c.if-view-h-2.false) (view_said p.args.image.now ∙ p.requires.2) in
+    rw (c.take_image.ensures, c.read-h.ensures) record { value = reply; table_after = after }
