@@ -19,14 +19,14 @@ use Rattle.merge.proofs.call.merge.Goals as goal
 pub returns-then-out-model : goal.returns-then-out-model
 returns-then-out-model c =
     let least : c.valley-model.result.least ≡ 49176 = ap (λ (M : Model). M.least_buffer) c.valley-model.ensures in
-    let e = least in let l = c.if-out-model.true in kept_small _ _ _ (omega arith)
+    let e = least in let l = c.if-out-model.true in let (number, after) = kept_small c.args.run.now c.args.out.now c.args.view (omega arith) in record { value = number; out_after = after }
 
 pub returns-then-not-is_whole : goal.returns-then-not-is_whole
 returns-then-not-is_whole c =
     let least : c.valley-model.result.least ≡ 49176 = ap (λ (M : Model). M.least_buffer) c.valley-model.ensures in
     let long : 49176 ≤ length c.args.out.now = (let e = least in let l = c.if-out-model.false in omega arith) in
     let told : c.is_whole.result ≡ is_some (run_tables valley c.args.run.now) = c.is_whole.ensures ∙ ap (λ (M : Model). is_some (run_tables M c.args.run.now)) c.valley-model.ensures in
-    kept_bad _ _ _ long (sym told ∙ c.if-not-is_whole.true)
+    let (number, after) = kept_bad c.args.run.now c.args.out.now c.args.view long (sym told ∙ c.if-not-is_whole.true) in record { value = number; out_after = after }
 
 pub are_wrong-requires : goal.are_wrong-requires
 are_wrong-requires c =
@@ -40,7 +40,7 @@ returns-then-are_wrong c =
     let long : 49176 ≤ length c.args.out.now = (let e = least in let l = c.if-out-model.false in omega arith) in
     let told : c.is_whole.result ≡ is_some (run_tables valley c.args.run.now) = c.is_whole.ensures ∙ ap (λ (M : Model). is_some (run_tables M c.args.run.now)) c.valley-model.ensures in
     let whole : is_some (run_tables valley c.args.run.now) ≡ true = sym told ∙ c.if-not-is_whole.false in
-    kept_wrong _ _ _ long whole (sym c.are_wrong.ensures ∙ c.if-are_wrong.true)
+    let (number, after) = kept_wrong c.args.run.now c.args.out.now c.args.view long whole (sym c.are_wrong.ensures ∙ c.if-are_wrong.true) in record { value = number; out_after = after }
 
 pub newest_view-newest-requires : goal.newest_view-newest-requires
 newest_view-newest-requires c =
@@ -75,7 +75,7 @@ returns-then-number-eq0 c =
     let right : are_wrong c.args.view (tables_of valley c.args.run.now) ≡ false = sym c.are_wrong.ensures ∙ c.if-are_wrong.false in
     let limit : c.valley-model.result.limit ≡ 512 = ap (λ (M : Model). M.row_limit) c.valley-model.ensures in
     let counted : c.number-number.result ≡ survey_number 512 c.survey_stamps-seen.result = c.number-number.ensures ∙ ap (λ limit. survey_number limit c.survey_stamps-seen.result) limit in
-    kept_done _ c.args.out.now c.args.view long whole right _ c.newest_view-newest.ensures _ c.survey_stamps-seen.ensures _ counted c.if-number-eq0.true _ c.write_merged.ensures
+    let (number, after) = kept_done c.args.run.now c.args.out.now c.args.view long whole right _ c.newest_view-newest.ensures _ c.survey_stamps-seen.ensures _ counted c.if-number-eq0.true _ c.write_merged.ensures in record { value = number; out_after = after }
 
 pub returns-else-number-eq0 : goal.returns-else-number-eq0
 returns-else-number-eq0 c =
@@ -86,4 +86,4 @@ returns-else-number-eq0 c =
     let right : are_wrong c.args.view (tables_of valley c.args.run.now) ≡ false = sym c.are_wrong.ensures ∙ c.if-are_wrong.false in
     let limit : c.valley-model.result.limit ≡ 512 = ap (λ (M : Model). M.row_limit) c.valley-model.ensures in
     let counted : c.number-number.result ≡ survey_number 512 c.survey_stamps-seen.result = c.number-number.ensures ∙ ap (λ limit. survey_number limit c.survey_stamps-seen.result) limit in
-    kept_survey _ c.args.out.now c.args.view long whole right _ c.newest_view-newest.ensures _ c.survey_stamps-seen.ensures _ counted c.if-number-eq0.false
+    let (number, after) = kept_survey c.args.run.now c.args.out.now c.args.view long whole right _ c.newest_view-newest.ensures _ c.survey_stamps-seen.ensures _ counted c.if-number-eq0.false in record { value = number; out_after = after }

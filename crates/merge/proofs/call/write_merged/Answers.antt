@@ -1,6 +1,5 @@
 -- The rows before any check and the header, the agreed ones checked, then the open ones.
 use mathlib.Core.Path.{◌≡◌, sym, ap, ◌∙◌}
-use mathlib.Core.List.{List}
 use Prim.Native.Nat.{◌-◌, ◌≤◌}
 use native.Mathlib.Omega.{arith}
 use lib.ListN.{length}
@@ -22,9 +21,6 @@ use Rattle.merge.proofs.RowsWritten.{bodies_all}
 use Rattle.merge.proofs.MergedBuffers.{starting, header_laid, first_ready, second_ready, last_is, merged_is}
 use Rattle.merge.proofs.call.write_merged.Goals as goal
 
-abbrev used : goal.Start → List Table
-used p = used_of p.args.newest (tables_of valley p.args.run.now)
-
 pub read-n-requires : goal.read-n-requires
 read-n-requires c = let p = c in first_room _ p.requires.images.1 p.requires.images.0
 
@@ -33,7 +29,7 @@ agreement-agreement-requires c = let p = c in rw c.read-n.ensures (group_some _ 
 
 pub write_rows-written-requires : goal.write_rows-written-requires
 write_rows-written-requires c =
-    let counted : c.args.rows ≡ length (stamps (used c)) = rw c.requires.run_value.0 c.requires.run_value.1 in
+    let counted : c.args.rows ≡ length (stamps (used_of c.args.newest (tables_of valley c.args.run.now))) = rw c.requires.run_value.0 c.requires.run_value.1 in
     let p = c in (p.requires.images.0, p.requires.images.3, counted, p.requires.run_value.2, p.requires.images.2)
 
 pub overflow_cast-rows : goal.overflow_cast-rows
@@ -41,10 +37,10 @@ overflow_cast-rows c = let l = c.requires.run_value.2 in omega arith
 
 pub overflow_cast-written : goal.overflow_cast-written
 overflow_cast-written c =
-    let regular : AllRegular (used c) = used_regular _ _ (all_regular _ c.requires.images.0) in
-    let counted : c.args.rows ≡ length (stamps (used c)) = rw c.requires.run_value.0 c.requires.run_value.1 in
+    let regular : AllRegular (used_of c.args.newest (tables_of valley c.args.run.now)) = used_regular _ _ (all_regular _ c.requires.images.0) in
+    let counted : c.args.rows ≡ length (stamps (used_of c.args.newest (tables_of valley c.args.run.now))) = rw c.requires.run_value.0 c.requires.run_value.1 in
     let p = c in
-    let e = c.write_rows-written.ensures.0.0 in
+    let e = c.write_rows-written.ensures.end_value.0 in
     let b = bodies_all c.agreement-agreement.result _ regular in
     let k = counted in
     let l = p.requires.run_value.2 in
@@ -54,36 +50,36 @@ pub start_header-requires : goal.start_header-requires
 start_header-requires c = let p = c in rw c.read-n.ensures (group_some _ p.requires.images.1 p.requires.images.0)
 
 pub write-requires : goal.write-requires
-write-requires c = let k = c.write_rows-written.auto.0 in let l = c.requires.images.2 in omega arith
+write-requires c = let k = c.write_rows-written.auto.out in let l = c.requires.images.2 in omega arith
 
 pub check_rows-requires : goal.check_rows-requires
 check_rows-requires c =
-    let regular : AllRegular (used c) = used_regular _ _ (all_regular _ c.requires.images.0) in
-    let counted : c.args.rows ≡ length (stamps (used c)) = rw c.requires.run_value.0 c.requires.run_value.1 in
-    let few : length (stamps (used c)) ≤ 512 = rw counted at c.requires.run_value.2 in
-    let laid : (let p = c in c.write.new.0 ≡ replaced p.args.out.now 0 (image format_one (starting c.read-n.result.n p.args.view (unchecked_rows c.agreement-agreement.result (used p))))) = (let p = c in let w = c.write_rows-written in let l = p.requires.images.2 in let k = p.requires.run_value.2 in c.write.ensures ∙ ap (λ (h : Header). replaced w.new.0 0 (header_bytes h)) c.start_header.ensures ∙ header_laid (used p) c.agreement-agreement.result c.read-n.result.n p.args.view p.args.rows w.result.end p.args.out.now w.new.0 (omega arith) counted w.ensures.1 w.ensures.0.0) in
-    let laid-bytes : AllBytes c.write.new.0 = all_of c.write.new.0 (λ i. (c.slice_known-3-1.given i).fits) in
+    let regular : AllRegular (used_of c.args.newest (tables_of valley c.args.run.now)) = used_regular _ _ (all_regular _ c.requires.images.0) in
+    let counted : c.args.rows ≡ length (stamps (used_of c.args.newest (tables_of valley c.args.run.now))) = rw c.requires.run_value.0 c.requires.run_value.1 in
+    let few : length (stamps (used_of c.args.newest (tables_of valley c.args.run.now))) ≤ 512 = rw counted at c.requires.run_value.2 in
+    let laid : (let p = c in c.write.new.s ≡ replaced p.args.out.now 0 (image format_one (starting c.read-n.result.n p.args.view (unchecked_rows c.agreement-agreement.result (used_of c.args.newest (tables_of valley c.args.run.now)))))) = (let p = c in let w = c.write_rows-written in let l = p.requires.images.2 in let k = p.requires.run_value.2 in c.write.ensures ∙ ap (λ (h : Header). replaced w.new.out 0 (header_bytes h)) c.start_header.ensures ∙ header_laid (used_of c.args.newest (tables_of valley c.args.run.now)) c.agreement-agreement.result c.read-n.result.n p.args.view p.args.rows w.result.end p.args.out.now w.new.out (omega arith) counted w.ensures.out_after w.ensures.end_value.0) in
+    let laid-bytes : AllBytes c.write.new.s = all_of c.write.new.s (λ i. (c.slice_known-3-1.given i).fits) in
     let p = c in first_ready _ regular _ _ _ _ _ few laid laid-bytes
 
 pub check_rows-requires-2 : goal.check_rows-requires-2
 check_rows-requires-2 c =
-    let regular : AllRegular (used c) = used_regular _ _ (all_regular _ c.requires.images.0) in
-    let counted : c.args.rows ≡ length (stamps (used c)) = rw c.requires.run_value.0 c.requires.run_value.1 in
-    let few : length (stamps (used c)) ≤ 512 = rw counted at c.requires.run_value.2 in
-    let laid : (let p = c in c.write.new.0 ≡ replaced p.args.out.now 0 (image format_one (starting c.read-n.result.n p.args.view (unchecked_rows c.agreement-agreement.result (used p))))) = (let p = c in let w = c.write_rows-written in let l = p.requires.images.2 in let k = p.requires.run_value.2 in c.write.ensures ∙ ap (λ (h : Header). replaced w.new.0 0 (header_bytes h)) c.start_header.ensures ∙ header_laid (used p) c.agreement-agreement.result c.read-n.result.n p.args.view p.args.rows w.result.end p.args.out.now w.new.0 (omega arith) counted w.ensures.1 w.ensures.0.0) in
-    let laid-bytes : AllBytes c.write.new.0 = all_of c.write.new.0 (λ i. (c.slice_known-3-1.given i).fits) in
-    let checked-bytes : AllBytes c.check_rows.new.0 = all_of c.check_rows.new.0 (λ i. (c.slice_known-4-1.given i).fits) in
+    let regular : AllRegular (used_of c.args.newest (tables_of valley c.args.run.now)) = used_regular _ _ (all_regular _ c.requires.images.0) in
+    let counted : c.args.rows ≡ length (stamps (used_of c.args.newest (tables_of valley c.args.run.now))) = rw c.requires.run_value.0 c.requires.run_value.1 in
+    let few : length (stamps (used_of c.args.newest (tables_of valley c.args.run.now))) ≤ 512 = rw counted at c.requires.run_value.2 in
+    let laid : (let p = c in c.write.new.s ≡ replaced p.args.out.now 0 (image format_one (starting c.read-n.result.n p.args.view (unchecked_rows c.agreement-agreement.result (used_of c.args.newest (tables_of valley c.args.run.now)))))) = (let p = c in let w = c.write_rows-written in let l = p.requires.images.2 in let k = p.requires.run_value.2 in c.write.ensures ∙ ap (λ (h : Header). replaced w.new.out 0 (header_bytes h)) c.start_header.ensures ∙ header_laid (used_of c.args.newest (tables_of valley c.args.run.now)) c.agreement-agreement.result c.read-n.result.n p.args.view p.args.rows w.result.end p.args.out.now w.new.out (omega arith) counted w.ensures.out_after w.ensures.end_value.0) in
+    let laid-bytes : AllBytes c.write.new.s = all_of c.write.new.s (λ i. (c.slice_known-3-1.given i).fits) in
+    let checked-bytes : AllBytes c.check_rows.new.out = all_of c.check_rows.new.out (λ i. (c.slice_known-4-1.given i).fits) in
     let p = c in second_ready _ regular _ _ _ _ _ few laid laid-bytes _ _ c.check_rows.ensures checked-bytes
 
 pub returns : goal.returns
 returns c =
-    let regular : AllRegular (used c) = used_regular _ _ (all_regular _ c.requires.images.0) in
-    let counted : c.args.rows ≡ length (stamps (used c)) = rw c.requires.run_value.0 c.requires.run_value.1 in
-    let few : length (stamps (used c)) ≤ 512 = rw counted at c.requires.run_value.2 in
-    let laid : (let p = c in c.write.new.0 ≡ replaced p.args.out.now 0 (image format_one (starting c.read-n.result.n p.args.view (unchecked_rows c.agreement-agreement.result (used p))))) = (let p = c in let w = c.write_rows-written in let l = p.requires.images.2 in let k = p.requires.run_value.2 in c.write.ensures ∙ ap (λ (h : Header). replaced w.new.0 0 (header_bytes h)) c.start_header.ensures ∙ header_laid (used p) c.agreement-agreement.result c.read-n.result.n p.args.view p.args.rows w.result.end p.args.out.now w.new.0 (omega arith) counted w.ensures.1 w.ensures.0.0) in
-    let laid-bytes : AllBytes c.write.new.0 = all_of c.write.new.0 (λ i. (c.slice_known-3-1.given i).fits) in
-    let checked-bytes : AllBytes c.check_rows.new.0 = all_of c.check_rows.new.0 (λ i. (c.slice_known-4-1.given i).fits) in
-    let the_merged_lem : (let p = c in starting c.read-n.result.n p.args.view (merged_rows check c.agreement-agreement.result (used p)) ≡ merged_table check p.args.view (tables_of valley p.args.run.now)) = (let p = c in let e : c.read-n.result.n ≡ group_of (tables_of valley p.args.run.now) = ap (λ (h : Header). h.n) c.read-n.ensures ∙ sym (group_read _ p.requires.images.1 p.requires.images.0) in rw (c.agreement-agreement.ensures, p.requires.run_value.0) (merged_is _ _ _ e)) in
+    let regular : AllRegular (used_of c.args.newest (tables_of valley c.args.run.now)) = used_regular _ _ (all_regular _ c.requires.images.0) in
+    let counted : c.args.rows ≡ length (stamps (used_of c.args.newest (tables_of valley c.args.run.now))) = rw c.requires.run_value.0 c.requires.run_value.1 in
+    let few : length (stamps (used_of c.args.newest (tables_of valley c.args.run.now))) ≤ 512 = rw counted at c.requires.run_value.2 in
+    let laid : (let p = c in c.write.new.s ≡ replaced p.args.out.now 0 (image format_one (starting c.read-n.result.n p.args.view (unchecked_rows c.agreement-agreement.result (used_of c.args.newest (tables_of valley c.args.run.now)))))) = (let p = c in let w = c.write_rows-written in let l = p.requires.images.2 in let k = p.requires.run_value.2 in c.write.ensures ∙ ap (λ (h : Header). replaced w.new.out 0 (header_bytes h)) c.start_header.ensures ∙ header_laid (used_of c.args.newest (tables_of valley c.args.run.now)) c.agreement-agreement.result c.read-n.result.n p.args.view p.args.rows w.result.end p.args.out.now w.new.out (omega arith) counted w.ensures.out_after w.ensures.end_value.0) in
+    let laid-bytes : AllBytes c.write.new.s = all_of c.write.new.s (λ i. (c.slice_known-3-1.given i).fits) in
+    let checked-bytes : AllBytes c.check_rows.new.out = all_of c.check_rows.new.out (λ i. (c.slice_known-4-1.given i).fits) in
+    let the_merged_lem : (let p = c in starting c.read-n.result.n p.args.view (merged_rows check c.agreement-agreement.result (used_of c.args.newest (tables_of valley c.args.run.now))) ≡ merged_table check p.args.view (tables_of valley p.args.run.now)) = (let p = c in let e : c.read-n.result.n ≡ group_of (tables_of valley p.args.run.now) = ap (λ (h : Header). h.n) c.read-n.ensures ∙ sym (group_read _ p.requires.images.1 p.requires.images.0) in rw (c.agreement-agreement.ensures, p.requires.run_value.0) (merged_is _ _ _ e)) in
     let p = c in
-    last_is _ regular _ _ _ _ _ few laid laid-bytes _ _ c.check_rows.ensures checked-bytes c.write_rows-written.ensures.0.1 _ c.check_rows-2.ensures
+    last_is _ regular _ _ _ _ _ few laid laid-bytes _ _ c.check_rows.ensures checked-bytes c.write_rows-written.ensures.end_value.1 _ c.check_rows-2.ensures
     ∙ ap (λ (T : Table). replaced p.args.out.now 0 (image format_one T)) the_merged_lem

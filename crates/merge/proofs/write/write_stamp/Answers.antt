@@ -1,15 +1,14 @@
 -- The fields of the first image that holds the stamp, with the state of its row before any check; then its body.
 use mathlib.Core.Path.{◌≡◌, refl, ap, ◌∙◌}
 use mathlib.Core.Bool.{not}
-use mathlib.Core.List.{List}
-use Prim.Native.Nat.{ℕ, ◌+◌}
+use Prim.Native.Nat.{◌+◌}
 use native.Mathlib.Omega.{arith}
 use lib.Dec.{eqb}
 use lib.ListN.{length}
 use Rattle.wire.specs.Inner.ByteLists.{AllBytes}
 use Rattle.wire.specs.Parts.{replaced}
 use Rattle.wire.proofs.Numbers.{all_of}
-use Rattle.rules.specs.Tables.{Row, valley}
+use Rattle.rules.specs.Tables.{valley}
 use Rattle.rules.specs.Merge.{agreed_of, unchecked_row}
 use Rattle.rows.specs.Bytes.{length_of}
 use Rattle.table.specs.Images.{format_one}
@@ -29,18 +28,11 @@ use Rattle.decide.proofs.UncheckedBytes.{agreed_code, agreed_some, unchecked_fro
 use Rattle.merge.proofs.RowsWritten.{body_long, stamp_laid}
 use Rattle.merge.proofs.write.write_stamp.Goals as goal
 
--- the rows of the stamp
-abbrev rows : goal.Start → List Row
-rows p = rows_in p.args.run.now p.args.gathered
-
-abbrev from : goal.Start → List ℕ
-from p = let g = p.args.gathered in from_first g.cursors.newest g.cursors.last (tables_of valley p.args.run.now) p.args.run.now
-
 pub unchecked_state-state-requires : goal.unchecked_state-state-requires
 unchecked_state-state-requires c =
     let bytes : AllBytes c.args.run.now = all_of c.args.run.now (λ i. (c.shared_slice_known-1.given i).fits) in
-    let agreed_is : c.agreed_result-agreed.result ≡ agreed_as (agreed_of c.args.agreement (rows c.before.before.before)) = (let p = c in c.agreed_result-agreed.ensures ∙ agreed_gathered p.args.run.now bytes p.requires.0.0 p.requires.0.1 p.args.gathered p.requires.0.2 p.args.agreement) in
-    let p = c in rw agreed_is (agreed_code (agreed_of p.args.agreement (rows p)))
+    let agreed_is : c.agreed_result-agreed.result ≡ agreed_as (agreed_of c.args.agreement (rows_in c.args.run.now c.args.gathered)) = (let p = c in c.agreed_result-agreed.ensures ∙ agreed_gathered p.args.run.now bytes p.requires.images.0 p.requires.images.1 p.args.gathered p.requires.images.2 p.args.agreement) in
+    let p = c in rw agreed_is (agreed_code (agreed_of p.args.agreement (rows_in c.args.run.now c.args.gathered)))
 
 pub slice_bounds-body_of-count : goal.slice_bounds-body_of-count
 slice_bounds-body_of-count c = let l = c.first_of-first.ensures.0 in omega arith
@@ -54,8 +46,8 @@ slice_bounds-body_of-end c = let l = c.first_of-first.ensures.0 in omega arith
 pub body_of-body-requires : goal.body_of-body-requires
 body_of-body-requires c =
     let bytes : AllBytes c.args.run.now = all_of c.args.run.now (λ i. (c.shared_slice_known-1.given i).fits) in
-    let held : (let p = c in let g = p.args.gathered in FirstHeld g.cursors.newest g.cursors.last (tables_of valley p.args.run.now) p.args.run.now (from p)) = (let p = c in first_held _ _ _ _ bytes p.requires.0.0 p.requires.0.3) in
-    let same : part_at c.args.run.now c.first_of-first.result.at ≡ from c.before.before.before.before.before.before = rest_of c.args.run.now c.first_of-first.result.at ∙ c.first_of-first.ensures.1 in
+    let held : (let p = c in let g = p.args.gathered in FirstHeld g.cursors.newest g.cursors.last (tables_of valley p.args.run.now) p.args.run.now (let g = c.args.gathered in from_first g.cursors.newest g.cursors.last (tables_of valley c.args.run.now) c.args.run.now)) = (let p = c in first_held _ _ _ _ bytes p.requires.images.0 p.requires.images.3) in
+    let same : part_at c.args.run.now c.first_of-first.result.at ≡ (let g = c.args.gathered in from_first g.cursors.newest g.cursors.last (tables_of valley c.args.run.now) c.args.run.now) = rest_of c.args.run.now c.first_of-first.result.at ∙ c.first_of-first.ensures.1 in
     let told : (let p = c in let g = p.args.gathered in let first = part_at p.args.run.now c.first_of-first.result.at in c.first_of-first.result.row ≡ fields_for first (place_in g.cursors.newest (table_at format_one first) g.cursors.last)) = rw (rest_of c.args.run.now c.first_of-first.result.at) c.first_of-first.ensures.2 in
     let f = c in first_body _ _ _ _ _ held _ same _ told
 
@@ -65,43 +57,43 @@ overflow_cast-row c = let l = c.requires.index_bound.2 in omega arith
 pub copy_part-requires : goal.copy_part-requires
 copy_part-requires c =
     let bytes : AllBytes c.args.run.now = all_of c.args.run.now (λ i. (c.shared_slice_known-1.given i).fits) in
-    let held : (let p = c in let g = p.args.gathered in FirstHeld g.cursors.newest g.cursors.last (tables_of valley p.args.run.now) p.args.run.now (from p)) = (let p = c in first_held _ _ _ _ bytes p.requires.0.0 p.requires.0.3) in
-    let agreed_is : c.agreed_result-agreed.result ≡ agreed_as (agreed_of c.args.agreement (rows c.before.before.before)) = (let p = c in c.agreed_result-agreed.ensures ∙ agreed_gathered p.args.run.now bytes p.requires.0.0 p.requires.0.1 p.args.gathered p.requires.0.2 p.args.agreement) in
-    let state-is : c.unchecked_state-state.result ≡ unchecked_as c.args.agreement (rows c.before.before.before.before.before) = (let p = c in let s = c.state_of.ensures ∙ state_gathered p.args.run.now bytes p.requires.0.0 p.requires.0.1 p.args.gathered p.requires.0.2 in c.unchecked_state-state.ensures ∙ rw (s, agreed_is) (unchecked_from_lem p.args.agreement (rows p))) in
-    let same : part_at c.args.run.now c.first_of-first.result.at ≡ from c.before.before.before.before.before.before = rest_of c.args.run.now c.first_of-first.result.at ∙ c.first_of-first.ensures.1 in
+    let held : (let p = c in let g = p.args.gathered in FirstHeld g.cursors.newest g.cursors.last (tables_of valley p.args.run.now) p.args.run.now (let g = c.args.gathered in from_first g.cursors.newest g.cursors.last (tables_of valley c.args.run.now) c.args.run.now)) = (let p = c in first_held _ _ _ _ bytes p.requires.images.0 p.requires.images.3) in
+    let agreed_is : c.agreed_result-agreed.result ≡ agreed_as (agreed_of c.args.agreement (rows_in c.args.run.now c.args.gathered)) = (let p = c in c.agreed_result-agreed.ensures ∙ agreed_gathered p.args.run.now bytes p.requires.images.0 p.requires.images.1 p.args.gathered p.requires.images.2 p.args.agreement) in
+    let state-is : c.unchecked_state-state.result ≡ unchecked_as c.args.agreement (rows_in c.args.run.now c.args.gathered) = (let p = c in let s = c.state_of.ensures ∙ state_gathered p.args.run.now bytes p.requires.images.0 p.requires.images.1 p.args.gathered p.requires.images.2 in c.unchecked_state-state.ensures ∙ rw (s, agreed_is) (unchecked_from_lem p.args.agreement (rows_in c.args.run.now c.args.gathered))) in
+    let same : part_at c.args.run.now c.first_of-first.result.at ≡ (let g = c.args.gathered in from_first g.cursors.newest g.cursors.last (tables_of valley c.args.run.now) c.args.run.now) = rest_of c.args.run.now c.first_of-first.result.at ∙ c.first_of-first.ensures.1 in
     let told : (let p = c in let g = p.args.gathered in let first = part_at p.args.run.now c.first_of-first.result.at in c.first_of-first.result.row ≡ fields_for first (place_in g.cursors.newest (table_at format_one first) g.cursors.last)) = rw (rest_of c.args.run.now c.first_of-first.result.at) c.first_of-first.ensures.2 in
-    let long : (let p = c in length c.body_of-body.result.now ≡ length_of (unchecked_row p.args.agreement p.args.gathered.cursors.last (rows p)).body) = (let p = c in let f = c in ap length c.body_of-body.ensures ∙ body_long _ _ _ _ _ (all_regular _ p.requires.0.0) held _ same _ told p.args.agreement _ state-is) in
+    let long : (let p = c in length c.body_of-body.result.now ≡ length_of (unchecked_row p.args.agreement p.args.gathered.cursors.last (rows_in c.args.run.now c.args.gathered)).body) = (let p = c in let f = c in ap length c.body_of-body.ensures ∙ body_long _ _ _ _ _ (all_regular _ p.requires.images.0) held _ same _ told p.args.agreement _ state-is) in
     let p = c in
     let b = long in
-    let k = c.write_row.auto.0 in
-    let l = p.requires.1.2 in
-    let m = p.requires.1.3 in
+    let k = c.write_row.auto.image in
+    let l = p.requires.index_bound.2 in
+    let m = p.requires.index_bound.3 in
     omega arith
 
 pub overflow_add-result : goal.overflow_add-result
 overflow_add-result c =
     let bytes : AllBytes c.args.run.now = all_of c.args.run.now (λ i. (c.shared_slice_known-1.given i).fits) in
-    let held : (let p = c in let g = p.args.gathered in FirstHeld g.cursors.newest g.cursors.last (tables_of valley p.args.run.now) p.args.run.now (from p)) = (let p = c in first_held _ _ _ _ bytes p.requires.0.0 p.requires.0.3) in
-    let agreed_is : c.agreed_result-agreed.result ≡ agreed_as (agreed_of c.args.agreement (rows c.before.before.before)) = (let p = c in c.agreed_result-agreed.ensures ∙ agreed_gathered p.args.run.now bytes p.requires.0.0 p.requires.0.1 p.args.gathered p.requires.0.2 p.args.agreement) in
-    let state-is : c.unchecked_state-state.result ≡ unchecked_as c.args.agreement (rows c.before.before.before.before.before) = (let p = c in let s = c.state_of.ensures ∙ state_gathered p.args.run.now bytes p.requires.0.0 p.requires.0.1 p.args.gathered p.requires.0.2 in c.unchecked_state-state.ensures ∙ rw (s, agreed_is) (unchecked_from_lem p.args.agreement (rows p))) in
-    let same : part_at c.args.run.now c.first_of-first.result.at ≡ from c.before.before.before.before.before.before = rest_of c.args.run.now c.first_of-first.result.at ∙ c.first_of-first.ensures.1 in
+    let held : (let p = c in let g = p.args.gathered in FirstHeld g.cursors.newest g.cursors.last (tables_of valley p.args.run.now) p.args.run.now (let g = c.args.gathered in from_first g.cursors.newest g.cursors.last (tables_of valley c.args.run.now) c.args.run.now)) = (let p = c in first_held _ _ _ _ bytes p.requires.images.0 p.requires.images.3) in
+    let agreed_is : c.agreed_result-agreed.result ≡ agreed_as (agreed_of c.args.agreement (rows_in c.args.run.now c.args.gathered)) = (let p = c in c.agreed_result-agreed.ensures ∙ agreed_gathered p.args.run.now bytes p.requires.images.0 p.requires.images.1 p.args.gathered p.requires.images.2 p.args.agreement) in
+    let state-is : c.unchecked_state-state.result ≡ unchecked_as c.args.agreement (rows_in c.args.run.now c.args.gathered) = (let p = c in let s = c.state_of.ensures ∙ state_gathered p.args.run.now bytes p.requires.images.0 p.requires.images.1 p.args.gathered p.requires.images.2 in c.unchecked_state-state.ensures ∙ rw (s, agreed_is) (unchecked_from_lem p.args.agreement (rows_in c.args.run.now c.args.gathered))) in
+    let same : part_at c.args.run.now c.first_of-first.result.at ≡ (let g = c.args.gathered in from_first g.cursors.newest g.cursors.last (tables_of valley c.args.run.now) c.args.run.now) = rest_of c.args.run.now c.first_of-first.result.at ∙ c.first_of-first.ensures.1 in
     let told : (let p = c in let g = p.args.gathered in let first = part_at p.args.run.now c.first_of-first.result.at in c.first_of-first.result.row ≡ fields_for first (place_in g.cursors.newest (table_at format_one first) g.cursors.last)) = rw (rest_of c.args.run.now c.first_of-first.result.at) c.first_of-first.ensures.2 in
-    let long : (let p = c in length c.body_of-body.result.now ≡ length_of (unchecked_row p.args.agreement p.args.gathered.cursors.last (rows p)).body) = (let p = c in let f = c in ap length c.body_of-body.ensures ∙ body_long _ _ _ _ _ (all_regular _ p.requires.0.0) held _ same _ told p.args.agreement _ state-is) in
+    let long : (let p = c in length c.body_of-body.result.now ≡ length_of (unchecked_row p.args.agreement p.args.gathered.cursors.last (rows_in c.args.run.now c.args.gathered)).body) = (let p = c in let f = c in ap length c.body_of-body.ensures ∙ body_long _ _ _ _ _ (all_regular _ p.requires.images.0) held _ same _ told p.args.agreement _ state-is) in
     let b = long in let l = c.requires.index_bound.2 in omega arith
 
 pub returns : goal.returns
 returns c =
     let bytes : AllBytes c.args.run.now = all_of c.args.run.now (λ i. (c.shared_slice_known-1.given i).fits) in
-    let held : (let p = c in let g = p.args.gathered in FirstHeld g.cursors.newest g.cursors.last (tables_of valley p.args.run.now) p.args.run.now (from p)) = (let p = c in first_held _ _ _ _ bytes p.requires.0.0 p.requires.0.3) in
-    let agreed_is : c.agreed_result-agreed.result ≡ agreed_as (agreed_of c.args.agreement (rows c.before.before.before)) = (let p = c in c.agreed_result-agreed.ensures ∙ agreed_gathered p.args.run.now bytes p.requires.0.0 p.requires.0.1 p.args.gathered p.requires.0.2 p.args.agreement) in
-    let state-is : c.unchecked_state-state.result ≡ unchecked_as c.args.agreement (rows c.before.before.before.before.before) = (let p = c in let s = c.state_of.ensures ∙ state_gathered p.args.run.now bytes p.requires.0.0 p.requires.0.1 p.args.gathered p.requires.0.2 in c.unchecked_state-state.ensures ∙ rw (s, agreed_is) (unchecked_from_lem p.args.agreement (rows p))) in
-    let same : part_at c.args.run.now c.first_of-first.result.at ≡ from c.before.before.before.before.before.before = rest_of c.args.run.now c.first_of-first.result.at ∙ c.first_of-first.ensures.1 in
+    let held : (let p = c in let g = p.args.gathered in FirstHeld g.cursors.newest g.cursors.last (tables_of valley p.args.run.now) p.args.run.now (let g = c.args.gathered in from_first g.cursors.newest g.cursors.last (tables_of valley c.args.run.now) c.args.run.now)) = (let p = c in first_held _ _ _ _ bytes p.requires.images.0 p.requires.images.3) in
+    let agreed_is : c.agreed_result-agreed.result ≡ agreed_as (agreed_of c.args.agreement (rows_in c.args.run.now c.args.gathered)) = (let p = c in c.agreed_result-agreed.ensures ∙ agreed_gathered p.args.run.now bytes p.requires.images.0 p.requires.images.1 p.args.gathered p.requires.images.2 p.args.agreement) in
+    let state-is : c.unchecked_state-state.result ≡ unchecked_as c.args.agreement (rows_in c.args.run.now c.args.gathered) = (let p = c in let s = c.state_of.ensures ∙ state_gathered p.args.run.now bytes p.requires.images.0 p.requires.images.1 p.args.gathered p.requires.images.2 in c.unchecked_state-state.ensures ∙ rw (s, agreed_is) (unchecked_from_lem p.args.agreement (rows_in c.args.run.now c.args.gathered))) in
+    let same : part_at c.args.run.now c.first_of-first.result.at ≡ (let g = c.args.gathered in from_first g.cursors.newest g.cursors.last (tables_of valley c.args.run.now) c.args.run.now) = rest_of c.args.run.now c.first_of-first.result.at ∙ c.first_of-first.ensures.1 in
     let told : (let p = c in let g = p.args.gathered in let first = part_at p.args.run.now c.first_of-first.result.at in c.first_of-first.result.row ≡ fields_for first (place_in g.cursors.newest (table_at format_one first) g.cursors.last)) = rw (rest_of c.args.run.now c.first_of-first.result.at) c.first_of-first.ensures.2 in
-    let long : (let p = c in length c.body_of-body.result.now ≡ length_of (unchecked_row p.args.agreement p.args.gathered.cursors.last (rows p)).body) = (let p = c in let f = c in ap length c.body_of-body.ensures ∙ body_long _ _ _ _ _ (all_regular _ p.requires.0.0) held _ same _ told p.args.agreement _ state-is) in
+    let long : (let p = c in length c.body_of-body.result.now ≡ length_of (unchecked_row p.args.agreement p.args.gathered.cursors.last (rows_in c.args.run.now c.args.gathered)).body) = (let p = c in let f = c in ap length c.body_of-body.ensures ∙ body_long _ _ _ _ _ (all_regular _ p.requires.images.0) held _ same _ told p.args.agreement _ state-is) in
     let p = c in
-    let f = c in (
-      (ap (λ n. p.args.due + n) long, ap (λ (x : Result). not (eqb x.code 0)) agreed_is ∙ agreed_some (agreed_of p.args.agreement (rows p))),
-      c.copy_part.ensures
+    let f = c in record {
+      due_value = (ap (λ n. p.args.due + n) long, ap (λ (x : Result). not (eqb x.code 0)) agreed_is ∙ agreed_some (agreed_of p.args.agreement (rows_in c.args.run.now c.args.gathered)));
+      out_after = c.copy_part.ensures
           ∙ ap (λ z. replaced z p.args.due c.body_of-body.result.now) c.write_row.ensures
-          ∙ stamp_laid _ _ _ _ _ (all_regular _ p.requires.0.0) held _ same _ told p.args.agreement _ state-is _ _ _ _ _ refl c.body_of-body.ensures,
-    )
+          ∙ stamp_laid _ _ _ _ _ (all_regular _ p.requires.images.0) held _ same _ told p.args.agreement _ state-is _ _ _ _ _ refl c.body_of-body.ensures;
+    }
