@@ -1,0 +1,42 @@
+-- Test by test; then the part of the run that was laid is what is merged.
+use mathlib.Core.Bool.{false}
+use mathlib.Core.Path.{◌≡◌, sym, ◌∙◌}
+use native.Mathlib.Omega.{arith}
+use lib.Seq.{length-take-le}
+use borrow.Author.Tests.{not-true, not-false}
+use Rattle.rules.specs.Tables.{valley}
+use Rattle.boxes.specs.Inner.OneBuffer.{no_run_room}
+use Rattle.boxes.proofs.NamedTables.{crowded, room, roomy, together_crowded, together_small, together_bad, together_merged, laid_within, laid_part}
+use Rattle.boxes.proofs.together.merge_boxes.Goals as goal
+
+pub returns-then-run-boxes : goal.returns-then-run-boxes
+returns-then-run-boxes c = let a = c.args in together_crowded valley a.tables.now a.boxes.now a.view a.run.now a.out.now (crowded valley (omega arith) a.boxes.now a.run.now c.if-run-boxes.true)
+
+pub returns-then-out-lt-VALLEY_BUFFER : goal.returns-then-out-lt-VALLEY_BUFFER
+returns-then-out-lt-VALLEY_BUFFER c =
+    let fits : (let a = c.args in no_run_room valley a.boxes.now a.run.now ≡ false) = roomy valley (omega arith) _ _ c.if-run-boxes.false in
+    let a = c.args in together_small valley a.tables.now a.boxes.now a.view a.run.now a.out.now fits c.if-out-lt-VALLEY_BUFFER.true
+
+pub returns-then-not-all_whole : goal.returns-then-not-all_whole
+returns-then-not-all_whole c =
+    let fits : (let a = c.args in no_run_room valley a.boxes.now a.run.now ≡ false) = roomy valley (omega arith) _ _ c.if-run-boxes.false in
+    let a = c.args in
+    together_bad valley a.tables.now a.boxes.now a.view a.run.now a.out.now fits c.if-out-lt-VALLEY_BUFFER.false (sym c.all_whole.ensures ∙ c.if-not-all_whole.true)
+
+pub lay_images-end-requires : goal.lay_images-end-requires
+lay_images-end-requires c = let a = c.args in (sym c.all_whole.ensures ∙ c.if-not-all_whole.false, room valley (omega arith) a.boxes.now a.run.now c.if-run-boxes.false)
+
+pub slice_bounds-merge-end : goal.slice_bounds-merge-end
+slice_bounds-merge-end c = let laid = c.lay_images-end in rw laid.ensures.value (laid_within _ _ _ laid.ensures.run_after)
+
+pub slice_bounds-merge-end-2 : goal.slice_bounds-merge-end-2
+slice_bounds-merge-end-2 c = let laid = c.lay_images-end in sym (length-take-le _ _ (rw laid.ensures.value (laid_within _ _ _ laid.ensures.run_after)))
+
+pub returns : goal.returns
+returns c =
+    let fits : (let a = c.args in no_run_room valley a.boxes.now a.run.now ≡ false) = roomy valley (omega arith) _ _ c.if-run-boxes.false in
+    let a = c.args in
+    let laid = c.lay_images-end in
+    let call = c.merge in
+    let is = rw (← laid.ensures.value) at (laid_part _ _ _ laid.ensures.run_after) in
+    together_merged valley a.tables.now a.boxes.now a.view a.run.now a.out.now fits c.if-out-lt-VALLEY_BUFFER.false _ _ _ laid.ensures.run_after (rw is at call.ensures.0) (rw is at call.ensures.1)
