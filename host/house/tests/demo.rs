@@ -164,6 +164,25 @@ fn a_changed_source_is_proved_anew() {
 }
 
 #[test]
+fn what_rt_makes_is_no_source_and_a_source_that_is_gone_was_one() {
+    let clone = Clone::new("made");
+    fs::create_dir_all(clone.folder.join("crates/wire/src")).unwrap();
+    clone.plays(&[]);
+    for made in [
+        "crates/sprondilu",
+        "crates/sprondilu/out",
+        "crates/sprondilu/out/libsprondilu.a",
+    ] {
+        touch(&clone.folder.join(made));
+        clone.plays(&[]);
+        assert_eq!(clone.proved(), 1, "{}", made);
+    }
+    touch(&clone.folder.join("crates/wire/src"));
+    clone.plays(&[]);
+    assert_eq!(clone.proved(), 2);
+}
+
+#[test]
 fn what_cannot_be_proved_or_built_is_said_and_not_played() {
     let fails = "echo 'what went wrong'\nexit 1\n";
     for (tool, step) in [

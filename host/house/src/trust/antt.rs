@@ -59,8 +59,9 @@ impl Scope {
             return Some(found.clone());
         }
         let (prefix, name) = word.split_once('.')?;
-        let Some((home, owner)) = self.prefixes.get(prefix) else {
-            return self.words.get(prefix).cloned();
+        let (home, owner) = match self.prefixes.get(prefix) {
+            Some(module) => module,
+            None => return self.words.get(prefix).cloned(),
         };
         let whole = name.split('.').next().unwrap_or(name).to_string();
         Some((home.clone(), owner.clone().unwrap_or(whole)))
