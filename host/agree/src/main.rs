@@ -50,7 +50,11 @@ fn write_crate(crates: &Path, folder: &Path, seed: Option<u64>) -> Result<String
     let definitions = definitions(crates)?;
     let cases = cases::all(seed);
     let files = [
-        ("src", "lib.rt", "// Statements alone.\n".to_string()),
+        (
+            "src",
+            "lib.rt",
+            "// Statements alone.\n#![tactic(auto)]\n".to_string(),
+        ),
         ("specs", "Lib.antt", String::new()),
         ("proofs", "Lib.antt", "pub mod Agree\n".to_string()),
         ("proofs", "Agree.antt", statements(&definitions, &cases)),
@@ -80,7 +84,7 @@ fn definitions(crates: &Path) -> Result<Vec<(String, Vec<String>)>, String> {
     for (name, file) in files.chain([halving]) {
         let stem = file.file_stem().unwrap_or_default().to_string_lossy();
         let text = fs::read_to_string(&file).map_err(|error| at(&file, error))?;
-        found.push((format!("Rattle·{}.specs.{}", name, stem), unfoldable(&text)));
+        found.push((format!("Rattle.{}.specs.{}", name, stem), unfoldable(&text)));
     }
     found.retain(|(_, names)| !names.is_empty());
     Ok(found)
@@ -135,7 +139,7 @@ fn together(place: usize, cases: &[Named], unfolded: &str) -> String {
         .map(|(name, case)| format!("    , {} -- {}\n", print::proof(case), name))
         .collect();
     format!(
-        "\ncases-{place} :\n    {statements}\nunfolding{unfolded}\ncases-{place} =\n    ({proofs}    )\n",
+        "\ncases_{place} :\n    {statements}\nunfolding{unfolded}\ncases_{place} =\n    ({proofs}    )\n",
         place = place,
         statements = statements.join("\n    × "),
         unfolded = unfolded,

@@ -8,7 +8,7 @@ use samples::{Access, Record, Row, Table};
 /// The model of the cases, and that of document 01 as the second program has it.
 pub fn models() -> String {
     format!(
-        "\nabbrev small : Model\nsmall = {}\n\nthe-model : valley ≡ {}\nthe-model = refl -- the model of document 01\n",
+        "\nabbrev small : Model\nsmall = {}\n\nthe_model : valley ≡ {}\nthe_model = refl -- the model of document 01\n",
         model(SMALL),
         model(VALLEY),
     )
@@ -16,7 +16,7 @@ pub fn models() -> String {
 
 fn model(model: Model) -> String {
     format!(
-        "record {{ rowLimit = {}; leastBuffer = {} }}",
+        "record {{ row_limit = {}; least_buffer = {} }}",
         model.rows, model.buffer
     )
 }
@@ -30,10 +30,10 @@ pub fn statement(case: &Case) -> String {
             format!("counted {} {} ≡ {}", n, heard, counted(decision))
         }
         Case::Check(who, rows, asked, result) => checked(*who, rows, asked, *result),
-        Case::Image(image, good) => format!("tableByRule small {} ≡ {}", table(image), good),
+        Case::Image(image, good) => format!("table_by_rule small {} ≡ {}", table(image), good),
         Case::Fresh(n, box_number, told) => fresh(*n, *box_number, told),
         Case::Buffers(length, small, reply, reply_small) => format!(
-            "(tooSmall valley {} ≡ {}) × (replyTooSmall {} ≡ {})",
+            "(too_small valley {} ≡ {}) × (reply_too_small {} ≡ {})",
             length, small, reply, reply_small
         ),
         Case::Applying(numbers, told) => {
@@ -87,7 +87,7 @@ fn merged(view: u32, tables: &[Table], result: &Result<Table, Number>) -> String
 /// The check by the name of its role: what boxes check by is said once, in the definitions.
 fn checked(who: WhoChecks, rows: &[Row], asked: &Row, result: PrepareResult) -> String {
     let check = match who {
-        WhoChecks::ABox => "proposalCheck",
+        WhoChecks::ABox => "proposal_check",
         WhoChecks::TheMerge => "check",
     };
     let rows = list(rows.iter().map(row));
@@ -103,11 +103,11 @@ fn checked(who: WhoChecks, rows: &[Row], asked: &Row, result: PrepareResult) -> 
 }
 
 fn fresh(n: u8, box_number: u8, told: &Option<Table>) -> String {
-    let bad = format!("badGroup {} {} ≡ {}", n, box_number, told.is_none());
+    let bad = format!("bad_group {} {} ≡ {}", n, box_number, told.is_none());
     match told {
         None => bad,
         Some(fresh) => format!(
-            "({}) × (freshTable {} {} ≡ {})",
+            "({}) × (fresh_table {} {} ≡ {})",
             bad,
             n,
             box_number,
@@ -166,7 +166,7 @@ fn result_of(code: u8, retry: u64) -> String {
 
 fn prepare(byte: u8, retry: u64) -> String {
     match byte {
-        0 => "noPrepare".to_string(),
+        0 => "no_prepare".to_string(),
         1..=4 => format!("(tentative {})", result_of(byte, retry)),
         _ => format!("(final {})", result_of(byte - 4, retry)),
     }
@@ -178,7 +178,7 @@ fn verdict(code: u8) -> &'static str {
 
 fn outcome(byte: u8) -> String {
     match byte {
-        0 => "noOutcome".to_string(),
+        0 => "no_outcome".to_string(),
         1 | 2 => format!("(noted {})", verdict(byte)),
         _ => format!("(done {})", verdict(byte - 2)),
     }
@@ -186,21 +186,26 @@ fn outcome(byte: u8) -> String {
 
 fn message(sent: &Sent) -> String {
     let text = match sent {
-        Sent::ProposePrepare(asked) => format!("proposePrepare {} {}", asked.stamp, body(asked)),
+        Sent::ProposePrepare(asked) => format!("propose_prepare {} {}", asked.stamp, body(asked)),
         Sent::FinalisePrepare(stamp, view, (code, retry)) => {
             let result = result_of(*code, *retry);
-            format!("finalisePrepare {} {} {}", stamp, view, result)
+            format!("finalise_prepare {} {} {}", stamp, view, result)
         }
         Sent::ProposeOutcome(asked, outcome) => {
             let verdict = verdict(*outcome);
-            format!("proposeOutcome {} {} {}", asked.stamp, verdict, body(asked))
+            format!(
+                "propose_outcome {} {} {}",
+                asked.stamp,
+                verdict,
+                body(asked)
+            )
         }
         Sent::FinaliseOutcome(stamp, view, outcome) => {
-            format!("finaliseOutcome {} {} {}", stamp, view, verdict(*outcome))
+            format!("finalise_outcome {} {} {}", stamp, view, verdict(*outcome))
         }
-        Sent::ChangeView(view) => format!("changeView {}", view),
-        Sent::StartView(view, image) => format!("startView {} {}", view, table(image)),
-        Sent::Read(stamp, register) => format!("readRegister {} {}", stamp, register),
+        Sent::ChangeView(view) => format!("change_view {}", view),
+        Sent::StartView(view, image) => format!("start_view {} {}", view, table(image)),
+        Sent::Read(stamp, register) => format!("read_register {} {}", stamp, register),
     };
     format!("({})", text)
 }
@@ -230,16 +235,16 @@ fn counted(decision: &Result<Decision, Number>) -> String {
 fn name(number: Number) -> &'static str {
     match number {
         Number::Done => panic!("done is no circumstance"),
-        Number::SmallBuffer => "smallBuffer",
-        Number::BadTable => "badTable",
-        Number::BadMessage => "badMessage",
+        Number::SmallBuffer => "small_buffer",
+        Number::BadTable => "bad_table",
+        Number::BadMessage => "bad_message",
         Number::Changing => "changing",
-        Number::OtherBody => "otherBody",
+        Number::OtherBody => "other_body",
         Number::Contradiction => "contradiction",
         Number::Full => "full",
         Number::Unknown => "unknown",
-        Number::OtherView => "otherView",
-        Number::OldView => "oldView",
-        Number::WrongTables => "wrongTables",
+        Number::OtherView => "other_view",
+        Number::OldView => "old_view",
+        Number::WrongTables => "wrong_tables",
     }
 }

@@ -1,21 +1,24 @@
-//! The gate's time, crate by crate, as a log of it has it: what `./test` printed, both of its outputs.
+//! The gate's time, step by step and crate by crate, as a log of it has it: what `./test` printed, both of its outputs.
 //!
-//! `rt` says of a crate `rt: NAME proved (22 s)`, and of an edit that must fail `rt: must-fail NAME/LABEL: refused, .. 30 s)`.
-//! cargo says which tests it runs, and they say `test result: ok. .. finished in 3.54s`. If the shell's `time` stood before the
-//! gate, then `real 15m7.120s` is there too.
+//! `rt` proves crates side by side and says no times. So what is read is what the gate says of a step, `test: step 2 of 9: rt ci
+//! took 9 min 3 s, ..`, and in it of a crate, `.. wire proved, 1 of 25 crates, 41 s` or `wire kept, ..`, and of an edit that must
+//! fail, `.. wire/LABEL refused, ..`: the seconds behind a crate have gone by since the step began. cargo says which tests it runs,
+//! and they say `test result: ok. .. finished in 3.54s`. If the shell's `time` stood before the gate, then `real 15m7.120s` is
+//! there too.
 
 use crate::refuse;
 use crate::tables::{print_row, print_rule};
 use std::fs;
 
-/// What the log says of a crate that is proved.
+/// What the log says of a crate that is proved, in the step that first tells of it.
 #[derive(Debug, PartialEq)]
 struct Proved {
     name: String,
-    /// None of a crate that was not proved anew.
-    seconds: Option<u64>,
+    /// It was taken from an earlier run.
+    kept: bool,
+    /// So many seconds after the step had begun.
+    after: u64,
     edits: u64,
-    edits_seconds: u64,
 }
 
 /// What the log says of a crate of the host.
@@ -29,6 +32,7 @@ struct Tested {
 /// All that a log says.
 #[derive(Debug, Default)]
 struct Gate<'a> {
+    steps: Vec<(&'a str, u64)>,
     proved: Vec<Proved>,
     tested: Vec<Tested>,
     whole: Option<&'a str>,
@@ -37,8 +41,9 @@ struct Gate<'a> {
 /// What a line of the log tells, if it is one of these.
 #[derive(Debug, PartialEq)]
 enum Line<'a> {
-    Crate(&'a str, Option<u64>),
-    Edit(&'a str, u64),
+    Step(&'a str, u64),
+    Crate(&'a str, bool, u64),
+    Edit(&'a str),
     Tests(&'a str),
     Passed(u64, f64),
     Whole(&'a str),
@@ -51,6 +56,8 @@ pub fn print(path: &str) {
     if gate.proved.is_empty() || log.contains("test: not passed") {
         refuse(&format!("{} is no log of a gate that passed", path));
     }
+    print_steps(&gate.steps);
+    println!();
     print_proved(&gate.proved);
     if !gate.tested.is_empty() {
         println!();
@@ -61,27 +68,31 @@ pub fn print(path: &str) {
     }
 }
 
-fn print_proved(crates: &[Proved]) {
-    let headings = ["crate", "its check, s", "edits", "their checks, s"].map(String::from);
+fn print_steps(steps: &[(&str, u64)]) {
+    let headings = ["step", "it took, s"].map(String::from);
     print_row(&headings);
     print_rule(&headings);
-    let row = |name: &str, seconds: Option<u64>, edits: u64, edits_seconds: u64| {
-        let seconds = seconds.map_or("not proved anew".into(), |seconds| seconds.to_string());
-        let (edits, edits_seconds) = (edits.to_string(), edits_seconds.to_string());
-        print_row(&[name.into(), seconds, edits, edits_seconds]);
-    };
-    for of in crates {
-        let name = format!("`{}`", of.name);
-        row(&name, of.seconds, of.edits, of.edits_seconds);
+    for (name, seconds) in steps {
+        print_row(&[format!("`{}`", name), seconds.to_string()]);
     }
-    let sum = |figure: fn(&Proved) -> u64| crates.iter().map(figure).sum();
-    let seconds = sum(|of| of.seconds.unwrap_or(0));
-    row(
-        "all",
-        Some(seconds),
-        sum(|of| of.edits),
-        sum(|of| of.edits_seconds),
-    );
+    let seconds: u64 = steps.iter().map(|(_, seconds)| seconds).sum();
+    print_row(&["all".into(), seconds.to_string()]);
+}
+
+fn print_proved(crates: &[Proved]) {
+    let headings = ["crate", "proved after, s", "edits"].map(String::from);
+    print_row(&headings);
+    print_rule(&headings);
+    for of in crates {
+        let after = match of.kept {
+            true => "kept".to_string(),
+            false => of.after.to_string(),
+        };
+        print_row(&[format!("`{}`", of.name), after, of.edits.to_string()]);
+    }
+    let last = crates.iter().map(|of| of.after).max().unwrap_or(0);
+    let edits: u64 = crates.iter().map(|of| of.edits).sum();
+    print_row(&["all".into(), last.to_string(), edits.to_string()]);
 }
 
 fn print_tested(crates: &[Tested]) {
@@ -111,15 +122,21 @@ fn read(log: &str) -> Gate<'_> {
 impl<'a> Gate<'a> {
     fn hear(&mut self, line: Line<'a>) {
         match line {
-            // Later steps prove some crates again, or say that they are unchanged.
-            Line::Crate(name, seconds) => {
-                let of = proved_of(&mut self.proved, name);
-                of.seconds = of.seconds.or(seconds);
+            Line::Step(name, seconds) => self.steps.push((name, seconds)),
+            // Later steps build some crates again, or take them as they are.
+            Line::Crate(name, kept, after) => {
+                if self.proved.iter().all(|of| of.name != name) {
+                    self.proved.push(Proved {
+                        name: name.into(),
+                        kept,
+                        after,
+                        edits: 0,
+                    });
+                }
             }
-            Line::Edit(name, seconds) => {
-                let of = proved_of(&mut self.proved, name);
-                of.edits += 1;
-                of.edits_seconds += seconds;
+            Line::Edit(name) => {
+                let of = self.proved.iter_mut().find(|of| of.name == name);
+                of.into_iter().for_each(|of| of.edits += 1);
             }
             Line::Tests(name) => begin(&mut self.tested, name),
             Line::Passed(passed, seconds) => {
@@ -131,20 +148,6 @@ impl<'a> Gate<'a> {
             Line::Whole(time) => self.whole = Some(time),
         }
     }
-}
-
-fn proved_of<'a>(crates: &'a mut Vec<Proved>, name: &str) -> &'a mut Proved {
-    let place = crates.iter().position(|of| of.name == name);
-    let place = place.unwrap_or(crates.len());
-    if place == crates.len() {
-        crates.push(Proved {
-            name: name.into(),
-            seconds: None,
-            edits: 0,
-            edits_seconds: 0,
-        });
-    }
-    &mut crates[place]
 }
 
 /// Tests of this crate come next. They may be some more of the one before.
@@ -165,8 +168,8 @@ fn told(line: &str) -> Option<Line<'_>> {
         return Some(Line::Whole(time));
     }
     let from = |first: &str| words.iter().position(|word| *word == first);
-    if let Some(place) = from("rt:") {
-        return told_by_rt(&words[place + 1..]);
+    if let Some((_, said)) = line.split_once("test: step ") {
+        return told_by_gate(said.split_once(": ")?.1);
     }
     if let Some(place) = from("Running") {
         return told_by_cargo(&words[place + 1..]);
@@ -175,14 +178,28 @@ fn told(line: &str) -> Option<Line<'_>> {
     told_by_tests(&words[result + 1..])
 }
 
-fn told_by_rt<'a>(words: &[&'a str]) -> Option<Line<'a>> {
-    let seconds = match words {
-        [.., seconds, "s)"] => seconds.trim_start_matches('(').parse().ok(),
+/// What the gate says behind the number of a step.
+fn told_by_gate(said: &str) -> Option<Line<'_>> {
+    let (what, rest) = said.split_once(", ").unwrap_or((said, ""));
+    if let Some((name, time)) = what.split_once(" took ") {
+        return Some(Line::Step(name, seconds(time)?));
+    }
+    let (name, ended) = what.rsplit_once(' ')?;
+    match (ended, rest.rsplit_once(", ")) {
+        ("refused", _) => Some(Line::Edit(name.split_once('/')?.0)),
+        ("proved", Some((_, time))) => Some(Line::Crate(name, false, seconds(time)?)),
+        ("kept", Some((_, time))) => Some(Line::Crate(name, true, seconds(time)?)),
         _ => None,
-    };
-    match words {
-        ["must-fail", edit, "refused,", ..] => Some(Line::Edit(edit.split_once('/')?.0, seconds?)),
-        [name, "proved", ..] => Some(Line::Crate(name, seconds)),
+    }
+}
+
+/// `41 s` and `9 min 3 s` in seconds.
+fn seconds(time: &str) -> Option<u64> {
+    match time.split(' ').collect::<Vec<&str>>()[..] {
+        [seconds, "s"] => seconds.parse().ok(),
+        [minutes, "min", seconds, "s"] => {
+            Some(60 * minutes.parse::<u64>().ok()? + seconds.parse::<u64>().ok()?)
+        }
         _ => None,
     }
 }
@@ -213,17 +230,24 @@ mod tests {
     use super::{read, told, Line, Proved, Tested};
 
     const LOG: &str = "\
+test: step 2 of 9: rt ci, every proof and every must-fail edit
+== wire
 fn wire::u32_at: proved
 logic=proved functions=9 sum=064da1ca440f63e7 native=nat,char,string
-rt: wire proved (9 s)
-09:13:02 rt: rows proved (22 s)
-rt: rules proved (unchanged since it was last proved)
-rt: must-fail rows/five_writes_taken: refused, as it must be (first at proofs/body/counts_valid/Proof.antt:14:15; 30 s)
-rt: must-fail rows/stamp_of_49_bits: refused, as it must be (19 s)
-rt: must-fail wire/other: NOT REFUSED: the crate is still proved with this edit (3 s)
-rt: ok, 3 crates
-rt: wire proved (unchanged since it was last proved)
-rt: rows proved (2 s)
+rt: wire proved
+test: step 2 of 9: wire proved, 1 of 4 crates, 9 s
+rt: rules is kept: an earlier run on this machine proved the same files over the same libraries
+test: step 2 of 9: rules kept, 2 of 4 crates, 9 s
+09:13:02 test: step 2 of 9: rows proved, 3 of 4 crates, 1 min 22 s
+rt: must-fail rows/five_writes_taken.edit: refused, as it must be: note: src/body.rs:6:1: it is not proved
+test: step 2 of 9: rows/five_writes_taken refused, 1 of 3 edits, 2 min 0 s
+test: step 2 of 9: rows/stamp_of_49_bits refused, 2 of 3 edits, 2 min 0 s
+test: step 2 of 9: wire/other NOT REFUSED, 3 of 3 edits, 2 min 0 s
+rt: ok; handles allowed: none; must-fail edits: 2 refused
+test: step 2 of 9: rt ci took 2 min 1 s, 4 crates, 3 edits
+test: step 4 of 9: tools/library sprondilu, the library that the host tests l..
+test: step 4 of 9: wire proved, 1 of 2 crates, 5 s
+test: step 4 of 9: tools/library sprondilu took 48 s, 2 crates
    Compiling bench v0.1.0 (/somewhere/host/bench)
      Running unittests src/lib.rs (target/host/release/deps/boundary-2e12607addee7163)
 test result: ok. 0 passed; 0 failed; 0 ignored; 0 measured; 0 filtered out; finished in 0.00s
@@ -238,12 +262,12 @@ test result: ok. 12 passed; 0 failed; 0 ignored; 0 measured; 0 filtered out; fin
 real\t15m7.120s
 ";
 
-    fn proved(name: &str, seconds: Option<u64>, edits: u64, edits_seconds: u64) -> Proved {
+    fn proved(name: &str, kept: bool, after: u64, edits: u64) -> Proved {
         Proved {
             name: name.into(),
-            seconds,
+            kept,
+            after,
             edits,
-            edits_seconds,
         }
     }
 
@@ -259,11 +283,13 @@ real\t15m7.120s
     fn a_log_is_read_crate_by_crate() {
         let gate = read(LOG);
         let expected = [
-            proved("wire", Some(9), 0, 0),
-            proved("rows", Some(22), 2, 49),
-            proved("rules", None, 0, 0),
+            proved("wire", false, 9, 0),
+            proved("rules", true, 9, 0),
+            proved("rows", false, 82, 2),
         ];
         assert_eq!(gate.proved, expected);
+        let expected = [("rt ci", 121), ("tools/library sprondilu", 48)];
+        assert_eq!(gate.steps, expected);
         let expected = [tested("boundary", 7, 3.79), tested("bench", 12, 3.5)];
         assert_eq!(gate.tested, expected);
         assert_eq!(gate.whole, Some("15m7.120s"));
@@ -275,15 +301,21 @@ real\t15m7.120s
             "",
             "rt:",
             "note: proved",
-            "rt: rows NOT PROVED (exit 1, 5 s)",
+            "rt: rows NOT PROVED",
+            "test: step 2 of 9: rows NOT PROVED, 1 of 4 crates, 5 s",
+            "test: step 3 of 9: tools/assumptions after the checks: no proof leans on what..",
+            "test: step 7 of 9: host/bench tested, 2 of 12 crates, 3 s",
+            "test: step 2 of 9: rt ci took a while",
         ] {
             assert_eq!(told(line), None, "{}", line);
         }
-        let cut = "rt: must-fail rows/five_writes_taken: refused, as it must be (first at proofs";
-        assert_eq!(told(cut), None);
         assert_eq!(
-            told("rt: rows proved (1 s)"),
-            Some(Line::Crate("rows", Some(1)))
+            told("test: step 2 of 9: rows proved, 1 of 25 crates, 1 s"),
+            Some(Line::Crate("rows", false, 1))
+        );
+        assert_eq!(
+            told("test: step 2 of 9: rows/five refused, 1 of 72 edits, 1 s"),
+            Some(Line::Edit("rows"))
         );
     }
 }

@@ -882,7 +882,7 @@ fn the_line_of_the_page_compiles_the_example() {
     let line = line_of_the_page();
     let said = format!(" *   {}\n", line);
     assert!(text("examples/story.c").contains(&said), "{}", said);
-    // The archive may lie elsewhere than where `rt staticlib` writes it; what is made here goes where tests make things.
+    // The archive may lie elsewhere than where `tools/library` writes it; what is made here goes where tests make things.
     let program = made("box_of_the_page");
     let _ = fs::remove_file(&program);
     let mut replaced = 0;

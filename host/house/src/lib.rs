@@ -57,17 +57,19 @@ pub fn finish(command: &mut Command) -> Output {
     started.wait_with_output().unwrap()
 }
 
-/// The crates of crates.txt, in its order.
+/// The crates of crates.txt, in its order. Behind the name may stand that it is a static library.
 pub fn crates() -> Vec<String> {
     text("crates.txt")
         .lines()
         .map(|line| line.split('#').next().unwrap_or(""))
         .filter_map(|line| line.split_once(':'))
-        .map(|(name, _)| name.trim().to_string())
+        .filter_map(|(head, _)| head.split_whitespace().next())
+        .map(str::to_string)
         .collect()
 }
 
-/// The files below a folder of the repository whose names end so, with their paths from the top.
+/// The files below a folder of the repository whose names end so, with their paths from the top. What rt makes of a crate, in its
+/// `out/`, is none of them.
 pub fn files(folder: &str, ending: &str) -> Vec<String> {
     let mut found = Vec::new();
     let mut open = vec![top().join(folder)];
@@ -75,7 +77,9 @@ pub fn files(folder: &str, ending: &str) -> Vec<String> {
         for entry in fs::read_dir(&here).into_iter().flatten().flatten() {
             let path = entry.path();
             if path.is_dir() {
-                open.push(path);
+                if path.file_name() != Some("out".as_ref()) {
+                    open.push(path);
+                }
             } else if path.to_string_lossy().ends_with(ending) {
                 let from_top = path.strip_prefix(top()).expect("a path below the top");
                 found.push(from_top.to_string_lossy().into_owned());
@@ -127,7 +131,7 @@ pub fn cited(paper: &str) -> Vec<String> {
 
 /// Whether what a citation names is there. `None` for words that name nothing of the tree.
 ///
-/// `wire::u32_at` is a function of a crate, `table::header::read` one of a module of it, `wire/proofs/Numbers.read-back`
+/// `wire::u32_at` is a function of a crate, `table::header::read` one of a module of it, `wire/proofs/Numbers.read_back`
 /// a definition or a theorem, `wire/must-fail/..` and `rows/more-must-fail/..` edits, and a path that begins with one of
 /// the repository's folders is that file; behind a tool may stand the words that it is given, as in `tools/agree 7`.
 pub fn stands(citation: &str) -> Option<bool> {

@@ -21,12 +21,12 @@ pub const STATEMENTS: [(&str, &str, &str); 3] = [
     (
         "group/specs/Survival",
         "group/proofs/Survival",
-        "calls-survive",
+        "calls_survive",
     ),
     (
         "group/specs/NeverFull",
         "group/proofs/NeverFull",
-        "merge-never-full",
+        "merge_never_full",
     ),
 ];
 
@@ -94,6 +94,7 @@ pub fn contracts(source: &str) -> Vec<(String, BTreeSet<Name>)> {
     let scope = Scope::of(source);
     let mut found: Vec<(String, BTreeSet<Name>)> = Vec::new();
     let mut public = false;
+    let mut clause = String::new();
     for line in source.lines() {
         if let Some((_, function)) = line.split_once("pub extern \"C\" fn ") {
             let name = function.split('(').next().unwrap_or(function);
@@ -101,12 +102,17 @@ pub fn contracts(source: &str) -> Vec<(String, BTreeSet<Name>)> {
         }
         // A signature of several lines ends with one that begins with its bracket.
         public = line.starts_with("pub extern") || public && line.starts_with(&[' ', ')'][..]);
-        let contract = ["requires", "ensures"].map(|word| line.trim_start().starts_with(word));
-        if let Some((_, names)) = found
-            .last_mut()
-            .filter(|_| public && contract.contains(&true))
-        {
-            names.extend(scope.names(line));
+        let begins = ["requires", "ensures"].map(|word| line.trim_start().starts_with(word));
+        if public && (begins.contains(&true) || !clause.is_empty()) {
+            clause += line;
+            clause += " ";
+        }
+        let depth = |bracket: char| clause.matches(bracket).count();
+        if !clause.is_empty() && depth('{') == depth('}') {
+            let (_, names) = found.last_mut().expect("the function of a contract");
+            // Before its bracket a clause has a name of its own.
+            names.extend(scope.names(clause.split_once('{').map_or("", |(_, said)| said)));
+            clause.clear();
         }
     }
     found

@@ -18,7 +18,7 @@ struct Clone {
 }
 
 /// Writes the library, and remembers that it was asked to.
-const PROVES: &str = "echo \"$*\" >>proved\nmkdir -p target/staticlib\necho archive >target/staticlib/libsprondilu.a\n";
+const PROVES: &str = "echo \"$*\" >>../../proved\nmkdir -p out\necho archive >out/libsprondilu.a\n";
 
 /// Writes a program that says its own arguments, if the library is where it is looked for.
 const BUILDS: &str = "grep -q archive \"$SPRONDILU_LIB/libsprondilu.a\" || exit 101\n\
@@ -27,23 +27,18 @@ const BUILDS: &str = "grep -q archive \"$SPRONDILU_LIB/libsprondilu.a\" || exit 
     chmod +x \"$CARGO_TARGET_DIR/release/sprondilu\"\n";
 
 /// Of the four crates the library reaches three.
-const CRATES: &str = "wire:\nrows: wire # and a note\nhistory: wire\nsprondilu: wire rows\n";
+const CRATES: &str =
+    "wire:\nrows: wire # and a note\nhistory: wire\nsprondilu staticlib: wire rows\n";
 
-/// Proves these as rt does, with the files that it writes. The first and the last take so long that they are seen.
-const PROVES_CRATES: &str = "mkdir -p target/log target/staticlib\n\
-    for name in wire rows; do\n\
-    echo failed >target/log/$name.res\n\
-    sleep 0.1\n\
-    : >target/log/$name.say\n\
+/// Proves these as rt does. The first and the last take so long that they are seen.
+const PROVES_CRATES: &str = "for name in NAMES; do\n\
+    echo \"rt: chose --jobs 2 for $name\"\n\
     [ \"$name\" = rows ] || sleep TIME\n\
     echo \"fn $name::read: proved\"\n\
-    echo proved >target/log/$name.res\n\
-    echo \"rt: $name proved (1 s)\" >&2\n\
+    echo 'logic=proved functions=1 sum=0'\n\
     done\n\
-    : >target/log/sprondilu.say\n\
-    sleep TIME\n\
-    echo archive >target/staticlib/libsprondilu.a\n\
-    echo 'rt: target/staticlib/libsprondilu.a has the functions of sprondilu that are marked'\n";
+    mkdir -p out\n\
+    echo archive >out/libsprondilu.a\n";
 
 /// Says of what it compiles the same as cargo.
 const COMPILES: &str = "echo '   Compiling sprondilu v0.1.0 (/somewhere/host/sprondilu)' >&2\n";
@@ -52,7 +47,7 @@ impl Clone {
     fn new(name: &str) -> Clone {
         let folder = env::temp_dir().join(format!("sprondilu-demo-{}-{}", name, process::id()));
         let _ = fs::remove_dir_all(&folder);
-        for sub in ["bin", "tools", "crates", "host"] {
+        for sub in ["bin", "tools", "crates/sprondilu", "host"] {
             fs::create_dir_all(folder.join(sub)).unwrap();
         }
         for file in ["demo", "tools/library", "tools/progress"] {
@@ -76,9 +71,15 @@ impl Clone {
     fn of_crates(name: &str, time: &str) -> Clone {
         let clone = Clone::new(name);
         fs::write(clone.folder.join("crates.txt"), CRATES).unwrap();
-        clone.script("bin/rt", &PROVES_CRATES.replace("TIME", time));
+        clone.proves("wire rows sprondilu", time);
         clone.script("bin/cargo", &format!("{}{}", COMPILES, BUILDS));
         clone
+    }
+
+    /// Has rt prove these crates, each in this time.
+    fn proves(&self, names: &str, time: &str) {
+        let proves = PROVES_CRATES.replace("NAMES", names);
+        self.script("bin/rt", &proves.replace("TIME", time));
     }
 
     fn path(&self) -> OsString {
@@ -121,11 +122,8 @@ impl Clone {
     /// How often the library was proved.
     fn proved(&self) -> usize {
         let lines = fs::read_to_string(self.folder.join("proved")).unwrap_or_default();
-        assert!(
-            lines.lines().all(|line| line == "staticlib sprondilu"),
-            "{}",
-            lines
-        );
+        let asked = "lib --target x86_64-unknown-linux-gnu --cpu x86-64";
+        assert!(lines.lines().all(|line| line == asked), "{}", lines);
         lines.lines().count()
     }
 }
@@ -163,6 +161,25 @@ fn a_changed_source_is_proved_anew() {
         clone.plays(&[]);
         assert_eq!(clone.proved(), 2, "{}", source);
     }
+}
+
+#[test]
+fn what_rt_makes_is_no_source_and_a_source_that_is_gone_was_one() {
+    let clone = Clone::new("made");
+    fs::create_dir_all(clone.folder.join("crates/wire/src")).unwrap();
+    clone.plays(&[]);
+    for made in [
+        "crates/sprondilu",
+        "crates/sprondilu/out",
+        "crates/sprondilu/out/libsprondilu.a",
+    ] {
+        touch(&clone.folder.join(made));
+        clone.plays(&[]);
+        assert_eq!(clone.proved(), 1, "{}", made);
+    }
+    touch(&clone.folder.join("crates/wire/src"));
+    clone.plays(&[]);
+    assert_eq!(clone.proved(), 2);
 }
 
 #[test]
@@ -233,6 +250,23 @@ fn elsewhere_than_on_a_terminal_there_is_a_line_for_each_crate() {
     assert_eq!(lines[5], "demo: building the host program");
     assert_eq!(untimed(lines[6]), "demo: compiling sprondilu, ");
     assert_eq!(untimed(lines[7]), "demo: building the host program took ");
+}
+
+/// Of crates that were built before, rt says nothing.
+#[test]
+fn a_crate_that_was_built_before_is_counted() {
+    let clone = Clone::of_crates("kept", "0");
+    clone.proves("rows sprondilu", "0");
+    let said = String::from_utf8(clone.run(&[]).stderr).unwrap();
+    let lines: Vec<&str> = said.lines().collect();
+    for (line, expected) in lines[1..4].iter().zip([
+        "demo: wire kept, 1 of 3 crates, ",
+        "demo: rows proved, 2 of 3 crates, ",
+        "demo: sprondilu proved, 3 of 3 crates, ",
+    ]) {
+        assert_eq!(untimed(line), expected);
+    }
+    assert!(lines[4].ends_with(" s, 3 crates"), "{}", said);
 }
 
 #[test]
@@ -311,7 +345,7 @@ fn ctrl_c_ends_all_that_was_started() {
     let clone = Clone::new("ctrl-c");
     clone.script(
         "bin/rt",
-        "sleep 1000 >/dev/null 2>&1 &\necho $! >started\nwait\n",
+        "sleep 1000 >/dev/null 2>&1 &\necho $! >../../started\nwait\n",
     );
     let started = clone.folder.join("started");
     let command = format!(

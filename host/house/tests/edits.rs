@@ -7,7 +7,7 @@ use std::fs;
 use std::path::PathBuf;
 use std::process::Command;
 
-const SAYS: &str = "echo \"rt $*\"\necho crates/*/must-fail/*.edit\n";
+const SAYS: &str = "echo \"rt $*\"\necho crates/*/must-fail/*.edit crates/*/out\n";
 
 /// A repository with the crates `low`, `high` above it, and `other`, of which the last has no such edit.
 struct Tree {
@@ -24,10 +24,11 @@ impl Tree {
         fs::create_dir_all(tree.folder.join("tools")).unwrap();
         house::copy_script("tools/edits", &tree.folder);
         tree.write("crates.txt", "low:\nhigh: low\nother:\n");
-        tree.write(".gitignore", "target/\nbin/\n");
+        tree.write(".gitignore", "target/\nbin/\nout/\n");
         for name in ["low", "high", "other"] {
             tree.write(&format!("crates/{}/src/lib.rt", name), "// nothing\n");
             tree.write(&format!("crates/{}/must-fail/gate.edit", name), "x\n");
+            tree.write(&format!("crates/{}/out/kept", name), "x\n");
         }
         tree.write("crates/low/more-must-fail/first.edit", "x\n");
         tree.write("crates/high/more-must-fail/second.edit", "x\n");
@@ -67,15 +68,18 @@ impl Tree {
         (done.status.code(), String::from_utf8(said).unwrap())
     }
 
-    /// It tries just these edits.
-    fn tries(&self, words: &[&str], edits: &str) {
+    /// It tries just these edits, in a copy without what rt made of the crates.
+    fn tries(&self, words: &[&str], edits: &[&str]) {
         let (status, said) = self.run(words);
         assert_eq!(status, Some(0), "{}", said);
-        assert!(
-            said.ends_with(&format!("rt must-fail\n{}\n", edits)),
-            "{}",
-            said
+        let crates = edits.iter().filter_map(|edit| edit.split('/').nth(1));
+        let crates: Vec<&str> = crates.collect();
+        let expected = format!(
+            "rt must-fail {}\n{} crates/*/out\n",
+            crates.join(" "),
+            edits.join(" ")
         );
+        assert!(said.ends_with(&expected), "{}", said);
     }
 }
 
@@ -91,9 +95,9 @@ const SECOND: &str = "crates/high/must-fail/second.edit";
 #[test]
 fn all_or_those_of_the_named_crates_are_tried() {
     let tree = Tree::new("named");
-    tree.tries(&[], &format!("{} {}", SECOND, FIRST));
-    tree.tries(&["low"], FIRST);
-    tree.tries(&["high"], SECOND);
+    tree.tries(&[], &[SECOND, FIRST]);
+    tree.tries(&["low"], &[FIRST]);
+    tree.tries(&["high"], &[SECOND]);
     assert_eq!(tree.run(&["other"]).0, Some(2));
 }
 
@@ -111,17 +115,17 @@ fn those_of_the_crates_that_changed_since_a_commit_are_tried() {
     // a change that is not committed, one that is, and a file that git does not know yet
     tree.write("crates/low/src/lib.rt", "// something\n");
     tree.write("crates/other/src/lib.rt", "// something\n");
-    tree.tries(&["--since", "HEAD"], FIRST);
+    tree.tries(&["--since", "HEAD"], &[FIRST]);
     tree.commit();
-    tree.tries(&["--since", "HEAD~1"], FIRST);
+    tree.tries(&["--since", "HEAD~1"], &[FIRST]);
     tree.write("crates/high/src/more.rt", "// something\n");
-    tree.tries(&["--since", "HEAD"], SECOND);
-    tree.tries(&["--since", "HEAD~1"], &format!("{} {}", SECOND, FIRST));
+    tree.tries(&["--since", "HEAD"], &[SECOND]);
+    tree.tries(&["--since", "HEAD~1"], &[SECOND, FIRST]);
 
     // a file that goes from one crate to another
     tree.commit();
     tree.git(&["mv", "crates/high/src/more.rt", "crates/other/src/more.rt"]);
-    tree.tries(&["--since", "HEAD"], SECOND);
+    tree.tries(&["--since", "HEAD"], &[SECOND]);
 }
 
 #[test]

@@ -12,16 +12,22 @@ use std::os::unix::fs::symlink;
 use std::path::{Path, PathBuf};
 use std::process::Command;
 
-/// As rt does: from nothing.
-const WELL: &str = "rm -rf target\n\
-    mkdir -p target/log\n\
-    echo 'logic=proved functions=16 sum=0' > target/log/wire.out\n\
+/// As rt does, of each crate in crates.txt.
+const WELL: &str = "sed -n 's/^\\([a-z]*\\).*:.*/\\1/p' crates.txt | while read -r name; do\n\
+    echo \"== $name\"\n\
+    echo 'logic=proved functions=16 sum=0'\n\
+    echo \"rt: $name proved\"\n\
+    done\n\
     echo 'proved: all'\n\
+    echo 'rt: ok; handles allowed: none; must-fail edits: 2 refused; every proof and must-fail edit was done in this run'\n\
     echo '7 passed, 0 failed'\n";
 
-/// Writes the library named by the next word.
-const BUILT: &str = "mkdir -p target/staticlib\n\
-    echo archive > \"target/staticlib/lib$2.a\"\n";
+/// Writes the library of the crate in whose folder it runs.
+const BUILT: &str = "name=${PWD##*/}\n\
+    mkdir -p out\n\
+    echo archive > \"out/lib$name.a\"\n\
+    echo 'axioms libc: none reached of the 128 declared'\n\
+    echo 'logic=proved functions=1 sum=0'\n";
 
 /// Passes if it finds the libraries where the gate says that they are.
 const LINKED: &str = "for name in sprondilu trial; do\n\
@@ -39,7 +45,11 @@ impl Gate {
         let folder =
             env::temp_dir().join(format!("sprondilu-gate-{}-{}", name, std::process::id()));
         let _ = fs::remove_dir_all(&folder);
-        for sub in [".ci", "tools", "bin", "host"] {
+        let folders = [".ci", "tools", "bin", "host"];
+        for sub in folders
+            .into_iter()
+            .chain(["crates/sprondilu", "crates/trial"])
+        {
             fs::create_dir_all(folder.join(sub)).unwrap();
         }
         for file in [
@@ -56,12 +66,12 @@ impl Gate {
         gate.crates("wire:\n");
         // Nothing of this machine is on the gate's PATH but these, so that a tool can be missing there.
         for tool in [
-            "bash", "cat", "chmod", "dirname", "env", "grep", "ln", "mkdir", "mktemp", "readlink",
-            "rm", "sed", "sleep", "stty", "tail", "tee",
+            "bash", "cat", "cp", "dirname", "env", "grep", "mkdir", "mktemp", "rm", "sed", "sleep",
+            "stty", "tail", "tee",
         ] {
             symlink(which(tool), gate.folder.join("bin").join(tool)).unwrap();
         }
-        gate.rt("exit 0", WELL);
+        gate.rt(WELL);
         gate.tool("cargo", LINKED);
         gate.tool("cc", "exit 0\n");
         gate.tool("uname", "echo x86_64\n");
@@ -86,12 +96,12 @@ impl Gate {
         house::write_script(&self.folder.join("demo"), body);
     }
 
-    fn rt(&self, fmt: &str, ci: &str) {
-        self.rt_with_library(fmt, ci, BUILT);
+    fn rt(&self, ci: &str) {
+        self.rt_with_library(ci, BUILT);
     }
 
-    fn rt_with_library(&self, fmt: &str, ci: &str, staticlib: &str) {
-        let commands = [("fmt", fmt), ("ci", ci), ("staticlib", staticlib)];
+    fn rt_with_library(&self, ci: &str, library: &str) {
+        let commands = [("ci", ci), ("lib", library)];
         let of_command = |(word, body): &(&str, &str)| format!("{})\n{}\n;;\n", word, body);
         let cases: String = commands.iter().map(of_command).collect();
         self.tool(
@@ -186,33 +196,30 @@ fn a_demo_that_does_not_play_is_red() {
 #[test]
 fn an_unproved_crate_is_red() {
     let gate = Gate::new("unproved");
-    gate.rt("exit 0", "echo '6 passed, 1 failed'\nexit 1\n");
+    gate.rt("echo '6 passed, 1 failed'\nexit 1\n");
     gate.is_red_at("rt ci");
 }
 
 #[test]
 fn a_failed_rt_is_red_whatever_it_printed() {
     let gate = Gate::new("status");
-    gate.rt("exit 0", "echo '7 passed, 0 failed'\nexit 3\n");
+    gate.rt("echo '7 passed, 0 failed'\nexit 3\n");
     gate.is_red_at("rt ci");
 }
 
 #[test]
 fn an_rt_that_broke_off_is_red() {
     let gate = Gate::new("broke-off");
-    gate.rt(
-        "exit 0",
-        "echo '7 passed, 0 failed'\necho 'rt: no disk'\nexit 0\n",
-    );
+    gate.rt("echo '7 passed, 0 failed'\necho 'rt: no disk'\nexit 0\n");
     gate.is_red_at("rt ci");
-    gate.rt("exit 0", "exit 0\n");
+    gate.rt("exit 0\n");
     gate.is_red_at("rt ci");
 }
 
 #[test]
 fn an_rt_that_proved_nothing_is_red() {
     let gate = Gate::new("nothing");
-    gate.rt("exit 0", "echo '0 passed, 0 failed'\n");
+    gate.rt("echo '0 passed, 0 failed'\n");
     gate.is_red_at("rt ci");
 }
 
@@ -220,31 +227,45 @@ fn an_rt_that_proved_nothing_is_red() {
 fn a_proof_that_assumes_something_is_red() {
     let gate = Gate::new("assumes");
     for word in ["axioms=1", "foreign=wire::write axioms=1"] {
-        gate.rt("exit 0", &WELL.replace("sum=0", word));
+        gate.rt(&WELL.replace("sum=0", word));
         gate.is_red_at("assumptions");
     }
 }
 
-/// A check says nothing of contracts that a crate of the kit brings; the library over it does.
+/// The check of a crate says nothing of contracts that a crate of the kit brings; the library over it does.
 #[test]
 fn a_library_that_reaches_what_is_assumed_is_red() {
     let gate = Gate::new("reaches");
-    for word in ["axioms=1", "foreign=wire::write axioms=1"] {
+    for said in [
+        "logic=proved functions=1 axioms=1",
+        "logic=proved functions=1 foreign=wire::write axioms=1",
+        "axioms libc: libc::fsync (1 of the 128 declared)",
+    ] {
         for name in ["sprondilu", "trial"] {
             let report = format!(
-                "{}[ \"$2\" != {} ] || echo 'logic=proved functions=1 {}' > \"target/log/$2.say\"\n",
-                BUILT, name, word
+                "{}[ \"$name\" != {} ] || echo '{}'\necho 'logic=proved functions=1 sum=0'\n",
+                BUILT, name, said
             );
-            gate.rt_with_library("exit 0", WELL, &report);
+            gate.rt_with_library(WELL, &report);
             gate.is_red_at("tools/assumptions after the libraries");
         }
     }
 }
 
 #[test]
+fn a_library_of_which_rt_said_nothing_is_red() {
+    let gate = Gate::new("silent");
+    for name in ["sprondilu", "trial"] {
+        let report = format!("{}[ \"$name\" != {} ] || echo 'rt: done'\n", BUILT, name);
+        gate.rt_with_library(WELL, &report);
+        gate.is_red_at("tools/assumptions after the libraries");
+    }
+}
+
+#[test]
 fn a_crate_that_stands_on_one_of_the_kit_is_red() {
     let gate = Gate::new("kit-crate");
-    gate.crates("# as rt reads it: a note\nwire:\nrows: wire # another\n");
+    gate.crates("# as rt reads it: a note\nwire:\nrows staticlib: wire # another\n");
     assert!(gate.run().0);
     for other in ["libc", "io", "os", "wire libc", "check"] {
         gate.crates(&format!("wire:\nrows: {}\n", other));
@@ -252,68 +273,130 @@ fn a_crate_that_stands_on_one_of_the_kit_is_red() {
     }
 }
 
+/// The line with which rt ends well.
+const OK: &str = "echo 'rt: ok; handles allowed: none; must-fail edits: 2 refused'\n\
+    echo '7 passed, 0 failed'\n";
+
 #[test]
-fn a_check_that_left_no_log_is_red() {
+fn a_check_of_which_rt_said_nothing_is_red() {
     let gate = Gate::new("log");
-    gate.rt("exit 0", "echo '7 passed, 0 failed'\n");
+    gate.rt(OK);
     gate.is_red_at("assumptions");
+    // of another crate alone, or of none of this name
+    gate.crates("wire:\nrows: wire\n");
+    for name in ["wire", "rows_of"] {
+        gate.rt(&format!(
+            "echo '== {0}'\necho 'logic=proved functions=16 sum=0'\necho 'rt: {0} proved'\n{1}",
+            name, OK
+        ));
+        gate.is_red_at("assumptions");
+    }
+}
+
+#[test]
+fn a_crate_that_an_earlier_run_proved_is_well() {
+    let gate = Gate::new("kept");
+    gate.crates("wire:\nrows: wire\n");
+    let kept = "echo 'rt: rows is kept: an earlier run on this machine proved the same files over the same libraries'\n";
+    let proved = "echo '== wire'\necho 'logic=proved functions=16 sum=0'\necho 'rt: wire proved'\n";
+    gate.rt(&format!("{}{}{}", proved, kept, OK));
+    let (passed, last, all) = gate.run();
+    assert!(passed, "{}", all);
+    assert_eq!(last, "7 passed, 0 failed");
+    gate.rt(&format!("{}{}", kept, OK));
+    gate.is_red_at("assumptions");
+}
+
+#[test]
+fn an_edit_that_was_not_tried_is_red() {
+    let gate = Gate::new("bad-edit");
+    let said = |edits: &str| WELL.replace("must-fail edits: 2 refused", edits);
+    for edits in [
+        "must-fail edits: 2 refused, 1 bad",
+        "must-fail edits: 2 refused, 1 of them only by a limit, 12 bad",
+        "must-fail edits: 0 refused, 3 bad",
+        "must-fail edits: 0 refused",
+    ] {
+        gate.rt(&said(edits));
+        gate.is_red_at("rt ci, must-fail edits that were not tried");
+    }
+    gate.rt(&WELL.replace("rt: ok;", "rt: well;"));
+    gate.is_red_at("rt ci, must-fail edits that were not tried");
+    gate.rt(&said(
+        "must-fail edits: 10 refused, 1 of them only by a limit",
+    ));
+    assert!(gate.run().0);
 }
 
 #[test]
 fn a_library_that_cannot_be_built_is_red() {
     let gate = Gate::new("library");
-    for staticlib in ["exit 1", "echo '7 passed, 0 failed'\nexit 3"] {
-        gate.rt_with_library("exit 0", WELL, staticlib);
+    for library in ["exit 1", "echo '7 passed, 0 failed'\nexit 3"] {
+        gate.rt_with_library(WELL, library);
         gate.is_red_at("tools/library sprondilu");
     }
-    let all_but_trial = format!("[ \"$2\" != trial ] || exit 1\n{}", BUILT);
-    gate.rt_with_library("exit 0", WELL, &all_but_trial);
+    let all_but_trial = format!("[ \"${{PWD##*/}}\" != trial ] || exit 1\n{}", BUILT);
+    gate.rt_with_library(WELL, &all_but_trial);
     gate.is_red_at("tools/library trial");
 }
 
-/// A kit beside the stand-ins that has a compiler for an Arm.
-fn kit_for_an_arm(gate: &Gate) {
-    let toolchain = gate.folder.join("on/aarch64/toolchain/bin");
-    fs::create_dir_all(&toolchain).unwrap();
-    house::write_script(&toolchain.join("clang"), "echo \"compiled: $*\"\n");
-}
-
-/// Compiles as the kit does, for the machine that it always does it for, and writes the library only if it was for an Arm.
-const COMPILES: &str = "clang=$RATTLE_HOME/on/aarch64/toolchain/bin/clang\n\
-    said=$($clang --target=x86_64-unknown-linux-gnu -march=x86-64 -c module.bc)\n\
-    [ \"$said\" = 'compiled: --target=aarch64-unknown-linux-gnu -Wno-override-module -c module.bc' ] || exit 1\n";
-
 #[test]
-fn on_another_machine_the_library_is_compiled_for_it() {
-    let gate = Gate::new("arm");
-    gate.tool("uname", "echo aarch64\n");
-    gate.rt_with_library("exit 0", WELL, &format!("{}{}", COMPILES, BUILT));
+fn the_library_is_compiled_for_the_machine() {
+    let gate = Gate::new("machine");
+    for (machine, words) in [
+        (
+            "x86_64",
+            "lib --target x86_64-unknown-linux-gnu --cpu x86-64",
+        ),
+        ("aarch64", "lib --target aarch64-unknown-linux-gnu"),
+    ] {
+        gate.tool("uname", &format!("echo {}\n", machine));
+        let asked = format!("[ \"$*\" = '{}' ] || exit 1\n{}", words, BUILT);
+        gate.rt_with_library(WELL, &asked);
+        let (passed, last, all) = gate.run();
+        assert!(passed, "{}", all);
+        assert_eq!(last, "7 passed, 0 failed", "{}", all);
+    }
+    gate.tool("uname", "echo riscv64\n");
+    gate.rt(WELL);
     gate.is_red_at("tools/library sprondilu");
-    kit_for_an_arm(&gate);
-    let (passed, last, all) = gate.run();
-    assert!(passed, "{}", all);
-    assert_eq!(last, "7 passed, 0 failed", "{}", all);
+    assert!(gate.run().2.contains("rt compiles for no riscv64"));
 }
 
 #[test]
 fn a_library_that_was_not_written_or_is_another_is_red() {
-    let all_but = |name| format!("[ \"$2\" != {} ] || exit 0\n{}", name, BUILT);
-    for staticlib in [
-        "exit 0".to_string(),
-        "mkdir -p target/staticlib\necho archive > target/staticlib/libwire.a".to_string(),
-        all_but("trial"),
-        all_but("sprondilu"),
+    let all_but = |name| {
+        format!(
+            "[ \"${{PWD##*/}}\" != {} ] || {{ echo 'logic=proved functions=1'; exit 0; }}\n{}",
+            name, BUILT
+        )
+    };
+    for (library, step) in [
+        ("exit 0".to_string(), "tools/library sprondilu"),
+        (
+            "mkdir -p out\necho archive > out/libwire.a".to_string(),
+            "tools/library sprondilu",
+        ),
+        (all_but("trial"), "tools/library trial"),
+        (all_but("sprondilu"), "tools/library sprondilu"),
     ] {
         let gate = Gate::new("no-library");
-        gate.rt_with_library("exit 0", WELL, &staticlib);
-        gate.is_red_at("cargo test");
+        gate.rt_with_library(WELL, &library);
+        gate.is_red_at(step);
+        // nor is what an earlier run left taken for it
+        for name in ["sprondilu", "trial"] {
+            let folder = gate.folder.join(format!("crates/{}/out", name));
+            fs::create_dir_all(&folder).unwrap();
+            fs::write(folder.join(format!("lib{}.a", name)), "archive").unwrap();
+        }
+        gate.is_red_at(step);
     }
 }
 
 #[test]
 fn no_library_is_built_of_what_assumes_something() {
     let gate = Gate::new("assumed-library");
-    gate.rt_with_library("exit 0", &WELL.replace("sum=0", "axioms=1"), "echo built\n");
+    gate.rt_with_library(&WELL.replace("sum=0", "axioms=1"), "echo built\n");
     gate.is_red_at("assumptions");
     assert!(!gate.run().2.contains("built"));
 }
@@ -328,13 +411,6 @@ fn a_failed_host_test_is_red_after_all_is_proved() {
     gate.is_red_at("cargo test");
     gate.tool("cargo", "echo '9 passed, 0 failed'\nexit 1\n");
     gate.is_red_at("cargo test");
-}
-
-#[test]
-fn a_file_out_of_layout_is_red() {
-    let gate = Gate::new("layout");
-    gate.rt("exit 1", WELL);
-    gate.is_red_at("rt fmt");
 }
 
 #[test]
@@ -372,9 +448,8 @@ fn what_is_missing_is_installed_by_name() {
 }
 
 /// The steps as the gate names them.
-const STEPS: [&str; 10] = [
+const STEPS: [&str; 9] = [
     "tools/install, what this machine lacks",
-    "rt fmt --check, the layout of the files",
     "rt ci, every proof and every must-fail edit",
     "tools/assumptions after the checks: no proof leans on what nothing proves",
     "tools/library sprondilu, the library that the host tests link",
@@ -392,7 +467,7 @@ fn name_of(step: &str) -> &str {
 
 /// Three crates and three edits, of which one stands where rt does not look. Those that are begun take this time.
 fn with_crates_and_edits(gate: &Gate, time: &str) {
-    gate.rt("exit 0", &CHECKS.replace("TIME", time));
+    gate.rt(&CHECKS.replace("TIME", time));
     gate.crates("wire:\nrows: wire # and a note\ntrial: wire\n");
     for edit in [
         "wire/must-fail/one",
@@ -405,26 +480,23 @@ fn with_crates_and_edits(gate: &Gate, time: &str) {
     }
 }
 
-/// As rt does with these, two at a time, with the files that it writes.
-const CHECKS: &str = "rm -rf target\n\
-    mkdir -p target/log target/must-fail/rows target/must-fail/wire\n\
-    echo failed >target/log/wire.res\n\
-    sleep 0.1\n\
-    : >target/log/wire.say\n\
+/// As rt does with these, with the folders that it makes. It tells of the edits in the end.
+const CHECKS: &str = "rm -rf crates/*/out\n\
+    mkdir -p crates/wire/out\n\
     sleep TIME\n\
-    echo 'logic=proved functions=16 sum=0' >target/log/wire.out\n\
-    echo proved >target/log/wire.res\n\
-    echo 'fn wire::u32_at: proved'\n\
-    echo 'rt: wire proved (1 s)'\n\
-    echo 'rt: rows proved (2 s)'\n\
-    echo 'rt: trial proved (2 s)'\n\
-    : >target/must-fail/wire/one.out\n\
-    : >target/must-fail/rows/two.out\n\
+    for name in wire rows; do\n\
+    echo \"== $name\"\n\
+    echo \"fn $name::read: proved\"\n\
+    echo 'logic=proved functions=16 sum=0'\n\
+    echo \"rt: $name proved\"\n\
+    done\n\
+    echo 'rt: rows: trying its must-fail edits (1)'\n\
+    echo 'rt: trial is kept: an earlier run on this machine proved the same files over the same libraries'\n\
     sleep TIME\n\
     for edit in wire/one rows/two; do\n\
-    echo \"rt: must-fail $edit: refused, as it must be (1 s)\" | tee target/must-fail/$edit.out\n\
+    echo \"rt: must-fail $edit.edit: refused, as it must be: note: src/lib.rt:6:1: it is not proved\"\n\
     done\n\
-    echo 'rt: ok, 3 crates proved, 2 must-fail edits refused'\n\
+    echo 'rt: ok; handles allowed: none; must-fail edits: 2 refused; every proof and must-fail edit was done in this run'\n\
     echo '5 passed, 0 failed'\n";
 
 #[test]
@@ -434,10 +506,12 @@ fn each_step_has_a_line_in_the_beginning_and_one_with_its_time() {
     assert_eq!(last, "7 passed, 0 failed");
     assert!(!all.contains(&['\r', '\u{1b}'][..]), "{}", all);
     let said = all.lines().filter(|line| line.starts_with("test: step "));
+    // One more tells of the crate.
+    let said = said.filter(|line| !line.contains(": wire proved, "));
     let said: Vec<&str> = said.collect();
     assert_eq!(said.len(), 2 * STEPS.len(), "{}", all);
     for (i, step) in STEPS.iter().enumerate() {
-        let head = format!("test: step {} of 10: ", i + 1);
+        let head = format!("test: step {} of 9: ", i + 1);
         let begins = said[2 * i].trim_end_matches("..");
         assert!(format!("{}{}", head, step).starts_with(begins), "{}", all);
         let ends = format!("{}{} took ", head, name_of(step));
@@ -453,17 +527,18 @@ fn crates_and_edits_are_counted() {
     let (passed, last, all) = gate.run();
     assert!(passed, "{}", all);
     assert_eq!(last, "5 passed, 0 failed");
-    // Each behind rt's own line, from which the times are read.
+    // Each behind rt's own line; from these the times are read.
     for expected in [
-        "\nrt: wire proved (1 s)\ntest: step 3 of 10: wire proved, 1 of 3 crates, ",
-        "\nrt: rows proved (2 s)\ntest: step 3 of 10: rows proved, 2 of 3 crates, ",
-        "\nrt: must-fail rows/two: refused, as it must be (1 s)\ntest: step 3 of 10: rows/two refused, 2 of 2 edits, ",
+        "\nrt: wire proved\ntest: step 2 of 9: wire proved, 1 of 3 crates, ",
+        "\nrt: rows proved\ntest: step 2 of 9: rows proved, 2 of 3 crates, ",
+        " over the same libraries\ntest: step 2 of 9: trial kept, 3 of 3 crates, ",
+        " it is not proved\ntest: step 2 of 9: rows/two refused, 2 of 2 edits, ",
     ] {
         assert!(all.contains(expected), "{}", all);
     }
     let took = all
         .lines()
-        .find(|line| line.starts_with("test: step 3 of 10: rt ci took "));
+        .find(|line| line.starts_with("test: step 2 of 9: rt ci took "));
     assert!(took.unwrap().ends_with(" s, 3 crates, 2 edits"), "{}", all);
 }
 
@@ -488,9 +563,9 @@ fn the_crates_of_the_host_are_counted() {
     let (passed, _, all) = gate.run();
     assert!(passed, "{}", all);
     for expected in [
-        "test: step 8 of 10: compiling archive, ",
-        "test: step 8 of 10: host/archive tested, 1 of 2 crates, ",
-        "test: step 8 of 10: host/bench tested, 2 of 2 crates, ",
+        "test: step 7 of 9: compiling archive, ",
+        "test: step 7 of 9: host/archive tested, 1 of 2 crates, ",
+        "test: step 7 of 9: host/bench tested, 2 of 2 crates, ",
     ] {
         assert_eq!(all.matches(expected).count(), 1, "{}", all);
     }
@@ -503,19 +578,19 @@ fn on_a_terminal_one_line_changes_and_a_line_for_each_step_stays() {
     let (passed, written) = gate.on_a_terminal();
     assert!(passed, "{:?}", written);
     for expected in [
-        "\rtest: step 3 of 10: proving wire, 0 of 3 crates done, ",
-        "\rtest: step 3 of 10: trying rows/two, 0 of 2 edits done, ",
+        "\rtest: step 2 of 9: proving wire, 0 of 3 crates done, ",
+        "\rtest: step 2 of 9: trying the edits of rows, 0 of 2 edits done, ",
     ] {
         assert!(written.contains(expected), "{:?}", written);
     }
     let stands = terminal::standing(&written);
     assert_eq!(stands.len(), STEPS.len() + 1, "{:?}", written);
     for (i, step) in STEPS.iter().enumerate() {
-        let line = format!("test: step {} of 10: {} took ", i + 1, name_of(step));
+        let line = format!("test: step {} of 9: {} took ", i + 1, name_of(step));
         assert!(stands[i].starts_with(&line), "{:?}", written);
     }
     assert!(
-        stands[2].ends_with(" s, 3 crates, 2 edits"),
+        stands[1].ends_with(" s, 3 crates, 2 edits"),
         "{:?}",
         written
     );
@@ -533,7 +608,7 @@ fn on_a_terminal_what_a_failed_step_said_is_shown() {
     assert!(!passed, "{:?}", written);
     let stands = terminal::standing(&written);
     assert_eq!(
-        stands[7..],
+        stands[6..],
         [
             "test result: FAILED. 2 passed; 1 failed",
             "test: not passed: cargo test, the host tests (exit status 101)"
@@ -547,10 +622,7 @@ fn on_a_terminal_what_a_failed_step_said_is_shown() {
 fn ctrl_c_is_red_and_ends_all_that_was_started() {
     let gate = Gate::new("ctrl-c");
     let started = gate.folder.join("started");
-    gate.rt(
-        "exit 0",
-        "sleep 1000 >/dev/null 2>&1 &\necho $! >started\nwait\n",
-    );
+    gate.rt("sleep 1000 >/dev/null 2>&1 &\necho $! >started\nwait\n");
     let command = format!(
         "{}; sleep 1; grep -qs sleep \"/proc/$(cat '{}')/cmdline\" || echo nothing is left",
         gate.command(),
@@ -559,7 +631,7 @@ fn ctrl_c_is_red_and_ends_all_that_was_started() {
     let done = terminal::run_until(&started, &command, &gate.path());
     let written = String::from_utf8_lossy(&done.stdout);
     assert_eq!(
-        terminal::standing(&written)[2..],
+        terminal::standing(&written)[1..],
         [
             "test: not passed: rt ci, every proof and every must-fail edit (exit status 130)",
             "nothing is left"

@@ -65,8 +65,8 @@ fn what_a_paper_cites_is_there() {
 fn a_citation_of_nothing_is_noticed() {
     for wrong in [
         "wire::no_such_function",
-        "wire/proofs/Numbers.no-such-law",
-        "wire/proofs/NoSuchFile.read-back",
+        "wire/proofs/Numbers.no_such_law",
+        "wire/proofs/NoSuchFile.read_back",
         "wire/must-fail/no_such_edit",
         "rows/more-must-fail/no_such_edit",
         "table::header::no_such_function",
@@ -76,7 +76,7 @@ fn a_citation_of_nothing_is_noticed() {
     ] {
         assert_eq!(stands(wrong), Some(false), "{}", wrong);
     }
-    assert_eq!(stands("wire/proofs/Numbers.read-back"), Some(true));
+    assert_eq!(stands("wire/proofs/Numbers.read_back"), Some(true));
     assert_eq!(stands("a word"), None);
 }
 

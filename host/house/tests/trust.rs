@@ -109,7 +109,7 @@ fn some_definitions_are_where_a_reader_expects_them() {
         ("wire/specs/Numbers", "number", true),
         ("group/specs/Rules", "CommitAfterOK", true),
         ("rules/specs/Merge", "merge", true),
-        ("rows/specs/Inner/Places", "placeOf", false),
+        ("rows/specs/Inner/Places", "place_of", false),
         ("rules/specs/Inner/Clashes", "clash", false),
         ("history/specs/Beyond", "GoesThrough", false),
     ] {
@@ -120,10 +120,11 @@ fn some_definitions_are_where_a_reader_expects_them() {
 }
 
 const SOURCE: &str = "-- a file\n\
-    use Prim.Native.Nat.{ℕ, _+_}\n\
-    use Rattle·rules.specs.Tables.{Table, Result.OK}\n\
-    use Rattle·merge.specs.Calls as merge\n\
-    use Rattle·rows·specs.specs.declared.row.RowFields.{RowFields}\n\
+    use Rattle.std.specs.Prelude.{ℕ, ◌+◌}\n\
+    use Rattle.rules.specs.Tables.{Table, Result.OK, valley}\n\
+    use Rattle.merge.specs.Calls as merge\n\
+    use Rattle.rows.specs.declared.row.RowFields.{RowFields}\n\
+    use Rattle.rows.specs.declared.lookup.Place.TheVariants.{Absent}\n\
     \n\
     pub data Event : Type 0 where\n\
     \x20 -- not a word of this\n\
@@ -133,7 +134,10 @@ const SOURCE: &str = "-- a file\n\
     \x20 abbrev pub first : Event -- Table\n\
     \x20 first = sends 1\n\
     \x20 pub second : RowFields\n\
-    \x20 second = record { offset = merge.callNumber OK; first = 2 }\n";
+    \x20 second = record { offset = merge.call_number OK; first = 2 }\n\
+    \n\
+    pub third : ℕ\n\
+    third = valley.row_limit\n";
 
 fn named(of: &Definition) -> Vec<String> {
     let names = of.names.iter();
@@ -146,8 +150,11 @@ fn named(of: &Definition) -> Vec<String> {
 fn a_definition_names_what_its_text_and_its_block_say() {
     let found = definitions_of("x/specs/X", SOURCE);
     let names: Vec<&str> = found.iter().map(|d| d.name.as_str()).collect();
-    assert_eq!(names, ["Event", "first", "second"]);
-    assert_eq!(named(&found[0]), ["Prim.Native.Nat.ℕ", "x/specs/X.Event"]);
+    assert_eq!(names, ["Event", "first", "second", "third"]);
+    assert_eq!(
+        named(&found[0]),
+        ["Rattle.std.specs.Prelude.ℕ", "x/specs/X.Event"]
+    );
     let first = [
         "rules/specs/Tables.Table",
         "x/specs/X.Event",
@@ -157,7 +164,7 @@ fn a_definition_names_what_its_text_and_its_block_say() {
     assert_eq!(
         named(&found[2]),
         [
-            "merge/specs/Calls.callNumber",
+            "merge/specs/Calls.call_number",
             "rows/src/row.RowFields",
             "rules/specs/Tables.Result",
             "rules/specs/Tables.Table",
@@ -165,6 +172,15 @@ fn a_definition_names_what_its_text_and_its_block_say() {
         ]
     );
     assert_eq!(found[1].lines, 2);
+    // a field is read of what is named before it
+    assert_eq!(
+        named(&found[3]),
+        [
+            "Rattle.std.specs.Prelude.ℕ",
+            "rules/specs/Tables.valley",
+            "x/specs/X.third",
+        ]
+    );
 }
 
 #[test]
@@ -172,22 +188,35 @@ fn a_word_in_infix_form_is_its_definition() {
     let names = Scope::of(SOURCE).names("a + (b)");
     assert_eq!(
         names.into_iter().collect::<Vec<_>>(),
-        [("Prim.Native.Nat".to_string(), "_+_".to_string())]
+        [("Rattle.std.specs.Prelude".to_string(), "◌+◌".to_string())]
+    );
+}
+
+#[test]
+fn a_variant_is_a_word_of_its_type() {
+    let names = Scope::of(SOURCE).names("x ≡ Absent 1");
+    assert_eq!(
+        names.into_iter().collect::<Vec<_>>(),
+        [("rows/src/lookup".to_string(), "Place".to_string())]
     );
 }
 
 #[test]
 fn only_what_c_calls_is_a_public_contract() {
-    let source = "ghost use Rattle·a.specs.A.{one, two};\n\
-        #[no_mangle]\n\
+    let source = "ghost use Rattle.a.specs.A.{one, two, three, four, name};\n\
+        #[unsafe(no_mangle)]\n\
         pub extern \"C\" fn f(x: u8) -> u8\n\
-        \x20   ensures { λ r. ⌜ r ≡ one x ⌝ }\n\
+        \x20   requires {\n\
+        \x20       three x ≡ x\n\
+        \x20   }\n\
+        \x20   ensures name { result ≡ one x }\n\
+        \x20   ensures else { IfOk result (λ r. r ≡ four) }\n\
         {\n}\n\
         fn g(x: u8) -> u8\n\
-        \x20   ensures { λ r. ⌜ r ≡ two x ⌝ }\n{\n}\n";
+        \x20   ensures { result ≡ two x }\n{\n}\n";
     let found = contracts(source);
     assert_eq!(found.len(), 1);
     assert_eq!(found[0].0, "f");
     let names: Vec<&str> = found[0].1.iter().map(|(_, name)| name.as_str()).collect();
-    assert_eq!(names, ["one"]);
+    assert_eq!(names, ["four", "one", "three"]);
 }

@@ -1,5 +1,5 @@
 //! The proved changes of a table in its lent buffer, one by one, the body that a lookup hands out, and the stepping of a
-//! group in one lent buffer, as Rust links them from the library that `rt staticlib trial` writes. Box firmware links
+//! group in one lent buffer, as Rust links them from the library that `tools/library trial` writes. Box firmware links
 //! another, so this is for tests and measurements alone. Nothing checks these declarations against the library's source, so
 //! there is one for each function of `crates/trial` and nothing else.
 //!

@@ -1,5 +1,6 @@
 //! The definitions of a file of antt, and what each of them names.
 
+use crate::crates;
 use std::collections::{BTreeMap, BTreeSet};
 
 /// What a text names: the file where it stands, or a module of the kit, and its name there.
@@ -44,20 +45,24 @@ impl Scope {
         }
     }
 
-    /// `_∈_` is written as `∈`, and `Message.startView` as `startView`, which is a word of `Message`.
+    /// `◌∈◌` is written as `∈`, and `Message.start_view` as `start_view`, which is a word of `Message`.
     fn add(&mut self, home: &str, name: &str, owner: Option<&str>) {
         let (whole, word) = name.split_once('.').unwrap_or((name, name));
         let stands = (home.to_string(), owner.unwrap_or(whole).to_string());
         self.words
-            .insert(word.trim_matches('_').to_string(), stands);
+            .insert(word.trim_matches('◌').to_string(), stands);
     }
 
+    /// `merge.call_number` is a name of a module that is imported whole, and `valley.row_limit` a field of what is named before it.
     fn meaning(&self, word: &str) -> Option<Name> {
         if let Some(found) = self.words.get(word) {
             return Some(found.clone());
         }
         let (prefix, name) = word.split_once('.')?;
-        let (home, owner) = self.prefixes.get(prefix)?;
+        let (home, owner) = match self.prefixes.get(prefix) {
+            Some(module) => module,
+            None => return self.words.get(prefix).cloned(),
+        };
         let whole = name.split('.').next().unwrap_or(name).to_string();
         Some((home.clone(), owner.clone().unwrap_or(whole)))
     }
@@ -75,28 +80,30 @@ impl Scope {
     }
 }
 
-/// Where the names of a module stand: in a file of `specs/`, in a source of the code, or in the kit.
+/// Where the names of a module stand: in a file of `specs/`, in a source of the code, or in the kit, whose modules are named in
+/// the same way.
 fn home(module: &str) -> String {
-    let own = match module.strip_prefix("Rattle·") {
-        Some(own) => own,
+    let path = module
+        .strip_prefix("Rattle.")
+        .and_then(|own| own.split_once('.'));
+    let (name, path) = match path.filter(|(name, _)| crates().iter().any(|own| own == name)) {
+        Some(parts) => parts,
         None => return module.to_string(),
     };
-    let parts: Vec<&str> = own.split('.').collect();
-    let name = parts[0].split('·').next().unwrap_or("");
-    match own.split_once(".declared.") {
+    match path.strip_prefix("specs.declared.") {
         // `row.RowFields` is a type of the source `row`, and `Proposal` alone one of the crate's first source
-        Some((_, path)) => match type_path(path)[..] {
+        Some(path) => match type_path(path)[..] {
             [source, _] => format!("{}/src/{}", name, source),
             _ => format!("{}/src/lib", name),
         },
-        None => format!("{}/{}", name, parts[1..].join("/")),
+        None => format!("{}/{}", name, path.replace('.', "/")),
     }
 }
 
-/// The words of a path to a type of the code; `the-variants` behind it are its own.
+/// The words of a path to a type of the code; `TheVariants` behind it are its own.
 fn type_path(path: &str) -> Vec<&str> {
     path.split('.')
-        .filter(|part| *part != "the-variants")
+        .filter(|part| *part != "TheVariants")
         .collect()
 }
 
@@ -108,7 +115,7 @@ fn type_of(module: &str) -> Option<&str> {
 
 /// The words of a text, each bracket, comma and semicolon a word of its own.
 fn words(text: &str) -> Vec<&str> {
-    let is_mark = |c: char| "(){};,⌜⌝".contains(c);
+    let is_mark = |c: char| "(){};,".contains(c);
     let mut found = Vec::new();
     for piece in text
         .split_whitespace()
