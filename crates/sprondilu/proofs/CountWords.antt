@@ -114,6 +114,7 @@ word_number n lent = go (count_lent n lent) (word_says n lent) (count_numbers n 
         below (Memᴰ.head f) = omega arith
         below (Memᴰ.tail (Memᴰ.head f)) = omega arith
         below (Memᴰ.tail (Memᴰ.tail (Memᴰ.head f))) = omega arith
+        below (Memᴰ.tail (Memᴰ.tail (Memᴰ.tail x))) = elim x [ ]
 
 -- two words that the promise allows for the same n and replies are equal
 pub word_determined : (n : ℕ) (lent : Lent) {word other : ℕ} → word ≡ count_word n lent → other ≡ count_word n lent → word ≡ other

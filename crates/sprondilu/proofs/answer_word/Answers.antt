@@ -6,7 +6,7 @@ use Rattle.sprondilu.proofs.CountWords.{without_result}
 use Rattle.sprondilu.proofs.answer_word.Goals as goal
 
 pub returns-in_default-answer : goal.returns-in_default-answer
-returns-in_default-answer c = c.number_of.ensures ∙ without_result c.args.answer c.in_default.keys2 c.in_default-answer.keys2
+returns-in_default-answer c = c.number_of.ensures ∙ without_result c.args.answer c.in_default.in_default-own.keys2 c.in_default-answer.in_default-answer-own.keys2
 
 pub result_word-requires : goal.result_word-requires
 result_word-requires c = let f = subst ResultFits c.in-Slow.is c.requires in (omega arith, f.0, f.1)

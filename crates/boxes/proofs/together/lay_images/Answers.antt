@@ -47,4 +47,4 @@ pub shape_of-run : goal.shape_of-run
 shape_of-run c = c.loop-laid.invariant.kept
 
 pub returns : goal.returns
-returns c = laid_all valley _ _ _ _ _ _ c.loop-laid.invariant c.loop-laid-test.false
+returns c = let (end, run) = laid_all valley _ _ _ _ _ _ c.loop-laid.invariant c.loop-laid-test.false in record { value = end; run_after = run }

@@ -10,18 +10,18 @@ use Rattle.boxes.proofs.NamedTables.{crowded, room, roomy, together_crowded, tog
 use Rattle.boxes.proofs.together.merge_boxes.Goals as goal
 
 pub returns-then-run-boxes : goal.returns-then-run-boxes
-returns-then-run-boxes c = let a = c.args in together_crowded valley a.tables.now a.boxes.now a.view a.run.now a.out.now (crowded valley (omega arith) a.boxes.now a.run.now c.if-run-boxes.true)
+returns-then-run-boxes c = let a = c.args in let (number, (after, merged)) = together_crowded valley a.tables.now a.boxes.now a.view a.run.now a.out.now (crowded valley (omega arith) a.boxes.now a.run.now c.if-run-boxes.true) in record { value = number; run_after = after; out_after = merged }
 
 pub returns-then-out-lt-VALLEY_BUFFER : goal.returns-then-out-lt-VALLEY_BUFFER
 returns-then-out-lt-VALLEY_BUFFER c =
     let fits : (let a = c.args in no_run_room valley a.boxes.now a.run.now ≡ false) = roomy valley (omega arith) _ _ c.if-run-boxes.false in
-    let a = c.args in together_small valley a.tables.now a.boxes.now a.view a.run.now a.out.now fits c.if-out-lt-VALLEY_BUFFER.true
+    let a = c.args in let (number, (after, merged)) = together_small valley a.tables.now a.boxes.now a.view a.run.now a.out.now fits c.if-out-lt-VALLEY_BUFFER.true in record { value = number; run_after = after; out_after = merged }
 
 pub returns-then-not-all_whole : goal.returns-then-not-all_whole
 returns-then-not-all_whole c =
     let fits : (let a = c.args in no_run_room valley a.boxes.now a.run.now ≡ false) = roomy valley (omega arith) _ _ c.if-run-boxes.false in
     let a = c.args in
-    together_bad valley a.tables.now a.boxes.now a.view a.run.now a.out.now fits c.if-out-lt-VALLEY_BUFFER.false (sym c.all_whole.ensures ∙ c.if-not-all_whole.true)
+    let (number, (after, merged)) = together_bad valley a.tables.now a.boxes.now a.view a.run.now a.out.now fits c.if-out-lt-VALLEY_BUFFER.false (sym c.all_whole.ensures ∙ c.if-not-all_whole.true) in record { value = number; run_after = after; out_after = merged }
 
 pub lay_images-end-requires : goal.lay_images-end-requires
 lay_images-end-requires c = let a = c.args in (sym c.all_whole.ensures ∙ c.if-not-all_whole.false, room valley (omega arith) a.boxes.now a.run.now c.if-run-boxes.false)
@@ -39,4 +39,4 @@ returns c =
     let laid = c.lay_images-end in
     let call = c.merge in
     let is = rw (← laid.ensures.value) at (laid_part _ _ _ laid.ensures.run_after) in
-    together_merged valley a.tables.now a.boxes.now a.view a.run.now a.out.now fits c.if-out-lt-VALLEY_BUFFER.false _ _ _ laid.ensures.run_after (rw is at call.ensures.0) (rw is at call.ensures.1)
+    let (number, (after, merged)) = together_merged valley a.tables.now a.boxes.now a.view a.run.now a.out.now fits c.if-out-lt-VALLEY_BUFFER.false _ _ _ laid.ensures.run_after (rw is at call.ensures.value) (rw is at call.ensures.out_after) in record { value = number; run_after = after; out_after = merged }
