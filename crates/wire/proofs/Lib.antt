@@ -4,3 +4,4 @@ pub mod Stands
 pub mod Fields
 pub mod Turns
 pub mod Examples
+pub mod HandWalks
