@@ -10,3 +10,5 @@ pub mod Sought
 pub mod HalvingSteps
 pub mod Halving
 pub mod HalvingMost
+pub mod Readers
+pub mod ReaderCalls
