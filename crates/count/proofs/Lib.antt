@@ -4,3 +4,4 @@ pub mod Decisions
 pub mod CountWays
 pub mod CountCall
 pub mod TallyCounts
+pub mod Walks
