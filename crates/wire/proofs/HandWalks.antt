@@ -52,7 +52,7 @@ module _ {M : Type 1} {𝓤 : Ura M} {𝓛 : Logic 𝓤} {K : Type 0} {Γ : List
   open 𝓛 use {H}
 
   module _ {G : Goal 𝓤 H} where
-    -- the reference is Copy, by what a `&` to an element holds (`L`): a walk keeps one and passes one on
+    -- the reference is Copy, since what a `&` to an element holds can be had twice (`RowLaws`): a walk keeps one and passes one on
     pub twice : K → (R : RattleType) → RowLaws R → (κ : Lft) (s : Bor (List R.Denot)) → Step K 𝓛 (‵ (SliceOwn R κ s) ∷ ‵ (SliceOwn R κ s) ∷ Γ) G (‵ (SliceOwn R κ s) ∷ Γ) G
     twice t R L κ s = step (λ k. use1 𝓛 (‵ (SliceOwn R κ s) ⊛ ‵ (SliceOwn R κ s)) ((shr_slice_copy 𝓛 (named 0) κ R L).twice s (slice_as R s ∷ [])) $ split t $ k)
 
