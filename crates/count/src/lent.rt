@@ -1,4 +1,4 @@
-// The count over a lent list of reply structs. What goes over such a list is walked by hand, so it is little: one loop, and the call above it.
+// The count over a lent list of reply structs: one loop, and the call above it.
 ghost use Rattle.std.specs.Prelude.{◌≡◌};
 ghost use Rattle.replies.specs.Inner.Tallies.{no_tally, with_replies};
 ghost use Rattle.count.specs.Answers.{answer_as};

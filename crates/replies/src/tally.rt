@@ -246,6 +246,7 @@ impl Tally {
     }
 
     // One reply more. "Final or not" is 1 or 0.
+    #[tactic(auto, using(crate::proofs::Steps::far_box, crate::proofs::Steps::old_box, crate::proofs::Steps::bad_final, crate::proofs::Steps::next_reply, crate::proofs::Steps::other_view_lem))]
     pub fn with(mut self, reply: Reply) -> Tally
         ensures { result ≡ with_reply self reply }
     {

@@ -1,6 +1,6 @@
 // One small reader over a lent image: it stands at a row. Whatever goes over rows takes them through it, by `row::row_at` and `row::body_at`.
 //
-// What has such a struct in it is walked by hand, so there is little of it: each function takes the reader apart and calls one over a plain slice.
+// There is little of it: each function takes the reader apart and calls one over a plain slice.
 ghost use Rattle.std.specs.Prelude.{◌≡◌, ◌+◌, ◌*◌, ◌≤◌, length};
 ghost use Rattle.rows.specs.Fields.{row_length, fields_at};
 ghost use Rattle.rows.specs.Inner.Rows.{BodyInside, body_part};
