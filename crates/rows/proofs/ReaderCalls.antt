@@ -1,4 +1,4 @@
--- Two shapes of code around the reader, each walked by hand once: a function that takes a reader apart and calls one of its three, and a function of the three that makes a reader and asks it.
+-- Two shapes of code around the reader, each walked by hand, as the check does today by itself: a function that takes a reader apart and calls one of its three, and a function of the three that makes a reader and asks it.
 -- The row and its body go the same ways; what differs are the names of what is called, the type of the result, and what is asked and found.
 use mathlib.Core.Path.{refl}
 use mathlib.Core.List.{List, [], ◌∷◌}

@@ -1,4 +1,4 @@
--- Rules for walks by hand, which functions need that hold a reference in a struct or go over a list of structs: a lent slice, a call that has returned, and the test of a `while`.
+-- Rules for walks by hand: a lent slice, a call that has returned, and the test of a `while`. Functions that hold a reference in a struct, or go over a list of structs, were walked by them. Today the check walks such functions by itself.
 -- Nothing of bytes is in them. They stand here because every crate with such a function is above this one.
 use mathlib.Core.Bool.{Bool, not}
 use mathlib.Core.List.{List, [], ◌∷◌}
