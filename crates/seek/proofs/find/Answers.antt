@@ -7,7 +7,7 @@ use Rattle.seek.proofs.SoughtRows.{can_be_sought}
 use Rattle.seek.proofs.find.Goals as goal
 
 pub find-requires : goal.find-requires
-find-requires c = let p = c in rw p.requires.1 (can_be_sought valley p.args.image.now valley_sound p.requires.0)
+find-requires c = rw c.requires.1 (can_be_sought valley c.args.image.now valley_sound c.requires.0)
 
 pub returns : goal.returns
-returns c = let p = c in rw (← holds_rows_at format_one p.args.image.now) at (rw p.requires.1 at c.find.ensures)
+returns c = rw (← holds_rows_at format_one c.args.image.now) at (rw c.requires.1 at c.find.ensures)

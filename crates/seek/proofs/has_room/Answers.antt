@@ -3,7 +3,7 @@ use Rattle.seek.proofs.SoughtRows.{room_is, no_room}
 use Rattle.seek.proofs.has_room.Goals as goal
 
 pub returns-then-limit-h : goal.returns-then-limit-h
-returns-then-limit-h c = let p = c in no_room p.args.limit p.args.h c.if-limit-h.true
+returns-then-limit-h c = no_room c.args.limit c.args.h c.if-limit-h.true
 
 pub returns : goal.returns
-returns c = let p = c in rw c.quorum.ensures (room_is p.args.limit p.args.h)
+returns c = rw c.quorum.ensures (room_is c.args.limit c.args.h)

@@ -9,28 +9,28 @@ pub other_counts-requires : goal.other_counts-requires
 other_counts-requires c =
     let table-bytes : AllBytes c.args.table.now = all_of c.args.table.now (λ i. (c.shared_slice_known-1.given i).fits) in
     let message-bytes : AllBytes c.args.message.now = all_of c.args.message.now (λ i. (c.shared_slice_known-2-1.given i).fits) in
-    let p = c in row_inside p.args.table.now p.args.message.now p.args.given table-bytes (message-bytes) p.requires.0 p.requires.2 p.args.place p.requires.1
+    row_inside c.args.table.now c.args.message.now c.args.given table-bytes (message-bytes) c.requires.0 c.requires.2 c.args.place c.requires.1
 
 pub returns-then-other_counts : goal.returns-then-other_counts
 returns-then-other_counts c =
     let table-bytes : AllBytes c.args.table.now = all_of c.args.table.now (λ i. (c.shared_slice_known-1.given i).fits) in
     let message-bytes : AllBytes c.args.message.now = all_of c.args.message.now (λ i. (c.shared_slice_known-2-1.given i).fits) in
-    let p = c in counts_differ p.args.table.now p.args.message.now p.args.given table-bytes message-bytes p.requires.0 p.requires.2 p.args.place p.requires.1 (sym c.other_counts.ensures ∙ c.if-other_counts.true)
+    counts_differ c.args.table.now c.args.message.now c.args.given table-bytes message-bytes c.requires.0 c.requires.2 c.args.place c.requires.1 (sym c.other_counts.ensures ∙ c.if-other_counts.true)
 
 pub needed_body-requires : goal.needed_body-requires
 needed_body-requires c =
     let table-bytes : AllBytes c.args.table.now = all_of c.args.table.now (λ i. (c.shared_slice_known-1.given i).fits) in
     let message-bytes : AllBytes c.args.message.now = all_of c.args.message.now (λ i. (c.shared_slice_known-2-1.given i).fits) in
-    let p = c in needed_inside p.args.table.now p.args.message.now p.args.given table-bytes message-bytes p.requires.0 p.requires.2 p.args.place p.requires.1
+    needed_inside c.args.table.now c.args.message.now c.args.given table-bytes message-bytes c.requires.0 c.requires.2 c.args.place c.requires.1
 
 pub same_bytes-requires : goal.same_bytes-requires
 same_bytes-requires c =
     let table-bytes : AllBytes c.args.table.now = all_of c.args.table.now (λ i. (c.shared_slice_known-1.given i).fits) in
     let message-bytes : AllBytes c.args.message.now = all_of c.args.message.now (λ i. (c.shared_slice_known-2-1.given i).fits) in
-    let p = c in rw (c.needed_body.ensures, c.body_of.ensures) (needed_length p.args.table.now p.args.message.now p.args.given table-bytes message-bytes p.requires.0 p.requires.2 (rw p.requires.1 at (sym c.other_counts.ensures ∙ c.if-other_counts.false)) p.args.place p.requires.1)
+    rw (c.needed_body.ensures, c.body_of.ensures) (needed_length c.args.table.now c.args.message.now c.args.given table-bytes message-bytes c.requires.0 c.requires.2 (rw c.requires.1 at (sym c.other_counts.ensures ∙ c.if-other_counts.false)) c.args.place c.requires.1)
 
 pub returns : goal.returns
 returns c =
     let table-bytes : AllBytes c.args.table.now = all_of c.args.table.now (λ i. (c.shared_slice_known-1.given i).fits) in
     let message-bytes : AllBytes c.args.message.now = all_of c.args.message.now (λ i. (c.shared_slice_known-2-1.given i).fits) in
-    let p = c in rw (c.same_bytes.ensures, c.needed_body.ensures, c.body_of.ensures) (bytes_tell p.args.table.now p.args.message.now p.args.given table-bytes message-bytes p.requires.0 p.requires.2 (rw p.requires.1 at (sym c.other_counts.ensures ∙ c.if-other_counts.false)) p.args.place p.requires.1)
+    rw (c.same_bytes.ensures, c.needed_body.ensures, c.body_of.ensures) (bytes_tell c.args.table.now c.args.message.now c.args.given table-bytes message-bytes c.requires.0 c.requires.2 (rw c.requires.1 at (sym c.other_counts.ensures ∙ c.if-other_counts.false)) c.args.place c.requires.1)

@@ -26,4 +26,4 @@ loop-i-preserved c =
     (omega arith, c.loop-i.invariant.1, turn ∙ rw (eq-eqb _ _ c.if-a-i.false))
 
 pub returns : goal.returns
-returns c = let l = c in let a = l.args in sym (l.loop-i.invariant.2 ∙ begins_none a.a.now a.b.now l.loop-i.i (omega arith))
+returns c = let a = c.args in sym (c.loop-i.invariant.2 ∙ begins_none a.a.now a.b.now c.loop-i.i (omega arith))

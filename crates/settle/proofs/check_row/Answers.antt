@@ -13,10 +13,10 @@ use Rattle.settle.proofs.CheckedInPlace.{body_there, rows_there, checked_storabl
 use Rattle.settle.proofs.check_row.Goals as goal
 
 pub read-rows-requires : goal.read-rows-requires
-read-rows-requires c = let p = c in holds_least format_one p.args.out.now one_starts p.requires.0
+read-rows-requires c = holds_least format_one c.args.out.now one_starts c.requires.0
 
 pub row_at-row-requires : goal.row_at-row-requires
-row_at-row-requires c = let p = c in holds_row_inside format_one p.args.out.now p.args.index one_starts p.requires.0 p.requires.1
+row_at-row-requires c = holds_row_inside format_one c.args.out.now c.args.index one_starts c.requires.0 c.requires.1
 
 pub body_of-requires : goal.body_of-requires
 body_of-requires c =

@@ -11,12 +11,11 @@ use Rattle.settle.proofs.check_rows.Goals as goal
 use Rattle.settle.proofs.check_rows.Goals.{then-row_waits, else-row_waits}
 
 pub read-rows-requires : goal.read-rows-requires
-read-rows-requires c = let p = c in holds_least format_one p.args.out.now one_starts p.requires.0
+read-rows-requires c = holds_least format_one c.args.out.now one_starts c.requires.0
 
 pub loop-i-init : goal.loop-i-init
 loop-i-init c =
-    let p = c in
-    (omega arith, rw c.read-rows.ensures p.requires.3, refl, rw c.read-rows.ensures (rows_begin _ _ _ p.requires.0 p.requires.1 p.requires.2))
+    (omega arith, rw c.read-rows.ensures c.requires.3, refl, rw c.read-rows.ensures (rows_begin _ _ _ c.requires.0 c.requires.1 c.requires.2))
 
 pub row_waits-requires : goal.row_waits-requires
 row_waits-requires c =

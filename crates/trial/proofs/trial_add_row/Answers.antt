@@ -3,8 +3,7 @@ use Rattle.trial.proofs.trial_add_row.Goals as goal
 
 pub add_row-requires : goal.add_row-requires
 add_row-requires c =
-    let p = c in
-    let q = p.requires in
+    let q = c.requires in
     rw c.row_at.ensures (record { holds = q.holds; storable = (q.row_length_in_bounds.1, q.row_length_in_bounds.2); table_bound = q.table_bound })
 
 pub returns : goal.returns

@@ -13,11 +13,10 @@ loop-cleared-init c = (omega arith, refl, rw (add-zero, sub-zero))
 
 pub loop-cleared-preserved : goal.loop-cleared-preserved
 loop-cleared-preserved c =
-    let l = c in
-    let a = l.args in (
+    let a = c.args in (
       omega arith,
       simp length-set (omega arith),
-      sym (fill_turn l.loop-cleared.s a.at l.loop-cleared.cleared a.n 0 (omega arith) (omega arith)) ∙ l.loop-cleared.invariant.2,
+      sym (fill_turn c.loop-cleared.s a.at c.loop-cleared.cleared a.n 0 (omega arith) (omega arith)) ∙ c.loop-cleared.invariant.2,
     )
 
 pub shape_of-s : goal.shape_of-s
@@ -25,7 +24,6 @@ shape_of-s c = c.loop-cleared.invariant.1
 
 pub returns : goal.returns
 returns c =
-    let l = c in
-    let a = l.args in
-    let e : a.n - l.loop-cleared.cleared ≡ 0 = omega arith in
-    sym (replaced_nothing l.loop-cleared.s (a.at + l.loop-cleared.cleared)) ∙ (rw e at l.loop-cleared.invariant.2)
+    let a = c.args in
+    let e : a.n - c.loop-cleared.cleared ≡ 0 = omega arith in
+    sym (replaced_nothing c.loop-cleared.s (a.at + c.loop-cleared.cleared)) ∙ (rw e at c.loop-cleared.invariant.2)

@@ -13,11 +13,10 @@ loop-copied-init c = (omega arith, refl, rw add-zero)
 
 pub loop-copied-preserved : goal.loop-copied-preserved
 loop-copied-preserved c =
-    let l = c in
-    let a = l.args in (
+    let a = c.args in (
       omega arith,
       simp length-set (omega arith),
-      sym (copy_turn l.loop-copied.dst a.src.now a.at l.loop-copied.copied (omega arith) (omega arith)) ∙ l.loop-copied.invariant.2,
+      sym (copy_turn c.loop-copied.dst a.src.now a.at c.loop-copied.copied (omega arith) (omega arith)) ∙ c.loop-copied.invariant.2,
     )
 
 pub shape_of-dst : goal.shape_of-dst
@@ -25,7 +24,6 @@ shape_of-dst c = c.loop-copied.invariant.1
 
 pub returns : goal.returns
 returns c =
-    let l = c in
-    let a = l.args in
-    sym (replaced_nothing l.loop-copied.dst (a.at + l.loop-copied.copied))
-    ∙ (rw (drop_of_length-le a.src.now c.loop-copied-test.false) at l.loop-copied.invariant.2)
+    let a = c.args in
+    sym (replaced_nothing c.loop-copied.dst (a.at + c.loop-copied.copied))
+    ∙ (rw (drop_of_length-le a.src.now c.loop-copied-test.false) at c.loop-copied.invariant.2)

@@ -13,12 +13,11 @@ loop-moved-init c = (omega arith, refl, simp (add-zero, sub-zero))
 
 pub loop-moved-preserved : goal.loop-moved-preserved
 loop-moved-preserved c =
-    let l = c in
-    let a = l.args in (
+    let a = c.args in (
       omega arith,
       simp length-set (omega arith),
-      sym (down_turn l.loop-moved.s a.from a.to l.loop-moved.moved a.n (omega arith) (omega arith) (omega arith))
-          ∙ l.loop-moved.invariant.2,
+      sym (down_turn c.loop-moved.s a.from a.to c.loop-moved.moved a.n (omega arith) (omega arith) (omega arith))
+          ∙ c.loop-moved.invariant.2,
     )
 
 pub shape_of-s : goal.shape_of-s
@@ -26,7 +25,6 @@ shape_of-s c = c.loop-moved.invariant.1
 
 pub returns : goal.returns
 returns c =
-    let l = c in
-    let a = l.args in
-    let e : a.n - l.loop-moved.moved ≡ 0 = omega arith in
-    sym (replaced_nothing l.loop-moved.s (a.to + l.loop-moved.moved)) ∙ (rw e at l.loop-moved.invariant.2)
+    let a = c.args in
+    let e : a.n - c.loop-moved.moved ≡ 0 = omega arith in
+    sym (replaced_nothing c.loop-moved.s (a.to + c.loop-moved.moved)) ∙ (rw e at c.loop-moved.invariant.2)

@@ -12,13 +12,12 @@ loop-unmoved-init c = (omega arith, refl, refl)
 
 pub loop-unmoved-preserved : goal.loop-unmoved-preserved
 loop-unmoved-preserved c =
-    let l = c in
-    let a = l.args in
-    let i = l.loop-unmoved.unmoved - 1 in
-    let e : suc i ≡ l.loop-unmoved.unmoved = omega arith in (
+    let a = c.args in
+    let i = c.loop-unmoved.unmoved - 1 in
+    let e : suc i ≡ c.loop-unmoved.unmoved = omega arith in (
       omega arith,
       simp length-set (omega arith),
-      sym (up_turn l.loop-unmoved.s a.from a.to i (omega arith) (omega arith)) ∙ rw e l.loop-unmoved.invariant.2,
+      sym (up_turn c.loop-unmoved.s a.from a.to i (omega arith) (omega arith)) ∙ rw e c.loop-unmoved.invariant.2,
     )
 
 pub shape_of-s : goal.shape_of-s
@@ -26,7 +25,6 @@ shape_of-s c = c.loop-unmoved.invariant.1
 
 pub returns : goal.returns
 returns c =
-    let l = c in
-    let a = l.args in
-    let e : l.loop-unmoved.unmoved ≡ 0 = omega arith in
-    sym (replaced_nothing l.loop-unmoved.s a.to) ∙ (rw e at l.loop-unmoved.invariant.2)
+    let a = c.args in
+    let e : c.loop-unmoved.unmoved ≡ 0 = omega arith in
+    sym (replaced_nothing c.loop-unmoved.s a.to) ∙ (rw e at c.loop-unmoved.invariant.2)

@@ -12,33 +12,29 @@ loop-unread-init c = (omega arith, rw sub_self (sym (number_at-none _ _)), rw su
 
 pub overflow_mul-x : goal.overflow_mul-x
 overflow_mul-x c =
-    let l = c in
-    let w = l.args.width in
-    let r = read_room (w - l.loop-unread.unread) l.loop-unread.x l.loop-unread.invariant.2 (omega arith) in
+    let w = c.args.width in
+    let r = read_room (w - c.loop-unread.unread) c.loop-unread.x c.loop-unread.invariant.2 (omega arith) in
     omega arith
 
 pub overflow_add-x : goal.overflow_add-x
 overflow_add-x c =
-    let l = c in
-    let a = l.args in
-    let r = read_room (a.width - l.loop-unread.unread) l.loop-unread.x l.loop-unread.invariant.2 (omega arith) in
+    let a = c.args in
+    let r = read_room (a.width - c.loop-unread.unread) c.loop-unread.x c.loop-unread.invariant.2 (omega arith) in
     omega arith
 
 pub loop-unread-preserved : goal.loop-unread-preserved
 loop-unread-preserved c =
-    let l = c in
-    let a = l.args in
-    let i = a.width - l.loop-unread.unread in
-    let e : a.width - (l.loop-unread.unread - 1) ≡ suc i = omega arith in
+    let a = c.args in
+    let i = a.width - c.loop-unread.unread in
+    let e : a.width - (c.loop-unread.unread - 1) ≡ suc i = omega arith in
     rw e (
       omega arith,
       cc (read_turn a.s.now a.at i (omega arith)),
-      read_below i l.loop-unread.x c.wide.result l.loop-unread.invariant.2 c.wide.ensures.1,
+      read_below i c.loop-unread.x c.wide.result c.loop-unread.invariant.2 c.wide.ensures.1,
     )
 
 pub returns : goal.returns
 returns c =
-    let l = c in
-    let w = l.args.width in
-    let e : w - l.loop-unread.unread ≡ w = omega arith in
-    (rw e at l.loop-unread.invariant.1, rw e at l.loop-unread.invariant.2)
+    let w = c.args.width in
+    let e : w - c.loop-unread.unread ≡ w = omega arith in
+    (rw e at c.loop-unread.invariant.1, rw e at c.loop-unread.invariant.2)

@@ -5,9 +5,8 @@ use Rattle.wire.proofs.put_four_u8.Goals as goal
 
 pub returns : goal.returns
 returns c =
-    let p = c in
-    let q = p.args in
-    let l = p.requires in
+    let q = c.args in
+    let l = c.requires in
     rw (
       c.put_u8-4.ensures,
       c.put_u8-3.ensures,

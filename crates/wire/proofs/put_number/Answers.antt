@@ -13,15 +13,14 @@ loop-unwritten-init c = (omega arith, refl, c.requires.1, refl)
 
 pub loop-unwritten-preserved : goal.loop-unwritten-preserved
 loop-unwritten-preserved c =
-    let l = c in
-    let a = l.args in
-    let i = l.loop-unwritten.unwritten - 1 in
-    let e : suc i ≡ l.loop-unwritten.unwritten = omega arith in
-    let h : l.loop-unwritten.rest < 256 ^ suc i = rw e l.loop-unwritten.invariant.2 in (
+    let a = c.args in
+    let i = c.loop-unwritten.unwritten - 1 in
+    let e : suc i ≡ c.loop-unwritten.unwritten = omega arith in
+    let h : c.loop-unwritten.rest < 256 ^ suc i = rw e c.loop-unwritten.invariant.2 in (
       omega arith,
       simp length-set (omega arith),
-      put_below i l.loop-unwritten.rest h,
-      sym (put_turn l.loop-unwritten.s a.at i l.loop-unwritten.rest h (omega arith)) ∙ rw e l.loop-unwritten.invariant.3,
+      put_below i c.loop-unwritten.rest h,
+      sym (put_turn c.loop-unwritten.s a.at i c.loop-unwritten.rest h (omega arith)) ∙ rw e c.loop-unwritten.invariant.3,
     )
 
 pub shape_of-s : goal.shape_of-s
@@ -29,7 +28,6 @@ shape_of-s c = c.loop-unwritten.invariant.1
 
 pub returns : goal.returns
 returns c =
-    let l = c in
-    let a = l.args in
-    let e : l.loop-unwritten.unwritten ≡ 0 = omega arith in
-    sym (replaced_nothing l.loop-unwritten.s a.at) ∙ (rw (e, bytes_none) at l.loop-unwritten.invariant.3)
+    let a = c.args in
+    let e : c.loop-unwritten.unwritten ≡ 0 = omega arith in
+    sym (replaced_nothing c.loop-unwritten.s a.at) ∙ (rw (e, bytes_none) at c.loop-unwritten.invariant.3)

@@ -7,6 +7,5 @@ use Rattle.wire.proofs.u32_at.Goals as goal
 
 pub returns : goal.returns
 returns c =
-    let p = c in
-    let a = p.args in
-    c.turned.ensures.0 ∙ ap turned_round c.lowest_first.ensures.0 ∙ turned_number a.s.now a.at (λ i. (p.shared_slice_known-1.given i).fits) (omega arith)
+    let a = c.args in
+    c.turned.ensures.0 ∙ ap turned_round c.lowest_first.ensures.0 ∙ turned_number a.s.now a.at (λ i. (c.shared_slice_known-1.given i).fits) (omega arith)

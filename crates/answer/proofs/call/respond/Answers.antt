@@ -8,24 +8,21 @@ use Rattle.answer.proofs.Responding.{found_nothing, found_begins, widened, heard
 use Rattle.answer.proofs.call.respond.Goals as goal
 
 pub returns-in_default : goal.returns-in_default
-returns-in_default c = let p = c in
-    let nothing = found_nothing (parse format_one (limited p.args.limit) p.args.table.now) (sym c.in_default.is ∙ c.find.ensures) in
+returns-in_default c = let nothing = found_nothing (parse format_one (limited c.args.limit) c.args.table.now) (sym c.in_default.is ∙ c.find.ensures) in
     rw nothing record { reply_value = (c.with_compared.ensures.0 ∙ c.refusal.ensures, c.with_compared.ensures.1); table_after = refl }
 
 pub read-asked-requires : goal.read-asked-requires
-read-asked-requires c = let p = c in rw c.read-n.ensures (some_boxes (limited p.args.limit) p.args.table.now (found_begins (limited p.args.limit) p.args.table.now _ (sym c.in-Image.is ∙ c.find.ensures)))
+read-asked-requires c = rw c.read-n.ensures (some_boxes (limited c.args.limit) c.args.table.now (found_begins (limited c.args.limit) c.args.table.now _ (sym c.in-Image.is ∙ c.find.ensures)))
 
 pub serve-requires : goal.serve-requires
-serve-requires c = let p = c in
-    let m = c.read-asked.ensures in
-    record { begins_with_image = (widened p.args.limit p.args.table.now p.requires.0 (found_begins (limited p.args.limit) p.args.table.now _ (sym c.in-Image.is ∙ c.find.ensures)), p.requires.0, p.requires.1); asked_value = (rw c.read-n.ensures at m.result_value, m.coded) }
+serve-requires c = let m = c.read-asked.ensures in
+    record { begins_with_image = (widened c.args.limit c.args.table.now c.requires.0 (found_begins (limited c.args.limit) c.args.table.now _ (sym c.in-Image.is ∙ c.find.ensures)), c.requires.0, c.requires.1); asked_value = (rw c.read-n.ensures at m.result_value, m.coded) }
 
 pub returns : goal.returns
-returns c = let p = c in
-    let s = p.args.table.now in
-    let begins = found_begins (limited p.args.limit) s _ (sym c.in-Image.is ∙ c.find.ensures) in
+returns c = let s = c.args.table.now in
+    let begins = found_begins (limited c.args.limit) s _ (sym c.in-Image.is ∙ c.find.ensures) in
     let told = rw c.read-n.ensures at c.read-asked.ensures.result_value in
-    let (reply, buffer) = heard_so (limited p.args.limit) s p.args.message.now _ begins told in
-    let compared = heard_compared_lem (limited p.args.limit) s p.args.message.now _ begins told in
+    let (reply, buffer) = heard_so (limited c.args.limit) s c.args.message.now _ begins told in
+    let compared = heard_compared_lem (limited c.args.limit) s c.args.message.now _ begins told in
     let n = c.serve.ensures in
     record { reply_value = (n.reply_value.0 ∙ reply, n.reply_value.1 ∙ compared); table_after = n.table_after ∙ buffer }

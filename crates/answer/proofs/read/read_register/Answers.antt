@@ -9,13 +9,13 @@ use Rattle.answer.proofs.RegisterRead.{read_refused, read_taken}
 use Rattle.answer.proofs.read.read_register.Goals as goal
 
 pub read-h-requires : goal.read-h-requires
-read-h-requires c = let p = c in holds_least format_one p.args.table.now one_starts (image_holds valley p.args.table.now p.requires)
+read-h-requires c = holds_least format_one c.args.table.now one_starts (image_holds valley c.args.table.now c.requires)
 
 pub returns-then-h-eq1 : goal.returns-then-h-eq1
-returns-then-h-eq1 c = let p = c in rw c.refusal.ensures (read_refused valley p.args.table.now p.args.stamp p.args.register (image_holds valley p.args.table.now p.requires) (rw c.read-h.ensures at c.if-h-eq1.true)).0
+returns-then-h-eq1 c = rw c.refusal.ensures (read_refused valley c.args.table.now c.args.stamp c.args.register (image_holds valley c.args.table.now c.requires) (rw c.read-h.ensures at c.if-h-eq1.true)).0
 
 pub newest-found-requires : goal.newest-found-requires
-newest-found-requires c = let p = c in rw c.read-h.ensures (rows_inside valley p.args.table.now valley_sound p.requires, (can_be_sought valley p.args.table.now valley_sound p.requires).1)
+newest-found-requires c = rw c.read-h.ensures (rows_inside valley c.args.table.now valley_sound c.requires, (can_be_sought valley c.args.table.now valley_sound c.requires).1)
 
 pub returns : goal.returns
-returns c = let p = c in rw (c.newest-found.ensures, c.read-h.ensures) (read_taken valley p.args.table.now p.args.stamp p.args.register (image_holds valley p.args.table.now p.requires) (rw c.read-h.ensures at c.if-h-eq1.false)).0
+returns c = rw (c.newest-found.ensures, c.read-h.ensures) (read_taken valley c.args.table.now c.args.stamp c.args.register (image_holds valley c.args.table.now c.requires) (rw c.read-h.ensures at c.if-h-eq1.false)).0

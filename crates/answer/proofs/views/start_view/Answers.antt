@@ -11,33 +11,29 @@ use Rattle.answer.proofs.ViewsServed.{start_refused, below_promised, at_or_below
 use Rattle.answer.proofs.views.start_view.Goals as goal
 
 pub read-h-requires : goal.read-h-requires
-read-h-requires c = let p = c in holds_least format_one p.args.table.now one_starts (image_holds valley p.args.table.now p.requires.0)
+read-h-requires c = holds_least format_one c.args.table.now one_starts (image_holds valley c.args.table.now c.requires.0)
 
 pub returns-then-view-h : goal.returns-then-view-h
-returns-then-view-h c = let p = c in
-    let s = p.args.table.now in
-    let holds = image_holds valley s p.requires.0 in
-    let I = table_at format_one p.args.image.now in
-    let (reply, after) = start_refused s p.args.view holds I (below_promised s p.args.view holds I (rw c.read-h.ensures at c.if-view-h.true)) in
+returns-then-view-h c = let s = c.args.table.now in
+    let holds = image_holds valley s c.requires.0 in
+    let I = table_at format_one c.args.image.now in
+    let (reply, after) = start_refused s c.args.view holds I (below_promised s c.args.view holds I (rw c.read-h.ensures at c.if-view-h.true)) in
     rw c.refusal.ensures record { value = reply; table_after = after }
 
 pub returns-then-view-h-2 : goal.returns-then-view-h-2
-returns-then-view-h-2 c = let p = c in
-    let s = p.args.table.now in
-    let holds = image_holds valley s p.requires.0 in
-    let I = table_at format_one p.args.image.now in
-    let met : (header_at s).promised ≤ p.args.view = rw c.read-h.ensures at c.if-view-h.false in
-    let old : p.args.view ≤ (header_at s).view = rw c.read-h.ensures at c.if-view-h-2.true in
-    let (reply, after) = start_refused s p.args.view holds I (at_or_below_view s p.args.view holds I met old) in
+returns-then-view-h-2 c = let s = c.args.table.now in
+    let holds = image_holds valley s c.requires.0 in
+    let I = table_at format_one c.args.image.now in
+    let met : (header_at s).promised ≤ c.args.view = rw c.read-h.ensures at c.if-view-h.false in
+    let old : c.args.view ≤ (header_at s).view = rw c.read-h.ensures at c.if-view-h-2.true in
+    let (reply, after) = start_refused s c.args.view holds I (at_or_below_view s c.args.view holds I met old) in
     rw c.refusal-then-view-h-2.ensures record { value = reply; table_after = after }
 
 pub take_image-requires : goal.take_image-requires
-take_image-requires c = let p = c in
-    (image_holds valley p.args.table.now p.requires.0, image_holds valley p.args.image.now p.requires.1, p.requires.3)
+take_image-requires c = (image_holds valley c.args.table.now c.requires.0, image_holds valley c.args.image.now c.requires.1, c.requires.3)
 
 pub returns : goal.returns
-returns c = let p = c in
-    let s = p.args.table.now in
-    let (reply, after) = start_taken s p.args.view (image_holds valley s p.requires.0) (table_at format_one p.args.image.now)
-    (rw c.read-h.ensures at c.if-view-h.false) (rw c.read-h.ensures at c.if-view-h-2.false) (view_said p.args.image.now ∙ p.requires.2) in
+returns c = let s = c.args.table.now in
+    let (reply, after) = start_taken s c.args.view (image_holds valley s c.requires.0) (table_at format_one c.args.image.now)
+    (rw c.read-h.ensures at c.if-view-h.false) (rw c.read-h.ensures at c.if-view-h-2.false) (view_said c.args.image.now ∙ c.requires.2) in
     rw (c.take_image.ensures, c.read-h.ensures) record { value = reply; table_after = after }

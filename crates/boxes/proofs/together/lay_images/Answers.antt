@@ -16,23 +16,23 @@ loop-laid-init c = laid_none _ _ _ _ c.requires.0
 
 pub read-length-requires : goal.read-length-requires
 read-length-requires c =
-    let turn : (let l = c in let a = l.args in Next valley a.tables.now a.boxes.now l.loop-laid.laid) = next valley _ _ valley_sound _ c.loop-laid-test.true c.loop-laid.invariant.whole in
+    let turn : (let a = c.args in Next valley a.tables.now a.boxes.now c.loop-laid.laid) = next valley _ _ valley_sound _ c.loop-laid-test.true c.loop-laid.invariant.whole in
     rw c.buffer_of-table.ensures turn.long
 
 pub slice_bounds-copy_part-end : goal.slice_bounds-copy_part-end
 slice_bounds-copy_part-end c =
-    let turn : (let l = c in let a = l.args in Next valley a.tables.now a.boxes.now l.loop-laid.laid) = next valley _ _ valley_sound _ c.loop-laid-test.true c.loop-laid.invariant.whole in
-    let headed : (let l = c in let a = l.args in c.read-length.result.length ≡ (header_at (buffer_named valley a.tables.now a.boxes.now l.loop-laid.laid)).length) = ap (λ (h : Header). h.length) c.read-length.ensures ∙ ap (λ s. (header_at s).length) c.buffer_of-table.ensures in
+    let turn : (let a = c.args in Next valley a.tables.now a.boxes.now c.loop-laid.laid) = next valley _ _ valley_sound _ c.loop-laid-test.true c.loop-laid.invariant.whole in
+    let headed : (let a = c.args in c.read-length.result.length ≡ (header_at (buffer_named valley a.tables.now a.boxes.now c.loop-laid.laid)).length) = ap (λ (h : Header). h.length) c.read-length.ensures ∙ ap (λ s. (header_at s).length) c.buffer_of-table.ensures in
     let within : c.read-length.result.length ≤ length c.buffer_of-table.result.now = rw (headed, c.buffer_of-table.ensures) turn.within in
     sym (length-take-le _ _ within)
 
 pub copy_part-requires : goal.copy_part-requires
 copy_part-requires c =
-    let turn : (let l = c in let a = l.args in Next valley a.tables.now a.boxes.now l.loop-laid.laid) = next valley _ _ valley_sound _ c.loop-laid-test.true c.loop-laid.invariant.whole in
-    let headed : (let l = c in let a = l.args in c.read-length.result.length ≡ (header_at (buffer_named valley a.tables.now a.boxes.now l.loop-laid.laid)).length) = ap (λ (h : Header). h.length) c.read-length.ensures ∙ ap (λ s. (header_at s).length) c.buffer_of-table.ensures in
+    let turn : (let a = c.args in Next valley a.tables.now a.boxes.now c.loop-laid.laid) = next valley _ _ valley_sound _ c.loop-laid-test.true c.loop-laid.invariant.whole in
+    let headed : (let a = c.args in c.read-length.result.length ≡ (header_at (buffer_named valley a.tables.now a.boxes.now c.loop-laid.laid)).length) = ap (λ (h : Header). h.length) c.read-length.ensures ∙ ap (λ s. (header_at s).length) c.buffer_of-table.ensures in
     let within : c.read-length.result.length ≤ length c.buffer_of-table.result.now = rw (headed, c.buffer_of-table.ensures) turn.within in
-    let fits : (let l = c in l.loop-laid.end + c.read-length.result.length ≤ length l.loop-laid.run) = (let l = c in rw headed (next_fits valley _ _ _ l.requires.1 _ _ _ l.loop-laid.invariant c.loop-laid-test.true turn)) in
-    let r = c in rw (length-take-le _ _ within) fits
+    let fits : (c.loop-laid.end + c.read-length.result.length ≤ length c.loop-laid.run) = (rw headed (next_fits valley _ _ _ c.requires.1 _ _ _ c.loop-laid.invariant c.loop-laid-test.true turn)) in
+    rw (length-take-le _ _ within) fits
 
 pub loop-laid-preserved : goal.loop-laid-preserved
 loop-laid-preserved c =

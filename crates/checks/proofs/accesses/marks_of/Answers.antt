@@ -14,16 +14,14 @@ loop-i-init c = (omega arith, rw (add-zero, sub-zero) (marks_begin _ _ refl))
 
 pub loop-i-preserved : goal.loop-i-preserved
 loop-i-preserved c =
-    let l = c in
-    let a = l.args in
+    let a = c.args in
     let access = c.access_at-access.result in
-    let rest = accesses_at a.body.now (9 * (a.from + (l.loop-i.i + 1))) (a.n - (l.loop-i.i + 1)) in
-    let step : accesses_at a.body.now (9 * (a.from + l.loop-i.i)) (a.n - l.loop-i.i) ≡ access_of access ∷ rest =
-    rw c.access_at-access.ensures (accesses_step a.body.now (9 * (a.from + l.loop-i.i)) (9 * (a.from + (l.loop-i.i + 1))) a.n l.loop-i.i c.loop-i-test.true (omega arith)) in
-    (omega arith, marks_go_on l.loop-i.marks (access_of access) rest (accesses_at a.body.now (9 * a.from) a.n) (omega arith) (rw step at l.loop-i.invariant.1))
+    let rest = accesses_at a.body.now (9 * (a.from + (c.loop-i.i + 1))) (a.n - (c.loop-i.i + 1)) in
+    let step : accesses_at a.body.now (9 * (a.from + c.loop-i.i)) (a.n - c.loop-i.i) ≡ access_of access ∷ rest =
+    rw c.access_at-access.ensures (accesses_step a.body.now (9 * (a.from + c.loop-i.i)) (9 * (a.from + (c.loop-i.i + 1))) a.n c.loop-i.i c.loop-i-test.true (omega arith)) in
+    (omega arith, marks_go_on c.loop-i.marks (access_of access) rest (accesses_at a.body.now (9 * a.from) a.n) (omega arith) (rw step at c.loop-i.invariant.1))
 
 pub returns : goal.returns
 returns c =
-    let l = c in
-    let a = l.args in
-    marks_end l.loop-i.marks (accesses_at a.body.now (9 * a.from) a.n) (rw (accesses_end a.body.now (9 * (a.from + l.loop-i.i)) (a.n - l.loop-i.i) (omega arith)) at l.loop-i.invariant.1)
+    let a = c.args in
+    marks_end c.loop-i.marks (accesses_at a.body.now (9 * a.from) a.n) (rw (accesses_end a.body.now (9 * (a.from + c.loop-i.i)) (a.n - c.loop-i.i) (omega arith)) at c.loop-i.invariant.1)

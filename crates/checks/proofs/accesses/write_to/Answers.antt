@@ -20,19 +20,18 @@ loop-i-init c = (omega arith, rw (add-zero, sub-zero))
 
 pub returns-then-a-register : goal.returns-then-a-register
 returns-then-a-register c =
-    let turn : (let l = c in let args = l.args in let a = access_at args.body.now (9 * (args.from + l.loop-i.i)) in write_to (accesses_at args.body.now (9 * args.from) args.n) args.register ≡ cond (eqb a.register args.register) (Value a.number) (write_to (accesses_at args.body.now (9 * (args.from + (l.loop-i.i + 1))) (args.n - (l.loop-i.i + 1))) args.register)) = (let l = c in let args = l.args in l.loop-i.invariant.1 ∙ ap (λ (accs : List Access). write_to accs args.register) (accesses_step args.body.now (9 * (args.from + l.loop-i.i)) (9 * (args.from + (l.loop-i.i + 1))) args.n l.loop-i.i c.loop-i-test.true (omega arith)) ∙ write_step _ _ _) in
+    let turn : (let args = c.args in let a = access_at args.body.now (9 * (args.from + c.loop-i.i)) in write_to (accesses_at args.body.now (9 * args.from) args.n) args.register ≡ cond (eqb a.register args.register) (Value a.number) (write_to (accesses_at args.body.now (9 * (args.from + (c.loop-i.i + 1))) (args.n - (c.loop-i.i + 1))) args.register)) = (let args = c.args in c.loop-i.invariant.1 ∙ ap (λ (accs : List Access). write_to accs args.register) (accesses_step args.body.now (9 * (args.from + c.loop-i.i)) (9 * (args.from + (c.loop-i.i + 1))) args.n c.loop-i.i c.loop-i-test.true (omega arith)) ∙ write_step _ _ _) in
     rw turn (search (tests, ← c.access_at-a.ensures))
 
 pub loop-i-preserved : goal.loop-i-preserved
 loop-i-preserved c =
-    let turn : (let l = c in let args = l.args in let a = access_at args.body.now (9 * (args.from + l.loop-i.i)) in write_to (accesses_at args.body.now (9 * args.from) args.n) args.register ≡ cond (eqb a.register args.register) (Value a.number) (write_to (accesses_at args.body.now (9 * (args.from + (l.loop-i.i + 1))) (args.n - (l.loop-i.i + 1))) args.register)) = (let l = c in let args = l.args in l.loop-i.invariant.1 ∙ ap (λ (accs : List Access). write_to accs args.register) (accesses_step args.body.now (9 * (args.from + l.loop-i.i)) (9 * (args.from + (l.loop-i.i + 1))) args.n l.loop-i.i c.loop-i-test.true (omega arith)) ∙ write_step _ _ _) in
+    let turn : (let args = c.args in let a = access_at args.body.now (9 * (args.from + c.loop-i.i)) in write_to (accesses_at args.body.now (9 * args.from) args.n) args.register ≡ cond (eqb a.register args.register) (Value a.number) (write_to (accesses_at args.body.now (9 * (args.from + (c.loop-i.i + 1))) (args.n - (c.loop-i.i + 1))) args.register)) = (let args = c.args in c.loop-i.invariant.1 ∙ ap (λ (accs : List Access). write_to accs args.register) (accesses_step args.body.now (9 * (args.from + c.loop-i.i)) (9 * (args.from + (c.loop-i.i + 1))) args.n c.loop-i.i c.loop-i-test.true (omega arith)) ∙ write_step _ _ _) in
     (omega arith, turn ∙ search (tests, ← c.access_at-a.ensures))
 
 pub returns : goal.returns
 returns c =
-    let l = c in
-    let a = l.args in
+    let a = c.args in
     sym
-    (l.loop-i.invariant.1
-    ∙ ap (λ (accs : List Access). write_to accs a.register) (accesses_end a.body.now (9 * (a.from + l.loop-i.i)) (a.n - l.loop-i.i) (omega arith))
+    (c.loop-i.invariant.1
+    ∙ ap (λ (accs : List Access). write_to accs a.register) (accesses_end a.body.now (9 * (a.from + c.loop-i.i)) (a.n - c.loop-i.i) (omega arith))
     ∙ write_end a.register)

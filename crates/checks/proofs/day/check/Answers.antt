@@ -16,7 +16,7 @@ pub marks_of-writtenmarks-requires : goal.marks_of-writtenmarks-requires
 marks_of-writtenmarks-requires c = c.requires.1
 
 pub silent_rows-silent-requires : goal.silent_rows-silent-requires
-silent_rows-silent-requires c = let p = c in (p.requires.0.0, omega (arith, p.requires.1), p.requires.2)
+silent_rows-silent-requires c = (c.requires.0.0, omega (arith, c.requires.1), c.requires.2)
 
 pub loop-i-init : goal.loop-i-init
 loop-i-init c =
@@ -42,7 +42,7 @@ returns-then-seen c =
 
 pub loop-i-preserved : goal.loop-i-preserved
 loop-i-preserved c =
-    let passed : (let l = c in let a = l.args in SeenFrom day_a day_b day_a_counting day_b_counting a.image.now a.begin a.rows a.stamp (body_at a.body.now 0 a.reads a.writes) (l.loop-i.i - 1) c.with_row-seen.result) = (let l = c in let a = l.args in let x = body_at a.body.now 0 a.reads a.writes in let t = c.loop-i-test.true in c.with_row-seen.ensures l.marks_of-readmarks.ensures l.marks_of-writtenmarks.ensures ∙ pass_goes_on day_a day_b day_a_counting day_b_counting a.image.now a.begin a.rows a.stamp x l.loop-i.i l.loop-i.seen (omega (arith, t)) l.loop-i.invariant.0 l.loop-i.invariant.1) in
+    let passed : (let a = c.args in SeenFrom day_a day_b day_a_counting day_b_counting a.image.now a.begin a.rows a.stamp (body_at a.body.now 0 a.reads a.writes) (c.loop-i.i - 1) c.with_row-seen.result) = (let a = c.args in let x = body_at a.body.now 0 a.reads a.writes in let t = c.loop-i-test.true in c.with_row-seen.ensures c.marks_of-readmarks.ensures c.marks_of-writtenmarks.ensures ∙ pass_goes_on day_a day_b day_a_counting day_b_counting a.image.now a.begin a.rows a.stamp x c.loop-i.i c.loop-i.seen (omega (arith, t)) c.loop-i.invariant.0 c.loop-i.invariant.1) in
     (omega arith, passed)
 
 pub returns : goal.returns

@@ -13,14 +13,12 @@ loop-i-init c = (omega arith, rw sub-zero)
 pub loop-i-preserved : goal.loop-i-preserved
 unfolding floor_of
 loop-i-preserved c =
-    let l = c in
-    let a = l.args in
-    let step = accesses_step a.body.now (9 * l.loop-i.i) (9 * (l.loop-i.i + 1)) a.reads l.loop-i.i c.loop-i-test.true (omega arith) in
-    (omega arith, rw (c.lesser-least.ensures, c.access_at-read.ensures) (l.loop-i.invariant.1 ∙ ap (floor_of l.loop-i.least) step))
+    let a = c.args in
+    let step = accesses_step a.body.now (9 * c.loop-i.i) (9 * (c.loop-i.i + 1)) a.reads c.loop-i.i c.loop-i-test.true (omega arith) in
+    (omega arith, rw (c.lesser-least.ensures, c.access_at-read.ensures) (c.loop-i.invariant.1 ∙ ap (floor_of c.loop-i.least) step))
 
 pub returns : goal.returns
 unfolding floor_of
 returns c =
-    let l = c in
-    let a = l.args in
-    sym (l.loop-i.invariant.1 ∙ ap (floor_of l.loop-i.least) (accesses_end a.body.now (9 * l.loop-i.i) (a.reads - l.loop-i.i) (omega arith)))
+    let a = c.args in
+    sym (c.loop-i.invariant.1 ∙ ap (floor_of c.loop-i.least) (accesses_end a.body.now (9 * c.loop-i.i) (a.reads - c.loop-i.i) (omega arith)))

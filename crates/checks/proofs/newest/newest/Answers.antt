@@ -30,8 +30,7 @@ pub returns-then-found-gt0 : goal.returns-then-found-gt0
 returns-then-found-gt0 c =
     let gives : (let a = c.args in c.found_in-found.result ≡ found_as (found_in (row_of a.image.now (fields_at a.image.now (a.begin + 24 * (c.loop-i.i - 1)))) a.stamp a.register)) = c.found_in-found.ensures ∙ rw c.row_at-row.ensures refl in
     let step : (let a = c.args in let i = c.loop-i.i in found (rows_at a.image.now (a.begin + 24 * (i - 1)) (a.rows - (i - 1))) a.stamp a.register ≡ later (found_in (row_of a.image.now (fields_at a.image.now (a.begin + 24 * (i - 1)))) a.stamp a.register) nothing_found) = (let a = c.args in let l = c.loop-i in ap (λ (rs : List Row). found rs a.stamp a.register) (rows_step a.image.now a.begin a.rows l.i c.loop-i-test.true l.invariant.0) ∙ found_step _ _ a.stamp a.register ∙ rw l.invariant.1 refl) in
-    let p = c in
-    let a = p.args in
+    let a = c.args in
     let l = c.loop-i in
     let s = a.image.now in
     let e = gives in
@@ -40,7 +39,7 @@ returns-then-found-gt0 c =
     let one = step ∙ later_nothing row v in
     let n : l.i - 1 ≤ a.rows = let m = l.invariant.0 in omega arith in
     let behind = rows_behind s a.begin a.rows (l.i - 1) n in
-    let all = found_behind 0 (l.i - 1) (rows_at s a.begin a.rows) a.stamp a.register p.requires.1 (rw (behind, one) v) in
+    let all = found_behind 0 (l.i - 1) (rows_at s a.begin a.rows) a.stamp a.register c.requires.1 (rw (behind, one) v) in
     e ∙ ap found_as (sym (all ∙ rw behind one))
 
 pub loop-i-preserved : goal.loop-i-preserved

@@ -12,11 +12,10 @@ use Rattle.checks.proofs.pass.with_row.Goals as goal
 pub returns-then-row_clashes : goal.returns-then-row_clashes
 unfolding row_of
 returns-then-row_clashes c m =
-    let t = c in
-    let a = t.args in
+    let a = c.args in
     let s = a.image.now in
     let f = fields_at s (a.begin + 24 * a.index) in
-    let e = sym (t.row_clashes.ensures m) ∙ t.if-row_clashes.true in
+    let e = sym (c.row_clashes.ensures m) ∙ c.if-row_clashes.true in
     c.with_named.ensures
     ∙ rw c.row_at-row.ensures
     (sym (seen_clash _ _ (row_of s f) a.seen e ∙ ap (λ (b : Bool). with_named b f.stamp (ltb f.stamp a.stamp) (ltb a.stamp f.stamp) a.seen) (committed_byte s f)))

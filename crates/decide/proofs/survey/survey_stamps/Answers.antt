@@ -14,26 +14,23 @@ use Rattle.decide.proofs.SurveySeen.{seen_first, seen_next, seen_all, seen_few, 
 use Rattle.decide.proofs.survey.survey_stamps.Goals as goal
 
 pub next_stamp-stamp-requires : goal.next_stamp-stamp-requires
-next_stamp-stamp-requires c = let p = c in (p.requires.0, p.requires.1, (start_stands _ p.requires.0 _ _ c.start-cursors.ensures).0)
+next_stamp-stamp-requires c = (c.requires.0, c.requires.1, (start_stands _ c.requires.0 _ _ c.start-cursors.ensures).0)
 
 pub loop-stamp-init : goal.loop-stamp-init
 loop-stamp-init c =
     let used : AllRegular (used_of c.args.newest (tables_of valley c.args.run.now)) = used_regular c.args.newest (tables_of valley c.args.run.now) (all_regular c.args.run.now c.requires.0) in
-    let p = c in
-    let (stands, newest, last) = start_stands _ p.requires.0 _ _ c.start-cursors.ensures in
+    let (stands, newest, last) = start_stands _ c.requires.0 _ _ c.start-cursors.ensures in
     let e = rw newest at c.next_stamp-stamp.ensures in
     (seen_first _ used _ (rw last at e), stands, newest, e)
 
 pub gather-gathered-requires : goal.gather-gathered-requires
 gather-gathered-requires c =
-    let p = c in
     let i = c.loop-stamp.invariant in
-    record { images = (p.requires.0, p.requires.1, i.1); stamp_value = (rw i.2 i.3, c.loop-stamp-test.true) }
+    record { images = (c.requires.0, c.requires.1, i.1); stamp_value = (rw i.2 i.3, c.loop-stamp-test.true) }
 
 pub with_stamp-seen-requires : goal.with_stamp-seen-requires
 with_stamp-seen-requires c =
     let used : AllRegular (used_of c.args.newest (tables_of valley c.args.run.now)) = used_regular c.args.newest (tables_of valley c.args.run.now) (all_regular c.args.run.now c.requires.0) in
-    let p = c in
     let l = c.loop-stamp-test.true in
     let i = c.loop-stamp in
     let h = i.invariant.0 in
@@ -41,28 +38,25 @@ with_stamp-seen-requires c =
     let g = c.gather-gathered.result in
     let last : g.cursors.last ≡ i.stamp = (behind_stands _ _ _ _ e).2 in
     let few = seen_few _ used _ _ h l in
-    record { images = (p.requires.0, p.requires.1, gathered_from _ _ _ _ e, rw (rows_are _ _ _ _ e) (seen_held _ used _ _ h l)); stamps_lt_last = (omega (arith, few), omega (arith, l)) }
+    record { images = (c.requires.0, c.requires.1, gathered_from _ _ _ _ e, rw (rows_are _ _ _ _ e) (seen_held _ used _ _ h l)); stamps_lt_last = (omega (arith, few), omega (arith, l)) }
 
 pub next_stamp-stamp-requires-in-loop-stamp : goal.next_stamp-stamp-requires-in-loop-stamp
 next_stamp-stamp-requires-in-loop-stamp c =
-    let p = c in
     let e = rw c.loop-stamp.invariant.2 at c.gather-gathered.ensures in
-    (p.requires.0, p.requires.1, (behind_stands _ _ _ _ e).0)
+    (c.requires.0, c.requires.1, (behind_stands _ _ _ _ e).0)
 
 pub loop-stamp-smaller : goal.loop-stamp-smaller
 loop-stamp-smaller c =
-    let next_is : (let p = c in c.next_stamp-stamp-in-loop-stamp.result ≡ next_after c.loop-stamp.stamp (stamps (used_of p.args.newest (tables_of valley p.args.run.now)))) = (let e = rw c.loop-stamp.invariant.2 at c.gather-gathered.ensures in let (stands, newest, last) = behind_stands _ _ _ _ e in rw (newest, last) at c.next_stamp-stamp-in-loop-stamp.ensures) in
-    let p = c in
+    let next_is : (c.next_stamp-stamp-in-loop-stamp.result ≡ next_after c.loop-stamp.stamp (stamps (used_of c.args.newest (tables_of valley c.args.run.now)))) = (let e = rw c.loop-stamp.invariant.2 at c.gather-gathered.ensures in let (stands, newest, last) = behind_stands _ _ _ _ e in rw (newest, last) at c.next_stamp-stamp-in-loop-stamp.ensures) in
     let l = c.loop-stamp-test.true in
     let e = next_is in
-    let up = next_above c.loop-stamp.stamp (stamps (used_of p.args.newest (tables_of valley p.args.run.now))) l in
+    let up = next_above c.loop-stamp.stamp (stamps (used_of c.args.newest (tables_of valley c.args.run.now))) l in
     omega arith
 
 pub loop-stamp-preserved : goal.loop-stamp-preserved
 loop-stamp-preserved c =
     let used : AllRegular (used_of c.args.newest (tables_of valley c.args.run.now)) = used_regular c.args.newest (tables_of valley c.args.run.now) (all_regular c.args.run.now c.requires.0) in
-    let next_is : (let p = c in c.next_stamp-stamp-in-loop-stamp.result ≡ next_after c.loop-stamp.stamp (stamps (used_of p.args.newest (tables_of valley p.args.run.now)))) = (let e = rw c.loop-stamp.invariant.2 at c.gather-gathered.ensures in let (stands, newest, last) = behind_stands _ _ _ _ e in rw (newest, last) at c.next_stamp-stamp-in-loop-stamp.ensures) in
-    let p = c in
+    let next_is : (c.next_stamp-stamp-in-loop-stamp.result ≡ next_after c.loop-stamp.stamp (stamps (used_of c.args.newest (tables_of valley c.args.run.now)))) = (let e = rw c.loop-stamp.invariant.2 at c.gather-gathered.ensures in let (stands, newest, last) = behind_stands _ _ _ _ e in rw (newest, last) at c.next_stamp-stamp-in-loop-stamp.ensures) in
     let i = c.loop-stamp.invariant in
     let e = rw i.2 at c.gather-gathered.ensures in
     let (stands, newest, last) = behind_stands _ _ _ _ e in (

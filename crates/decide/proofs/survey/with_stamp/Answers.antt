@@ -26,18 +26,17 @@ with_contradiction b x = record { bodies = x.bodies; contradiction = either x.co
 
 pub overflow_add-survey : goal.overflow_add-survey
 overflow_add-survey c =
-    let bodies-seen : (let p = c in c.if-two_bodies.survey ≡ with_bodies (two_bodies (rows_in c.args.run.now c.args.gathered)) p.args.survey) = (let e = c.two_bodies.ensures in elim c.if-two_bodies.branch [ then-two_bodies w ↦ w.survey-is ∙ rw (sym e ∙ w.if-two_bodies.true, either_second _ true refl) refl | else-two_bodies w ↦ w.survey-is ∙ rw (sym e ∙ w.if-two_bodies.false, either_none) refl ]) in
-    let contradiction-seen : (let p = c in c.if-contradicts.survey ≡ with_contradiction (contradictory (rows_in c.args.run.now c.args.gathered)) c.if-two_bodies.survey) = (let p = c in let s = p.args.run.now in let seen = state_gathered s (all_of s (λ i. (c.shared_slice_known-1.given i).fits)) p.requires.images.0 p.requires.images.1 p.args.gathered p.requires.images.2 in let e = c.contradicts.ensures ∙ ap contradicts (c.state_of.ensures ∙ seen) ∙ state_contradicts (rows_in c.args.run.now c.args.gathered) in elim c.if-contradicts.branch [ then-contradicts w ↦ w.survey-is ∙ rw (sym e ∙ w.if-contradicts.true, either_second _ true refl) refl | else-contradicts w ↦ w.survey-is ∙ rw (sym e ∙ w.if-contradicts.false, either_none) refl ]) in
-    let both-seen : (let p = c in c.if-contradicts.survey ≡ with_contradiction (contradictory (rows_in c.args.run.now c.args.gathered)) (with_bodies (two_bodies (rows_in c.args.run.now c.args.gathered)) p.args.survey)) = contradiction-seen ∙ ap (with_contradiction (contradictory (rows_in c.args.run.now c.args.gathered))) bodies-seen in
-    let p = c in
-    let e : c.if-contradicts.survey.stamps ≡ p.args.survey.stamps = ap (λ (x : Survey). x.stamps) both-seen in
-    let l = p.requires.stamps_lt_last.0 in
-    let k = p.requires.stamps_lt_last.1 in
+    let bodies-seen : (c.if-two_bodies.survey ≡ with_bodies (two_bodies (rows_in c.args.run.now c.args.gathered)) c.args.survey) = (let e = c.two_bodies.ensures in elim c.if-two_bodies.branch [ then-two_bodies w ↦ w.survey-is ∙ rw (sym e ∙ w.if-two_bodies.true, either_second _ true refl) refl | else-two_bodies w ↦ w.survey-is ∙ rw (sym e ∙ w.if-two_bodies.false, either_none) refl ]) in
+    let contradiction-seen : (c.if-contradicts.survey ≡ with_contradiction (contradictory (rows_in c.args.run.now c.args.gathered)) c.if-two_bodies.survey) = (let s = c.args.run.now in let seen = state_gathered s (all_of s (λ i. (c.shared_slice_known-1.given i).fits)) c.requires.images.0 c.requires.images.1 c.args.gathered c.requires.images.2 in let e = c.contradicts.ensures ∙ ap contradicts (c.state_of.ensures ∙ seen) ∙ state_contradicts (rows_in c.args.run.now c.args.gathered) in elim c.if-contradicts.branch [ then-contradicts w ↦ w.survey-is ∙ rw (sym e ∙ w.if-contradicts.true, either_second _ true refl) refl | else-contradicts w ↦ w.survey-is ∙ rw (sym e ∙ w.if-contradicts.false, either_none) refl ]) in
+    let both-seen : (c.if-contradicts.survey ≡ with_contradiction (contradictory (rows_in c.args.run.now c.args.gathered)) (with_bodies (two_bodies (rows_in c.args.run.now c.args.gathered)) c.args.survey)) = contradiction-seen ∙ ap (with_contradiction (contradictory (rows_in c.args.run.now c.args.gathered))) bodies-seen in
+    let e : c.if-contradicts.survey.stamps ≡ c.args.survey.stamps = ap (λ (x : Survey). x.stamps) both-seen in
+    let l = c.requires.stamps_lt_last.0 in
+    let k = c.requires.stamps_lt_last.1 in
     omega arith
 
 pub returns : goal.returns
 returns c =
-    let bodies-seen : (let p = c in c.if-two_bodies.survey ≡ with_bodies (two_bodies (rows_in c.args.run.now c.args.gathered)) p.args.survey) = (let e = c.two_bodies.ensures in elim c.if-two_bodies.branch [ then-two_bodies w ↦ w.survey-is ∙ rw (sym e ∙ w.if-two_bodies.true, either_second _ true refl) refl | else-two_bodies w ↦ w.survey-is ∙ rw (sym e ∙ w.if-two_bodies.false, either_none) refl ]) in
-    let contradiction-seen : (let p = c in c.if-contradicts.survey ≡ with_contradiction (contradictory (rows_in c.args.run.now c.args.gathered)) c.if-two_bodies.survey) = (let p = c in let s = p.args.run.now in let seen = state_gathered s (all_of s (λ i. (c.shared_slice_known-1.given i).fits)) p.requires.images.0 p.requires.images.1 p.args.gathered p.requires.images.2 in let e = c.contradicts.ensures ∙ ap contradicts (c.state_of.ensures ∙ seen) ∙ state_contradicts (rows_in c.args.run.now c.args.gathered) in elim c.if-contradicts.branch [ then-contradicts w ↦ w.survey-is ∙ rw (sym e ∙ w.if-contradicts.true, either_second _ true refl) refl | else-contradicts w ↦ w.survey-is ∙ rw (sym e ∙ w.if-contradicts.false, either_none) refl ]) in
-    let both-seen : (let p = c in c.if-contradicts.survey ≡ with_contradiction (contradictory (rows_in c.args.run.now c.args.gathered)) (with_bodies (two_bodies (rows_in c.args.run.now c.args.gathered)) p.args.survey)) = contradiction-seen ∙ ap (with_contradiction (contradictory (rows_in c.args.run.now c.args.gathered))) bodies-seen in
+    let bodies-seen : (c.if-two_bodies.survey ≡ with_bodies (two_bodies (rows_in c.args.run.now c.args.gathered)) c.args.survey) = (let e = c.two_bodies.ensures in elim c.if-two_bodies.branch [ then-two_bodies w ↦ w.survey-is ∙ rw (sym e ∙ w.if-two_bodies.true, either_second _ true refl) refl | else-two_bodies w ↦ w.survey-is ∙ rw (sym e ∙ w.if-two_bodies.false, either_none) refl ]) in
+    let contradiction-seen : (c.if-contradicts.survey ≡ with_contradiction (contradictory (rows_in c.args.run.now c.args.gathered)) c.if-two_bodies.survey) = (let s = c.args.run.now in let seen = state_gathered s (all_of s (λ i. (c.shared_slice_known-1.given i).fits)) c.requires.images.0 c.requires.images.1 c.args.gathered c.requires.images.2 in let e = c.contradicts.ensures ∙ ap contradicts (c.state_of.ensures ∙ seen) ∙ state_contradicts (rows_in c.args.run.now c.args.gathered) in elim c.if-contradicts.branch [ then-contradicts w ↦ w.survey-is ∙ rw (sym e ∙ w.if-contradicts.true, either_second _ true refl) refl | else-contradicts w ↦ w.survey-is ∙ rw (sym e ∙ w.if-contradicts.false, either_none) refl ]) in
+    let both-seen : (c.if-contradicts.survey ≡ with_contradiction (contradictory (rows_in c.args.run.now c.args.gathered)) (with_bodies (two_bodies (rows_in c.args.run.now c.args.gathered)) c.args.survey)) = contradiction-seen ∙ ap (with_contradiction (contradictory (rows_in c.args.run.now c.args.gathered))) bodies-seen in
     ap (λ (x : Survey). record { bodies = x.bodies; contradiction = x.contradiction; stamps = x.stamps + 1 }) both-seen

@@ -29,23 +29,20 @@ place_row-requires c =
 
 pub overflow_add-h : goal.overflow_add-h
 overflow_add-h c =
-    let p = c in
     let e = c.read-h.ensures in
-    let l : (header_at p.args.table.now).rows < 65536 = p.requires.table_bound.0 in
+    let l : (header_at c.args.table.now).rows < 65536 = c.requires.table_bound.0 in
     rw e (omega arith)
 
 pub overflow_cast-longer : goal.overflow_cast-longer
 overflow_cast-longer c =
-    let p = c in
-    let q = p.requires in
-    let n = length_body_part p.args.message.now p.args.row q.storable.1 in
-    let l : (header_at p.args.table.now).length + 24 + size_of p.args.row < 4294967296 = q.table_bound.2 in
+    let q = c.requires in
+    let n = length_body_part c.args.message.now c.args.row q.storable.1 in
+    let l : (header_at c.args.table.now).length + 24 + size_of c.args.row < 4294967296 = q.table_bound.2 in
     rw (c.body_of-body.ensures, c.read-h.ensures, n) (omega arith)
 
 pub write-requires : goal.write-requires
 write-requires c =
-    let p = c in
-    let l : (header_at p.args.table.now).length + 24 + size_of p.args.row ≤ length p.args.table.now = p.requires.table_bound.1 in
+    let l : (header_at c.args.table.now).length + 24 + size_of c.args.row ≤ length c.args.table.now = c.requires.table_bound.1 in
     omega arith
 
 pub returns : goal.returns

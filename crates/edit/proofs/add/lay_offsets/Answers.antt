@@ -14,14 +14,13 @@ loop-i-init c =
 
 pub loop-i-preserved : goal.loop-i-preserved
 loop-i-preserved c =
-    let l = c in
-    let a = l.args in
-    let turn = lay_turn l.loop-i.image a.begin a.rows l.loop-i.i l.loop-i.due c.loop-i-test.true in
+    let a = c.args in
+    let turn = lay_turn c.loop-i.image a.begin a.rows c.loop-i.i c.loop-i.due c.loop-i-test.true in
     let size = c.body_length-due.ensures in (
       omega arith,
       omega arith,
       omega arith,
-      rw (c.put_u32.ensures, size.0, c.row_at-row.ensures) (sym turn ∙ l.loop-i.invariant.3),
+      rw (c.put_u32.ensures, size.0, c.row_at-row.ensures) (sym turn ∙ c.loop-i.invariant.3),
     )
 
 pub shape_of-image : goal.shape_of-image
@@ -29,7 +28,6 @@ shape_of-image c = c.loop-i.invariant.1
 
 pub returns : goal.returns
 returns c =
-    let l = c in
-    let a = l.args in
-    let e : a.rows - l.loop-i.i ≡ 0 = omega arith in
-    sym (lay_end l.loop-i.image (a.begin + 24 * l.loop-i.i) (a.rows - l.loop-i.i) l.loop-i.due e) ∙ l.loop-i.invariant.3
+    let a = c.args in
+    let e : a.rows - c.loop-i.i ≡ 0 = omega arith in
+    sym (lay_end c.loop-i.image (a.begin + 24 * c.loop-i.i) (a.rows - c.loop-i.i) c.loop-i.due e) ∙ c.loop-i.invariant.3

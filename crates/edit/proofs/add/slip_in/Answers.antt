@@ -7,8 +7,7 @@ use Rattle.edit.proofs.add.slip_in.Goals as goal
 
 pub returns : goal.returns
 returns c =
-    let p = c in
-    let a = p.args in
-    let q = p.requires in
+    let a = c.args in
+    let q = c.requires in
     rw (c.write_row.ensures, c.move_part-2.ensures, c.copy_part.ensures, c.move_part.ensures)
     (slipped_steps a.image.now (a.begin + 24 * a.index) a.middle a.end (fields_bytes a.row) a.body.now (length_fields a.row) q.0 q.1 q.2)

@@ -23,7 +23,7 @@ read-taken-requires c =
 
 pub slice_bounds-copy_part-end : goal.slice_bounds-copy_part-end
 slice_bounds-copy_part-end c =
-    let ends : (let p = c in ((header_at p.args.image.now).length ≤ length p.args.image.now) × ((header_at p.args.table.now).length ≤ length p.args.table.now)) = (let p = c in let q = p.requires in let s = p.args.table.now in let t = p.args.image.now in let e = holds_header format_one s (all_of s (λ i. (c.slice_known-1.given i).fits)) q.0 in let f = holds_header format_one t (all_of t (λ i. (c.shared_slice_known-1.given i).fits)) q.1 in rw (e, f) (holds_long format_one t one_starts q.1, holds_long format_one s one_starts q.0)) in
+    let ends : (((header_at c.args.image.now).length ≤ length c.args.image.now) × ((header_at c.args.table.now).length ≤ length c.args.table.now)) = (let q = c.requires in let s = c.args.table.now in let t = c.args.image.now in let e = holds_header format_one s (all_of s (λ i. (c.slice_known-1.given i).fits)) q.0 in let f = holds_header format_one t (all_of t (λ i. (c.shared_slice_known-1.given i).fits)) q.1 in rw (e, f) (holds_long format_one t one_starts q.1, holds_long format_one s one_starts q.0)) in
     rw c.read-taken.ensures ends.0
 
 pub copy_part-requires : goal.copy_part-requires
@@ -38,7 +38,7 @@ copy_part-requires c =
 pub write-requires : goal.write-requires
 write-requires c =
     let room : (24 ≤ length c.args.table.now) × (24 ≤ length c.args.image.now) = (let q = c.requires in (holds_least format_one c.args.table.now one_starts q.0, holds_least format_one c.args.image.now one_starts q.1)) in
-    let p = c in let r : 24 ≤ length p.args.table.now = room.0 in omega arith
+    let r : 24 ≤ length c.args.table.now = room.0 in omega arith
 
 pub clear_given_up-requires : goal.clear_given_up-requires
 clear_given_up-requires c =

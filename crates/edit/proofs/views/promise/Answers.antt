@@ -5,9 +5,8 @@ use Rattle.edit.proofs.Holding.{one_starts, holds_least}
 use Rattle.edit.proofs.views.promise.Goals as goal
 
 pub read-h-requires : goal.read-h-requires
-read-h-requires c = let p = c in holds_least format_one p.args.table.now one_starts p.requires
+read-h-requires c = holds_least format_one c.args.table.now one_starts c.requires
 
 pub returns : goal.returns
 returns c =
-    let p = c in
-    rw (c.set_views.ensures, c.read-h.ensures) (promise_edited format_one p.args.table.now p.args.view)
+    rw (c.set_views.ensures, c.read-h.ensures) (promise_edited format_one c.args.table.now c.args.view)

@@ -8,10 +8,10 @@ use Rattle.edit.proofs.Holding.{one_starts, holds_least, holds_header}
 use Rattle.edit.proofs.views.set_views.Goals as goal
 
 pub read-h-requires : goal.read-h-requires
-read-h-requires c = let p = c in holds_least format_one p.args.table.now one_starts p.requires
+read-h-requires c = holds_least format_one c.args.table.now one_starts c.requires
 
 pub write-requires : goal.write-requires
-write-requires c = let p = c in holds_least format_one p.args.table.now one_starts p.requires
+write-requires c = holds_least format_one c.args.table.now one_starts c.requires
 
 pub returns : goal.returns
 returns c =

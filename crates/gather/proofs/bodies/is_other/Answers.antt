@@ -29,13 +29,11 @@ body_of-requires c = c.requires.0 c.if-row-eq0.false
 
 pub same_bytes-requires : goal.same_bytes-requires
 same_bytes-requires c =
-    let p = c in
-    rw (c.body_of.ensures, c.body_of-2.ensures, length_body_part p.args.image.now p.args.row (p.requires.0 c.if-row-eq0.false), length_body_part p.args.first.now p.args.given p.requires.1, c.if-row-given.false, c.if-row-given-2.false) refl
+    rw (c.body_of.ensures, c.body_of-2.ensures, length_body_part c.args.image.now c.args.row (c.requires.0 c.if-row-eq0.false), length_body_part c.args.first.now c.args.given c.requires.1, c.if-row-given.false, c.if-row-given-2.false) refl
 
 pub returns : goal.returns
 unfolding both
 returns c =
-    let p = c in
-    let a = p.args in
-    let alike = bodies_alike a.image.now a.first.now a.row a.given (all_of a.image.now (λ i. (c.shared_slice_known-1.given i).fits)) (all_of a.first.now (λ i. (c.shared_slice_known-2-1.given i).fits)) (p.requires.0 c.if-row-eq0.false) p.requires.1 c.if-row-given.false c.if-row-given-2.false in
+    let a = c.args in
+    let alike = bodies_alike a.image.now a.first.now a.row a.given (all_of a.image.now (λ i. (c.shared_slice_known-1.given i).fits)) (all_of a.first.now (λ i. (c.shared_slice_known-2-1.given i).fits)) (c.requires.0 c.if-row-eq0.false) c.requires.1 c.if-row-given.false c.if-row-given-2.false in
     rw (ne_eqb _ _ c.if-row-eq0.false, c.same_bytes.ensures, c.body_of.ensures, c.body_of-2.ensures, alike) refl

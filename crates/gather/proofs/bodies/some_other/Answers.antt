@@ -14,7 +14,7 @@ use Rattle.gather.proofs.Gathered.{part_at, part_bytes, image_part, few_on, row_
 use Rattle.gather.proofs.bodies.some_other.Goals as goal
 
 pub loop-at-init : goal.loop-at-init
-loop-at-init c = let p = c in (omega arith, p.requires.0, refl, omega (arith, p.requires.1), rows_all p.args.run.now p.requires.1 p.args.gathered p.requires.2)
+loop-at-init c = (omega arith, c.requires.0, refl, omega (arith, c.requires.1), rows_all c.args.run.now c.requires.1 c.args.gathered c.requires.2)
 
 pub offset_bounds-gathered-k : goal.offset_bounds-gathered-k
 offset_bounds-gathered-k c =

@@ -16,15 +16,14 @@ use Rattle.gather.proofs.held.gather.Goals as goal
 
 pub loop-at-init : goal.loop-at-init
 loop-at-init c =
-    let p = c in
-    let s = p.args.run.now in
-    let g = p.args.cursors in (
+    let s = c.args.run.now in
+    let g = c.args.cursors in (
       omega arith,
-      p.requires.images.0,
-      omega (arith, p.requires.images.1),
-      (cursors_next s p.requires.images.1 p.requires.images.0 g p.requires.images.2 p.args.stamp p.requires.stamp_value.0 p.requires.stamp_value.1).0,
-      rw c.no_row-none.ensures (filling_rows s p.requires.images.1 g.newest p.args.stamp),
-      filling_places s p.requires.images.1 g.newest (p.args.stamp + 1),
+      c.requires.images.0,
+      omega (arith, c.requires.images.1),
+      (cursors_next s c.requires.images.1 c.requires.images.0 g c.requires.images.2 c.args.stamp c.requires.stamp_value.0 c.requires.stamp_value.1).0,
+      rw c.no_row-none.ensures (filling_rows s c.requires.images.1 g.newest c.args.stamp),
+      filling_places s c.requires.images.1 g.newest (c.args.stamp + 1),
       refl,
       refl,
     )
@@ -45,10 +44,9 @@ pub row_under-row-requires : goal.row_under-row-requires
 row_under-row-requires c =
     let bytes : AllBytes c.args.run.now = all_of c.args.run.now (λ i. (c.shared_slice_known-1.given i).fits) in
     let at-cursor : (let a = c.args in get_or a.cursors.places c.loop-at.k 0 ≡ cursor_in a.cursors.newest a.stamp (table_at format_one (part_at a.run.now c.loop-at.at))) = (let a = c.args in let i = c.loop-at in cursor_on a.cursors.newest 0 a.run.now bytes i.at c.loop-at-test.true i.invariant.1 _ refl a.cursors.places i.k a.stamp i.invariant.3) in
-    let p = c in
     let i = c.loop-at in
-    let above = (cursors_next p.args.run.now p.requires.images.1 p.requires.images.0 p.args.cursors p.requires.images.2 p.args.stamp p.requires.stamp_value.0 p.requires.stamp_value.1).1 in
-    (image_part _ _ c.loop-at-test.true i.invariant.1, at-cursor, above, p.requires.stamp_value.1)
+    let above = (cursors_next c.args.run.now c.requires.images.1 c.requires.images.0 c.args.cursors c.requires.images.2 c.args.stamp c.requires.stamp_value.0 c.requires.stamp_value.1).1 in
+    (image_part _ _ c.loop-at-test.true i.invariant.1, at-cursor, above, c.requires.stamp_value.1)
 
 pub offset_bounds-rows-k : goal.offset_bounds-rows-k
 offset_bounds-rows-k c =

@@ -15,8 +15,7 @@ still a b c d e l = omega arith
 
 pub loop-at-init : goal.loop-at-init
 loop-at-init c =
-    let p = c in
-    (omega arith, p.requires.0, next_start p.args.cursors.newest p.args.cursors.last _ p.requires.0, omega arith, omega (arith, p.requires.1), cursors_all p.args.run.now p.requires.1 p.args.cursors p.requires.2)
+    (omega arith, c.requires.0, next_start c.args.cursors.newest c.args.cursors.last _ c.requires.0, omega arith, omega (arith, c.requires.1), cursors_all c.args.run.now c.requires.1 c.args.cursors c.requires.2)
 
 pub offset_bounds-cursors-k : goal.offset_bounds-cursors-k
 offset_bounds-cursors-k c =

@@ -13,12 +13,11 @@ pub loop-at-init : goal.loop-at-init
 loop-at-init c = (omega arith, c.requires, zero-max _)
 
 pub read-h-requires : goal.read-h-requires
-read-h-requires c = let l = c in room _ _ c.loop-at-test.true l.loop-at.invariant.1
+read-h-requires c = room _ _ c.loop-at-test.true c.loop-at.invariant.1
 
 pub loop-at-smaller : goal.loop-at-smaller
 loop-at-smaller c =
-    let r = c in
-    let far = goes_far _ _ r.loop-at-test.true r.loop-at.invariant.1 _ r.read-h.ensures in
+    let far = goes_far _ _ c.loop-at-test.true c.loop-at.invariant.1 _ c.read-h.ensures in
     omega arith
 
 pub loop-at-preserved : goal.loop-at-preserved
@@ -31,4 +30,4 @@ loop-at-preserved c =
     (on.0, on.1, rw greater (max_assoc _ _ _ ∙ ap (max l.loop-at.newest) (sym turned) ∙ l.loop-at.invariant.2))
 
 pub returns : goal.returns
-returns c = let l = c in rw (view_end _ _ c.loop-at-test.false, max-zero) at l.loop-at.invariant.2
+returns c = rw (view_end _ _ c.loop-at-test.false, max-zero) at c.loop-at.invariant.2

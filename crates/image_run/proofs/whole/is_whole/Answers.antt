@@ -26,21 +26,21 @@ returns-in_default c =
 
 pub overflow_add-at : goal.overflow_add-at
 overflow_add-at c =
-    let seen : (let l = c in let a = l.args in image_found format_one (parse format_one (model_of a.model) (drop l.loop-at.at a.run.now)) ≡ c.find.result) = (let l = c in let a = l.args in rw (← rest_of a.run.now l.loop-at.at) (sym c.find.ensures)) in
-    let passed : (let l = c in let s = l.args.run.now in let M = model_of l.args.model in let at = l.loop-at.at + c.in-Image.length in (0 < c.in-Image.length) × (at ≤ length s) × (is_some (images M (drop at s)) ≡ is_some (images M (drop l.loop-at.at s)))) = (let f = c in whole_turn _ _ _ _ f.loop-at-test.true (seen ∙ c.in-Image.is)) in
+    let seen : (let a = c.args in image_found format_one (parse format_one (model_of a.model) (drop c.loop-at.at a.run.now)) ≡ c.find.result) = (let a = c.args in rw (← rest_of a.run.now c.loop-at.at) (sym c.find.ensures)) in
+    let passed : (let s = c.args.run.now in let M = model_of c.args.model in let at = c.loop-at.at + c.in-Image.length in (0 < c.in-Image.length) × (at ≤ length s) × (is_some (images M (drop at s)) ≡ is_some (images M (drop c.loop-at.at s)))) = (whole_turn _ _ _ _ c.loop-at-test.true (seen ∙ c.in-Image.is)) in
     let p = passed in omega arith
 
 pub loop-at-smaller : goal.loop-at-smaller
 loop-at-smaller c =
-    let seen : (let l = c in let a = l.args in image_found format_one (parse format_one (model_of a.model) (drop l.loop-at.at a.run.now)) ≡ c.find.result) = (let l = c in let a = l.args in rw (← rest_of a.run.now l.loop-at.at) (sym c.find.ensures)) in
-    let passed : (let l = c in let s = l.args.run.now in let M = model_of l.args.model in let at = l.loop-at.at + c.in-Image.length in (0 < c.in-Image.length) × (at ≤ length s) × (is_some (images M (drop at s)) ≡ is_some (images M (drop l.loop-at.at s)))) = (let f = c in whole_turn _ _ _ _ f.loop-at-test.true (seen ∙ c.in-Image.is)) in
+    let seen : (let a = c.args in image_found format_one (parse format_one (model_of a.model) (drop c.loop-at.at a.run.now)) ≡ c.find.result) = (let a = c.args in rw (← rest_of a.run.now c.loop-at.at) (sym c.find.ensures)) in
+    let passed : (let s = c.args.run.now in let M = model_of c.args.model in let at = c.loop-at.at + c.in-Image.length in (0 < c.in-Image.length) × (at ≤ length s) × (is_some (images M (drop at s)) ≡ is_some (images M (drop c.loop-at.at s)))) = (whole_turn _ _ _ _ c.loop-at-test.true (seen ∙ c.in-Image.is)) in
     let p = passed in omega arith
 
 pub loop-at-preserved : goal.loop-at-preserved
 loop-at-preserved c =
-    let seen : (let l = c in let a = l.args in image_found format_one (parse format_one (model_of a.model) (drop l.loop-at.at a.run.now)) ≡ c.find.result) = (let l = c in let a = l.args in rw (← rest_of a.run.now l.loop-at.at) (sym c.find.ensures)) in
-    let passed : (let l = c in let s = l.args.run.now in let M = model_of l.args.model in let at = l.loop-at.at + c.in-Image.length in (0 < c.in-Image.length) × (at ≤ length s) × (is_some (images M (drop at s)) ≡ is_some (images M (drop l.loop-at.at s)))) = (let f = c in whole_turn _ _ _ _ f.loop-at-test.true (seen ∙ c.in-Image.is)) in
+    let seen : (let a = c.args in image_found format_one (parse format_one (model_of a.model) (drop c.loop-at.at a.run.now)) ≡ c.find.result) = (let a = c.args in rw (← rest_of a.run.now c.loop-at.at) (sym c.find.ensures)) in
+    let passed : (let s = c.args.run.now in let M = model_of c.args.model in let at = c.loop-at.at + c.in-Image.length in (0 < c.in-Image.length) × (at ≤ length s) × (is_some (images M (drop at s)) ≡ is_some (images M (drop c.loop-at.at s)))) = (whole_turn _ _ _ _ c.loop-at-test.true (seen ∙ c.in-Image.is)) in
     let p = passed in (p.1, p.2 ∙ c.loop-at.invariant.1)
 
 pub returns : goal.returns
-returns c = let l = c in sym (whole_run _ _ ∙ ap (both _) (sym l.loop-at.invariant.1 ∙ whole_end _ _ _ c.loop-at-test.false) ∙ both_whole _)
+returns c = sym (whole_run _ _ ∙ ap (both _) (sym c.loop-at.invariant.1 ∙ whole_end _ _ _ c.loop-at-test.false) ∙ both_whole _)

@@ -14,21 +14,21 @@ pub loop-at-init : goal.loop-at-init
 loop-at-init c = (omega arith, c.requires, refl)
 
 pub read-h-requires : goal.read-h-requires
-read-h-requires c = let l = c in room _ _ c.loop-at-test.true l.loop-at.invariant.1
+read-h-requires c = room _ _ c.loop-at-test.true c.loop-at.invariant.1
 
 pub slice_bounds-has_box-count : goal.slice_bounds-has_box-count
 slice_bounds-has_box-count c =
-    let on : (let l = c in let s = l.args.run.now in let at = l.loop-at.at + c.read-h.result.length in (at ≤ length s) × Images valley (drop at s)) = goes_on _ _ c.loop-at-test.true c.loop-at.invariant.1 _ c.read-h.ensures in
+    let on : (let s = c.args.run.now in let at = c.loop-at.at + c.read-h.result.length in (at ≤ length s) × Images valley (drop at s)) = goes_on _ _ c.loop-at-test.true c.loop-at.invariant.1 _ c.read-h.ensures in
     let o = on in omega arith
 
 pub slice_bounds-has_box-start : goal.slice_bounds-has_box-start
 slice_bounds-has_box-start c =
-    let on : (let l = c in let s = l.args.run.now in let at = l.loop-at.at + c.read-h.result.length in (at ≤ length s) × Images valley (drop at s)) = goes_on _ _ c.loop-at-test.true c.loop-at.invariant.1 _ c.read-h.ensures in
+    let on : (let s = c.args.run.now in let at = c.loop-at.at + c.read-h.result.length in (at ≤ length s) × Images valley (drop at s)) = goes_on _ _ c.loop-at-test.true c.loop-at.invariant.1 _ c.read-h.ensures in
     let o = on in omega arith
 
 pub slice_bounds-has_box-end : goal.slice_bounds-has_box-end
 slice_bounds-has_box-end c =
-    let on : (let l = c in let s = l.args.run.now in let at = l.loop-at.at + c.read-h.result.length in (at ≤ length s) × Images valley (drop at s)) = goes_on _ _ c.loop-at-test.true c.loop-at.invariant.1 _ c.read-h.ensures in
+    let on : (let s = c.args.run.now in let at = c.loop-at.at + c.read-h.result.length in (at ≤ length s) × Images valley (drop at s)) = goes_on _ _ c.loop-at-test.true c.loop-at.invariant.1 _ c.read-h.ensures in
     let o = on in omega arith
 
 pub has_box-requires : goal.has_box-requires
@@ -46,8 +46,7 @@ returns-then-has_box c =
 
 pub loop-at-smaller : goal.loop-at-smaller
 loop-at-smaller c =
-    let r = c in
-    let far = goes_far _ _ r.loop-at-test.true r.loop-at.invariant.1 _ r.read-h.ensures in
+    let far = goes_far _ _ c.loop-at-test.true c.loop-at.invariant.1 _ c.read-h.ensures in
     omega arith
 
 pub loop-at-preserved : goal.loop-at-preserved
@@ -58,4 +57,4 @@ loop-at-preserved c =
     let o = on in (o.0, o.1, sym (turned ∙ rw c.if-has_box.false refl))
 
 pub returns : goal.returns
-returns c = let l = c in sym (sym l.loop-at.invariant.2 ∙ twice_end _ _ c.loop-at-test.false)
+returns c = sym (sym c.loop-at.invariant.2 ∙ twice_end _ _ c.loop-at-test.false)

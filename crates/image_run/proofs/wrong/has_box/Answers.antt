@@ -15,18 +15,17 @@ pub loop-at-init : goal.loop-at-init
 loop-at-init c = (omega arith, c.requires, refl)
 
 pub read-h-requires : goal.read-h-requires
-read-h-requires c = let l = c in room _ _ c.loop-at-test.true l.loop-at.invariant.1
+read-h-requires c = room _ _ c.loop-at-test.true c.loop-at.invariant.1
 
 pub returns-then-h-boxnumber : goal.returns-then-h-boxnumber
 unfolding either
 returns-then-h-boxnumber c =
-    let turned : (let l = c in let a = l.args in any (λ T. eqb T.box a.boxnumber) (tables_of valley a.run.now) ≡ either (eqb c.read-h.result.boxnumber a.boxnumber) (any (λ T. eqb T.box a.boxnumber) (tables_of valley (drop (l.loop-at.at + c.read-h.result.length) a.run.now)))) = (let l = c in sym l.loop-at.invariant.2 ∙ box_turn _ _ c.loop-at-test.true l.loop-at.invariant.1 _ c.read-h.ensures _) in
+    let turned : (let a = c.args in any (λ T. eqb T.box a.boxnumber) (tables_of valley a.run.now) ≡ either (eqb c.read-h.result.boxnumber a.boxnumber) (any (λ T. eqb T.box a.boxnumber) (tables_of valley (drop (c.loop-at.at + c.read-h.result.length) a.run.now)))) = (sym c.loop-at.invariant.2 ∙ box_turn _ _ c.loop-at-test.true c.loop-at.invariant.1 _ c.read-h.ensures _) in
     sym (turned ∙ rw (eq-eqb _ _ c.if-h-boxnumber.true) refl)
 
 pub loop-at-smaller : goal.loop-at-smaller
 loop-at-smaller c =
-    let r = c in
-    let far = goes_far _ _ r.loop-at-test.true r.loop-at.invariant.1 _ r.read-h.ensures in
+    let far = goes_far _ _ c.loop-at-test.true c.loop-at.invariant.1 _ c.read-h.ensures in
     omega arith
 
 pub loop-at-preserved : goal.loop-at-preserved
@@ -39,4 +38,4 @@ loop-at-preserved c =
     (on.0, on.1, sym (turned ∙ rw (ne_eqb _ _ c.if-h-boxnumber.false) refl))
 
 pub returns : goal.returns
-returns c = let l = c in sym (sym l.loop-at.invariant.2 ∙ any_end _ _ c.loop-at-test.false _)
+returns c = sym (sym c.loop-at.invariant.2 ∙ any_end _ _ c.loop-at-test.false _)

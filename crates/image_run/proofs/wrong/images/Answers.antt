@@ -9,12 +9,11 @@ pub loop-at-init : goal.loop-at-init
 loop-at-init c = (omega arith, c.requires, omega arith, omega arith)
 
 pub read-requires : goal.read-requires
-read-requires c = let l = c in room _ _ c.loop-at-test.true l.loop-at.invariant.1
+read-requires c = room _ _ c.loop-at-test.true c.loop-at.invariant.1
 
 pub loop-at-smaller : goal.loop-at-smaller
 loop-at-smaller c =
-    let r = c in
-    let far = goes_far _ _ r.loop-at-test.true r.loop-at.invariant.1 _ r.read.ensures in
+    let far = goes_far _ _ c.loop-at-test.true c.loop-at.invariant.1 _ c.read.ensures in
     omega arith
 
 pub loop-at-preserved : goal.loop-at-preserved
@@ -27,4 +26,4 @@ loop-at-preserved c =
     (on.0, on.1, omega arith, omega arith)
 
 pub returns : goal.returns
-returns c = let l = c in rw (count_end _ _ c.loop-at-test.false, add-zero) at l.loop-at.invariant.3
+returns c = rw (count_end _ _ c.loop-at-test.false, add-zero) at c.loop-at.invariant.3

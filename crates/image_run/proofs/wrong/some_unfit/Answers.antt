@@ -13,7 +13,7 @@ pub loop-at-init : goal.loop-at-init
 loop-at-init c = (omega arith, c.requires, refl)
 
 pub read-h-requires : goal.read-h-requires
-read-h-requires c = let l = c in room _ _ c.loop-at-test.true l.loop-at.invariant.1
+read-h-requires c = room _ _ c.loop-at-test.true c.loop-at.invariant.1
 
 pub returns-then-unfit : goal.returns-then-unfit
 unfolding either
@@ -23,8 +23,7 @@ returns-then-unfit c =
 
 pub loop-at-smaller : goal.loop-at-smaller
 loop-at-smaller c =
-    let r = c in
-    let far = goes_far _ _ r.loop-at-test.true r.loop-at.invariant.1 _ r.read-h.ensures in
+    let far = goes_far _ _ c.loop-at-test.true c.loop-at.invariant.1 _ c.read-h.ensures in
     omega arith
 
 pub loop-at-preserved : goal.loop-at-preserved
@@ -37,4 +36,4 @@ loop-at-preserved c =
     (on.0, on.1, sym (turned ∙ rw c.if-unfit.false refl))
 
 pub returns : goal.returns
-returns c = let l = c in sym (sym l.loop-at.invariant.2 ∙ any_end _ _ c.loop-at-test.false _)
+returns c = sym (sym c.loop-at.invariant.2 ∙ any_end _ _ c.loop-at-test.false _)

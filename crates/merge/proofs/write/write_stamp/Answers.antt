@@ -31,8 +31,8 @@ use Rattle.merge.proofs.write.write_stamp.Goals as goal
 pub unchecked_state-state-requires : goal.unchecked_state-state-requires
 unchecked_state-state-requires c =
     let bytes : AllBytes c.args.run.now = all_of c.args.run.now (λ i. (c.shared_slice_known-1.given i).fits) in
-    let agreed_is : c.agreed_result-agreed.result ≡ agreed_as (agreed_of c.args.agreement (rows_in c.args.run.now c.args.gathered)) = (let p = c in c.agreed_result-agreed.ensures ∙ agreed_gathered p.args.run.now bytes p.requires.images.0 p.requires.images.1 p.args.gathered p.requires.images.2 p.args.agreement) in
-    let p = c in rw agreed_is (agreed_code (agreed_of p.args.agreement (rows_in c.args.run.now c.args.gathered)))
+    let agreed_is : c.agreed_result-agreed.result ≡ agreed_as (agreed_of c.args.agreement (rows_in c.args.run.now c.args.gathered)) = (c.agreed_result-agreed.ensures ∙ agreed_gathered c.args.run.now bytes c.requires.images.0 c.requires.images.1 c.args.gathered c.requires.images.2 c.args.agreement) in
+    rw agreed_is (agreed_code (agreed_of c.args.agreement (rows_in c.args.run.now c.args.gathered)))
 
 pub slice_bounds-body_of-count : goal.slice_bounds-body_of-count
 slice_bounds-body_of-count c = let l = c.first_of-first.ensures.0 in omega arith
@@ -46,10 +46,10 @@ slice_bounds-body_of-end c = let l = c.first_of-first.ensures.0 in omega arith
 pub body_of-body-requires : goal.body_of-body-requires
 body_of-body-requires c =
     let bytes : AllBytes c.args.run.now = all_of c.args.run.now (λ i. (c.shared_slice_known-1.given i).fits) in
-    let held : (let p = c in let g = p.args.gathered in FirstHeld g.cursors.newest g.cursors.last (tables_of valley p.args.run.now) p.args.run.now (let g = c.args.gathered in from_first g.cursors.newest g.cursors.last (tables_of valley c.args.run.now) c.args.run.now)) = (let p = c in first_held _ _ _ _ bytes p.requires.images.0 p.requires.images.3) in
+    let held : (let g = c.args.gathered in FirstHeld g.cursors.newest g.cursors.last (tables_of valley c.args.run.now) c.args.run.now (let g = c.args.gathered in from_first g.cursors.newest g.cursors.last (tables_of valley c.args.run.now) c.args.run.now)) = (first_held _ _ _ _ bytes c.requires.images.0 c.requires.images.3) in
     let same : part_at c.args.run.now c.first_of-first.result.at ≡ (let g = c.args.gathered in from_first g.cursors.newest g.cursors.last (tables_of valley c.args.run.now) c.args.run.now) = rest_of c.args.run.now c.first_of-first.result.at ∙ c.first_of-first.ensures.1 in
-    let told : (let p = c in let g = p.args.gathered in let first = part_at p.args.run.now c.first_of-first.result.at in c.first_of-first.result.row ≡ fields_for first (place_in g.cursors.newest (table_at format_one first) g.cursors.last)) = rw (rest_of c.args.run.now c.first_of-first.result.at) c.first_of-first.ensures.2 in
-    let f = c in first_body _ _ _ _ _ held _ same _ told
+    let told : (let g = c.args.gathered in let first = part_at c.args.run.now c.first_of-first.result.at in c.first_of-first.result.row ≡ fields_for first (place_in g.cursors.newest (table_at format_one first) g.cursors.last)) = rw (rest_of c.args.run.now c.first_of-first.result.at) c.first_of-first.ensures.2 in
+    first_body _ _ _ _ _ held _ same _ told
 
 pub overflow_cast-row : goal.overflow_cast-row
 overflow_cast-row c = let l = c.requires.index_bound.2 in omega arith
@@ -57,43 +57,41 @@ overflow_cast-row c = let l = c.requires.index_bound.2 in omega arith
 pub copy_part-requires : goal.copy_part-requires
 copy_part-requires c =
     let bytes : AllBytes c.args.run.now = all_of c.args.run.now (λ i. (c.shared_slice_known-1.given i).fits) in
-    let held : (let p = c in let g = p.args.gathered in FirstHeld g.cursors.newest g.cursors.last (tables_of valley p.args.run.now) p.args.run.now (let g = c.args.gathered in from_first g.cursors.newest g.cursors.last (tables_of valley c.args.run.now) c.args.run.now)) = (let p = c in first_held _ _ _ _ bytes p.requires.images.0 p.requires.images.3) in
-    let agreed_is : c.agreed_result-agreed.result ≡ agreed_as (agreed_of c.args.agreement (rows_in c.args.run.now c.args.gathered)) = (let p = c in c.agreed_result-agreed.ensures ∙ agreed_gathered p.args.run.now bytes p.requires.images.0 p.requires.images.1 p.args.gathered p.requires.images.2 p.args.agreement) in
-    let state-is : c.unchecked_state-state.result ≡ unchecked_as c.args.agreement (rows_in c.args.run.now c.args.gathered) = (let p = c in let s = c.state_of.ensures ∙ state_gathered p.args.run.now bytes p.requires.images.0 p.requires.images.1 p.args.gathered p.requires.images.2 in c.unchecked_state-state.ensures ∙ rw (s, agreed_is) (unchecked_from_lem p.args.agreement (rows_in c.args.run.now c.args.gathered))) in
+    let held : (let g = c.args.gathered in FirstHeld g.cursors.newest g.cursors.last (tables_of valley c.args.run.now) c.args.run.now (let g = c.args.gathered in from_first g.cursors.newest g.cursors.last (tables_of valley c.args.run.now) c.args.run.now)) = (first_held _ _ _ _ bytes c.requires.images.0 c.requires.images.3) in
+    let agreed_is : c.agreed_result-agreed.result ≡ agreed_as (agreed_of c.args.agreement (rows_in c.args.run.now c.args.gathered)) = (c.agreed_result-agreed.ensures ∙ agreed_gathered c.args.run.now bytes c.requires.images.0 c.requires.images.1 c.args.gathered c.requires.images.2 c.args.agreement) in
+    let state-is : c.unchecked_state-state.result ≡ unchecked_as c.args.agreement (rows_in c.args.run.now c.args.gathered) = (let s = c.state_of.ensures ∙ state_gathered c.args.run.now bytes c.requires.images.0 c.requires.images.1 c.args.gathered c.requires.images.2 in c.unchecked_state-state.ensures ∙ rw (s, agreed_is) (unchecked_from_lem c.args.agreement (rows_in c.args.run.now c.args.gathered))) in
     let same : part_at c.args.run.now c.first_of-first.result.at ≡ (let g = c.args.gathered in from_first g.cursors.newest g.cursors.last (tables_of valley c.args.run.now) c.args.run.now) = rest_of c.args.run.now c.first_of-first.result.at ∙ c.first_of-first.ensures.1 in
-    let told : (let p = c in let g = p.args.gathered in let first = part_at p.args.run.now c.first_of-first.result.at in c.first_of-first.result.row ≡ fields_for first (place_in g.cursors.newest (table_at format_one first) g.cursors.last)) = rw (rest_of c.args.run.now c.first_of-first.result.at) c.first_of-first.ensures.2 in
-    let long : (let p = c in length c.body_of-body.result.now ≡ length_of (unchecked_row p.args.agreement p.args.gathered.cursors.last (rows_in c.args.run.now c.args.gathered)).body) = (let p = c in let f = c in ap length c.body_of-body.ensures ∙ body_long _ _ _ _ _ (all_regular _ p.requires.images.0) held _ same _ told p.args.agreement _ state-is) in
-    let p = c in
+    let told : (let g = c.args.gathered in let first = part_at c.args.run.now c.first_of-first.result.at in c.first_of-first.result.row ≡ fields_for first (place_in g.cursors.newest (table_at format_one first) g.cursors.last)) = rw (rest_of c.args.run.now c.first_of-first.result.at) c.first_of-first.ensures.2 in
+    let long : (length c.body_of-body.result.now ≡ length_of (unchecked_row c.args.agreement c.args.gathered.cursors.last (rows_in c.args.run.now c.args.gathered)).body) = (ap length c.body_of-body.ensures ∙ body_long _ _ _ _ _ (all_regular _ c.requires.images.0) held _ same _ told c.args.agreement _ state-is) in
     let b = long in
     let k = c.write_row.auto.image in
-    let l = p.requires.index_bound.2 in
-    let m = p.requires.index_bound.3 in
+    let l = c.requires.index_bound.2 in
+    let m = c.requires.index_bound.3 in
     omega arith
 
 pub overflow_add-result : goal.overflow_add-result
 overflow_add-result c =
     let bytes : AllBytes c.args.run.now = all_of c.args.run.now (λ i. (c.shared_slice_known-1.given i).fits) in
-    let held : (let p = c in let g = p.args.gathered in FirstHeld g.cursors.newest g.cursors.last (tables_of valley p.args.run.now) p.args.run.now (let g = c.args.gathered in from_first g.cursors.newest g.cursors.last (tables_of valley c.args.run.now) c.args.run.now)) = (let p = c in first_held _ _ _ _ bytes p.requires.images.0 p.requires.images.3) in
-    let agreed_is : c.agreed_result-agreed.result ≡ agreed_as (agreed_of c.args.agreement (rows_in c.args.run.now c.args.gathered)) = (let p = c in c.agreed_result-agreed.ensures ∙ agreed_gathered p.args.run.now bytes p.requires.images.0 p.requires.images.1 p.args.gathered p.requires.images.2 p.args.agreement) in
-    let state-is : c.unchecked_state-state.result ≡ unchecked_as c.args.agreement (rows_in c.args.run.now c.args.gathered) = (let p = c in let s = c.state_of.ensures ∙ state_gathered p.args.run.now bytes p.requires.images.0 p.requires.images.1 p.args.gathered p.requires.images.2 in c.unchecked_state-state.ensures ∙ rw (s, agreed_is) (unchecked_from_lem p.args.agreement (rows_in c.args.run.now c.args.gathered))) in
+    let held : (let g = c.args.gathered in FirstHeld g.cursors.newest g.cursors.last (tables_of valley c.args.run.now) c.args.run.now (let g = c.args.gathered in from_first g.cursors.newest g.cursors.last (tables_of valley c.args.run.now) c.args.run.now)) = (first_held _ _ _ _ bytes c.requires.images.0 c.requires.images.3) in
+    let agreed_is : c.agreed_result-agreed.result ≡ agreed_as (agreed_of c.args.agreement (rows_in c.args.run.now c.args.gathered)) = (c.agreed_result-agreed.ensures ∙ agreed_gathered c.args.run.now bytes c.requires.images.0 c.requires.images.1 c.args.gathered c.requires.images.2 c.args.agreement) in
+    let state-is : c.unchecked_state-state.result ≡ unchecked_as c.args.agreement (rows_in c.args.run.now c.args.gathered) = (let s = c.state_of.ensures ∙ state_gathered c.args.run.now bytes c.requires.images.0 c.requires.images.1 c.args.gathered c.requires.images.2 in c.unchecked_state-state.ensures ∙ rw (s, agreed_is) (unchecked_from_lem c.args.agreement (rows_in c.args.run.now c.args.gathered))) in
     let same : part_at c.args.run.now c.first_of-first.result.at ≡ (let g = c.args.gathered in from_first g.cursors.newest g.cursors.last (tables_of valley c.args.run.now) c.args.run.now) = rest_of c.args.run.now c.first_of-first.result.at ∙ c.first_of-first.ensures.1 in
-    let told : (let p = c in let g = p.args.gathered in let first = part_at p.args.run.now c.first_of-first.result.at in c.first_of-first.result.row ≡ fields_for first (place_in g.cursors.newest (table_at format_one first) g.cursors.last)) = rw (rest_of c.args.run.now c.first_of-first.result.at) c.first_of-first.ensures.2 in
-    let long : (let p = c in length c.body_of-body.result.now ≡ length_of (unchecked_row p.args.agreement p.args.gathered.cursors.last (rows_in c.args.run.now c.args.gathered)).body) = (let p = c in let f = c in ap length c.body_of-body.ensures ∙ body_long _ _ _ _ _ (all_regular _ p.requires.images.0) held _ same _ told p.args.agreement _ state-is) in
+    let told : (let g = c.args.gathered in let first = part_at c.args.run.now c.first_of-first.result.at in c.first_of-first.result.row ≡ fields_for first (place_in g.cursors.newest (table_at format_one first) g.cursors.last)) = rw (rest_of c.args.run.now c.first_of-first.result.at) c.first_of-first.ensures.2 in
+    let long : (length c.body_of-body.result.now ≡ length_of (unchecked_row c.args.agreement c.args.gathered.cursors.last (rows_in c.args.run.now c.args.gathered)).body) = (ap length c.body_of-body.ensures ∙ body_long _ _ _ _ _ (all_regular _ c.requires.images.0) held _ same _ told c.args.agreement _ state-is) in
     let b = long in let l = c.requires.index_bound.2 in omega arith
 
 pub returns : goal.returns
 returns c =
     let bytes : AllBytes c.args.run.now = all_of c.args.run.now (λ i. (c.shared_slice_known-1.given i).fits) in
-    let held : (let p = c in let g = p.args.gathered in FirstHeld g.cursors.newest g.cursors.last (tables_of valley p.args.run.now) p.args.run.now (let g = c.args.gathered in from_first g.cursors.newest g.cursors.last (tables_of valley c.args.run.now) c.args.run.now)) = (let p = c in first_held _ _ _ _ bytes p.requires.images.0 p.requires.images.3) in
-    let agreed_is : c.agreed_result-agreed.result ≡ agreed_as (agreed_of c.args.agreement (rows_in c.args.run.now c.args.gathered)) = (let p = c in c.agreed_result-agreed.ensures ∙ agreed_gathered p.args.run.now bytes p.requires.images.0 p.requires.images.1 p.args.gathered p.requires.images.2 p.args.agreement) in
-    let state-is : c.unchecked_state-state.result ≡ unchecked_as c.args.agreement (rows_in c.args.run.now c.args.gathered) = (let p = c in let s = c.state_of.ensures ∙ state_gathered p.args.run.now bytes p.requires.images.0 p.requires.images.1 p.args.gathered p.requires.images.2 in c.unchecked_state-state.ensures ∙ rw (s, agreed_is) (unchecked_from_lem p.args.agreement (rows_in c.args.run.now c.args.gathered))) in
+    let held : (let g = c.args.gathered in FirstHeld g.cursors.newest g.cursors.last (tables_of valley c.args.run.now) c.args.run.now (let g = c.args.gathered in from_first g.cursors.newest g.cursors.last (tables_of valley c.args.run.now) c.args.run.now)) = (first_held _ _ _ _ bytes c.requires.images.0 c.requires.images.3) in
+    let agreed_is : c.agreed_result-agreed.result ≡ agreed_as (agreed_of c.args.agreement (rows_in c.args.run.now c.args.gathered)) = (c.agreed_result-agreed.ensures ∙ agreed_gathered c.args.run.now bytes c.requires.images.0 c.requires.images.1 c.args.gathered c.requires.images.2 c.args.agreement) in
+    let state-is : c.unchecked_state-state.result ≡ unchecked_as c.args.agreement (rows_in c.args.run.now c.args.gathered) = (let s = c.state_of.ensures ∙ state_gathered c.args.run.now bytes c.requires.images.0 c.requires.images.1 c.args.gathered c.requires.images.2 in c.unchecked_state-state.ensures ∙ rw (s, agreed_is) (unchecked_from_lem c.args.agreement (rows_in c.args.run.now c.args.gathered))) in
     let same : part_at c.args.run.now c.first_of-first.result.at ≡ (let g = c.args.gathered in from_first g.cursors.newest g.cursors.last (tables_of valley c.args.run.now) c.args.run.now) = rest_of c.args.run.now c.first_of-first.result.at ∙ c.first_of-first.ensures.1 in
-    let told : (let p = c in let g = p.args.gathered in let first = part_at p.args.run.now c.first_of-first.result.at in c.first_of-first.result.row ≡ fields_for first (place_in g.cursors.newest (table_at format_one first) g.cursors.last)) = rw (rest_of c.args.run.now c.first_of-first.result.at) c.first_of-first.ensures.2 in
-    let long : (let p = c in length c.body_of-body.result.now ≡ length_of (unchecked_row p.args.agreement p.args.gathered.cursors.last (rows_in c.args.run.now c.args.gathered)).body) = (let p = c in let f = c in ap length c.body_of-body.ensures ∙ body_long _ _ _ _ _ (all_regular _ p.requires.images.0) held _ same _ told p.args.agreement _ state-is) in
-    let p = c in
-    let f = c in record {
-      due_value = (ap (λ n. p.args.due + n) long, ap (λ (x : Result). not (eqb x.code 0)) agreed_is ∙ agreed_some (agreed_of p.args.agreement (rows_in c.args.run.now c.args.gathered)));
+    let told : (let g = c.args.gathered in let first = part_at c.args.run.now c.first_of-first.result.at in c.first_of-first.result.row ≡ fields_for first (place_in g.cursors.newest (table_at format_one first) g.cursors.last)) = rw (rest_of c.args.run.now c.first_of-first.result.at) c.first_of-first.ensures.2 in
+    let long : (length c.body_of-body.result.now ≡ length_of (unchecked_row c.args.agreement c.args.gathered.cursors.last (rows_in c.args.run.now c.args.gathered)).body) = (ap length c.body_of-body.ensures ∙ body_long _ _ _ _ _ (all_regular _ c.requires.images.0) held _ same _ told c.args.agreement _ state-is) in
+    record {
+      due_value = (ap (λ n. c.args.due + n) long, ap (λ (x : Result). not (eqb x.code 0)) agreed_is ∙ agreed_some (agreed_of c.args.agreement (rows_in c.args.run.now c.args.gathered)));
       out_after = c.copy_part.ensures
-          ∙ ap (λ z. replaced z p.args.due c.body_of-body.result.now) c.write_row.ensures
-          ∙ stamp_laid _ _ _ _ _ (all_regular _ p.requires.images.0) held _ same _ told p.args.agreement _ state-is _ _ _ _ _ refl c.body_of-body.ensures;
+          ∙ ap (λ z. replaced z c.args.due c.body_of-body.result.now) c.write_row.ensures
+          ∙ stamp_laid _ _ _ _ _ (all_regular _ c.requires.images.0) held _ same _ told c.args.agreement _ state-is _ _ _ _ _ refl c.body_of-body.ensures;
     }

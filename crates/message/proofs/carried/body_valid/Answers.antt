@@ -6,8 +6,7 @@ use Rattle.message.proofs.carried.body_valid.Goals as goal
 
 pub contents_valid-requires : goal.contents_valid-requires
 contents_valid-requires c =
-    let p = c in
-    (p.requires.0, few_accesses _ _ (sym c.counts_valid.ensures ∙ c.if-counts_valid.true), p.requires.1)
+    (c.requires.0, few_accesses _ _ (sym c.counts_valid.ensures ∙ c.if-counts_valid.true), c.requires.1)
 
 pub returns-then-counts_valid : goal.returns-then-counts_valid
 returns-then-counts_valid c = rw body_tests (search chain)

@@ -5,8 +5,7 @@ use Rattle.message.proofs.carried.proposal_valid.Goals as goal
 
 pub ending_valid-requires : goal.ending_valid-requires
 ending_valid-requires c =
-    let p = c in
-    (p.requires, stamp_positive _ (sym c.stamp_valid.ensures ∙ c.if-stamp_valid.true))
+    (c.requires, stamp_positive _ (sym c.stamp_valid.ensures ∙ c.if-stamp_valid.true))
 
 pub returns-then-stamp_valid : goal.returns-then-stamp_valid
 returns-then-stamp_valid c = search chain

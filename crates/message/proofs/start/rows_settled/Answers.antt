@@ -18,19 +18,18 @@ loop-i-init c = (omega arith, rw (add-zero, sub-zero))
 pub returns-then-not-codes_settled : goal.returns-then-not-codes_settled
 unfolding both
 returns-then-not-codes_settled c =
-    let turn : (let l = c in let a = l.args in let f = fields_at a.image.now (a.begin + 24 * l.loop-i.i) in every settled (rows_at a.image.now a.begin a.rows) ≡ both (both (either (eqb f.prepare 0) (leb 5 f.prepare)) (either (eqb f.outcome 0) (leb 3 f.outcome))) (every settled (rows_at a.image.now (a.begin + 24 * (l.loop-i.i + 1)) (a.rows - (l.loop-i.i + 1))))) = (let l = c in let a = l.args in l.loop-i.invariant.1 ∙ settled_turn a.image.now a.begin a.rows l.loop-i.i c.loop-i-test.true) in
+    let turn : (let a = c.args in let f = fields_at a.image.now (a.begin + 24 * c.loop-i.i) in every settled (rows_at a.image.now a.begin a.rows) ≡ both (both (either (eqb f.prepare 0) (leb 5 f.prepare)) (either (eqb f.outcome 0) (leb 3 f.outcome))) (every settled (rows_at a.image.now (a.begin + 24 * (c.loop-i.i + 1)) (a.rows - (c.loop-i.i + 1))))) = (let a = c.args in c.loop-i.invariant.1 ∙ settled_turn a.image.now a.begin a.rows c.loop-i.i c.loop-i-test.true) in
     let e = sym c.codes_settled.ensures ∙ c.if-not-codes_settled.true in
     sym (turn ∙ rw (← c.row_at-row.ensures, e))
 
 pub loop-i-preserved : goal.loop-i-preserved
 unfolding both
 loop-i-preserved c =
-    let turn : (let l = c in let a = l.args in let f = fields_at a.image.now (a.begin + 24 * l.loop-i.i) in every settled (rows_at a.image.now a.begin a.rows) ≡ both (both (either (eqb f.prepare 0) (leb 5 f.prepare)) (either (eqb f.outcome 0) (leb 3 f.outcome))) (every settled (rows_at a.image.now (a.begin + 24 * (l.loop-i.i + 1)) (a.rows - (l.loop-i.i + 1))))) = (let l = c in let a = l.args in l.loop-i.invariant.1 ∙ settled_turn a.image.now a.begin a.rows l.loop-i.i c.loop-i-test.true) in
+    let turn : (let a = c.args in let f = fields_at a.image.now (a.begin + 24 * c.loop-i.i) in every settled (rows_at a.image.now a.begin a.rows) ≡ both (both (either (eqb f.prepare 0) (leb 5 f.prepare)) (either (eqb f.outcome 0) (leb 3 f.outcome))) (every settled (rows_at a.image.now (a.begin + 24 * (c.loop-i.i + 1)) (a.rows - (c.loop-i.i + 1))))) = (let a = c.args in c.loop-i.invariant.1 ∙ settled_turn a.image.now a.begin a.rows c.loop-i.i c.loop-i-test.true) in
     let e = sym c.codes_settled.ensures ∙ c.if-not-codes_settled.false in
     (omega arith, turn ∙ rw (← c.row_at-row.ensures, e))
 
 pub returns : goal.returns
 returns c =
-    let l = c in
-    let a = l.args in
-    sym (l.loop-i.invariant.1 ∙ settled_end a.image.now (a.begin + 24 * l.loop-i.i) (a.rows - l.loop-i.i) (omega arith))
+    let a = c.args in
+    sym (c.loop-i.invariant.1 ∙ settled_end a.image.now (a.begin + 24 * c.loop-i.i) (a.rows - c.loop-i.i) (omega arith))

@@ -18,23 +18,22 @@ loop-i-init c = (omega arith, rw (mul-zero, sub-zero))
 pub returns-then-register-low : goal.returns-then-register-low
 unfolding both
 returns-then-register-low c =
-    let turn : (let l = c in let args = l.args in let a = access_at args.body.now (9 * l.loop-i.i) in accesses_by_rule args.stamp 0 (accesses_at args.body.now 0 args.n) ≡ both (both (leb l.loop-i.low a.register) (ltb a.number args.stamp)) (both (leb (a.register + 1) 64) (accesses_by_rule args.stamp (a.register + 1) (accesses_at args.body.now (9 * (l.loop-i.i + 1)) (args.n - (l.loop-i.i + 1)))))) = (let l = c in let args = l.args in l.loop-i.invariant.1 ∙ accesses_turn args.body.now (9 * l.loop-i.i) (9 * (l.loop-i.i + 1)) args.n l.loop-i.i l.loop-i.low args.stamp c.loop-i-test.true (omega arith)) in
+    let turn : (let args = c.args in let a = access_at args.body.now (9 * c.loop-i.i) in accesses_by_rule args.stamp 0 (accesses_at args.body.now 0 args.n) ≡ both (both (leb c.loop-i.low a.register) (ltb a.number args.stamp)) (both (leb (a.register + 1) 64) (accesses_by_rule args.stamp (a.register + 1) (accesses_at args.body.now (9 * (c.loop-i.i + 1)) (args.n - (c.loop-i.i + 1)))))) = (let args = c.args in c.loop-i.invariant.1 ∙ accesses_turn args.body.now (9 * c.loop-i.i) (9 * (c.loop-i.i + 1)) args.n c.loop-i.i c.loop-i.low args.stamp c.loop-i-test.true (omega arith)) in
     rw turn (search (tests, ← c.access_at-read.ensures))
 
 pub returns-then-stamp-read : goal.returns-then-stamp-read
 unfolding both
 returns-then-stamp-read c =
-    let turn : (let l = c in let args = l.args in let a = access_at args.body.now (9 * l.loop-i.i) in accesses_by_rule args.stamp 0 (accesses_at args.body.now 0 args.n) ≡ both (both (leb l.loop-i.low a.register) (ltb a.number args.stamp)) (both (leb (a.register + 1) 64) (accesses_by_rule args.stamp (a.register + 1) (accesses_at args.body.now (9 * (l.loop-i.i + 1)) (args.n - (l.loop-i.i + 1)))))) = (let l = c in let args = l.args in l.loop-i.invariant.1 ∙ accesses_turn args.body.now (9 * l.loop-i.i) (9 * (l.loop-i.i + 1)) args.n l.loop-i.i l.loop-i.low args.stamp c.loop-i-test.true (omega arith)) in
+    let turn : (let args = c.args in let a = access_at args.body.now (9 * c.loop-i.i) in accesses_by_rule args.stamp 0 (accesses_at args.body.now 0 args.n) ≡ both (both (leb c.loop-i.low a.register) (ltb a.number args.stamp)) (both (leb (a.register + 1) 64) (accesses_by_rule args.stamp (a.register + 1) (accesses_at args.body.now (9 * (c.loop-i.i + 1)) (args.n - (c.loop-i.i + 1)))))) = (let args = c.args in c.loop-i.invariant.1 ∙ accesses_turn args.body.now (9 * c.loop-i.i) (9 * (c.loop-i.i + 1)) args.n c.loop-i.i c.loop-i.low args.stamp c.loop-i-test.true (omega arith)) in
     rw turn (search (tests, ← c.access_at-read.ensures))
 
 pub loop-i-preserved : goal.loop-i-preserved
 unfolding both
 loop-i-preserved c =
-    let turn : (let l = c in let args = l.args in let a = access_at args.body.now (9 * l.loop-i.i) in accesses_by_rule args.stamp 0 (accesses_at args.body.now 0 args.n) ≡ both (both (leb l.loop-i.low a.register) (ltb a.number args.stamp)) (both (leb (a.register + 1) 64) (accesses_by_rule args.stamp (a.register + 1) (accesses_at args.body.now (9 * (l.loop-i.i + 1)) (args.n - (l.loop-i.i + 1)))))) = (let l = c in let args = l.args in l.loop-i.invariant.1 ∙ accesses_turn args.body.now (9 * l.loop-i.i) (9 * (l.loop-i.i + 1)) args.n l.loop-i.i l.loop-i.low args.stamp c.loop-i-test.true (omega arith)) in
+    let turn : (let args = c.args in let a = access_at args.body.now (9 * c.loop-i.i) in accesses_by_rule args.stamp 0 (accesses_at args.body.now 0 args.n) ≡ both (both (leb c.loop-i.low a.register) (ltb a.number args.stamp)) (both (leb (a.register + 1) 64) (accesses_by_rule args.stamp (a.register + 1) (accesses_at args.body.now (9 * (c.loop-i.i + 1)) (args.n - (c.loop-i.i + 1)))))) = (let args = c.args in c.loop-i.invariant.1 ∙ accesses_turn args.body.now (9 * c.loop-i.i) (9 * (c.loop-i.i + 1)) args.n c.loop-i.i c.loop-i.low args.stamp c.loop-i-test.true (omega arith)) in
     (omega arith, turn ∙ search (tests, ← c.access_at-read.ensures))
 
 pub returns : goal.returns
 returns c =
-    let l = c in
-    let a = l.args in
-    rw (l.loop-i.invariant.1, accesses_end a.body.now (9 * l.loop-i.i) (a.n - l.loop-i.i) l.loop-i.low a.stamp (omega arith)) (search tests)
+    let a = c.args in
+    rw (c.loop-i.invariant.1, accesses_end a.body.now (9 * c.loop-i.i) (a.n - c.loop-i.i) c.loop-i.low a.stamp (omega arith)) (search tests)

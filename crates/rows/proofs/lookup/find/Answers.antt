@@ -21,28 +21,26 @@ loop-low-init c =
 -- there are 64 steps at most among rows that a length counts
 pub overflow_add-compared : goal.overflow_add-compared
 overflow_add-compared c =
-    let l = c in
-    let a = l.args in
+    let a = c.args in
     let few = few_steps a.image.now a.begin a.rows a.stamp (omega arith) in
-    let all = l.loop-low.invariant.4 in
+    let all = c.loop-low.invariant.4 in
     omega arith
 
 pub returns-then-here-stamp : goal.returns-then-here-stamp
 returns-then-here-stamp c =
-    let l = c in
-    let a = l.args in
-    let (there, last) = turn_here a.image.now a.begin l.loop-low.low l.loop-low.high _ a.stamp (omega arith) (omega arith) l.loop-low.invariant.2 (omega arith) (rw c.row_at-here.ensures at c.if-here-stamp.true) in
-    (sym (l.loop-low.invariant.3 ∙ there), sym (l.loop-low.invariant.4 ∙ rw last))
+    let a = c.args in
+    let (there, last) = turn_here a.image.now a.begin c.loop-low.low c.loop-low.high _ a.stamp (omega arith) (omega arith) c.loop-low.invariant.2 (omega arith) (rw c.row_at-here.ensures at c.if-here-stamp.true) in
+    (sym (c.loop-low.invariant.3 ∙ there), sym (c.loop-low.invariant.4 ∙ rw last))
 
 pub loop-low-smaller-then-here-stamp-2 : goal.loop-low-smaller-then-here-stamp-2
 loop-low-smaller-then-here-stamp-2 c =
-    let behind : (let l = c in let a = l.args in Turned a.image.now a.begin a.stamp l.loop-low.low l.loop-low.high (l.loop-low.low + (l.loop-low.high - l.loop-low.low) / 2 + 1) l.loop-low.high) = (let l = c in let a = l.args in turn_behind a.image.now a.begin l.loop-low.low l.loop-low.high _ a.stamp (omega arith) (omega arith) l.loop-low.invariant.2 (omega arith) (rw c.row_at-here.ensures at c.if-here-stamp-2.true)) in
+    let behind : (let a = c.args in Turned a.image.now a.begin a.stamp c.loop-low.low c.loop-low.high (c.loop-low.low + (c.loop-low.high - c.loop-low.low) / 2 + 1) c.loop-low.high) = (let a = c.args in turn_behind a.image.now a.begin c.loop-low.low c.loop-low.high _ a.stamp (omega arith) (omega arith) c.loop-low.invariant.2 (omega arith) (rw c.row_at-here.ensures at c.if-here-stamp-2.true)) in
     let t = behind.2 in omega arith
 
 pub loop-low-preserved-then-here-stamp-2 : goal.loop-low-preserved-then-here-stamp-2
 loop-low-preserved-then-here-stamp-2 c =
-    let behind : (let l = c in let a = l.args in Turned a.image.now a.begin a.stamp l.loop-low.low l.loop-low.high (l.loop-low.low + (l.loop-low.high - l.loop-low.low) / 2 + 1) l.loop-low.high) = (let l = c in let a = l.args in turn_behind a.image.now a.begin l.loop-low.low l.loop-low.high _ a.stamp (omega arith) (omega arith) l.loop-low.invariant.2 (omega arith) (rw c.row_at-here.ensures at c.if-here-stamp-2.true)) in
-    let t = behind in let l = c in let all = l.loop-low.invariant.4 in let one = t.2 in (omega arith, omega arith, t.0, l.loop-low.invariant.3 ∙ t.1, omega arith)
+    let behind : (let a = c.args in Turned a.image.now a.begin a.stamp c.loop-low.low c.loop-low.high (c.loop-low.low + (c.loop-low.high - c.loop-low.low) / 2 + 1) c.loop-low.high) = (let a = c.args in turn_behind a.image.now a.begin c.loop-low.low c.loop-low.high _ a.stamp (omega arith) (omega arith) c.loop-low.invariant.2 (omega arith) (rw c.row_at-here.ensures at c.if-here-stamp-2.true)) in
+    let t = behind in let all = c.loop-low.invariant.4 in let one = t.2 in (omega arith, omega arith, t.0, c.loop-low.invariant.3 ∙ t.1, omega arith)
 
 pub loop-low-smaller : goal.loop-low-smaller
 loop-low-smaller c =
@@ -56,7 +54,6 @@ loop-low-preserved c =
 
 pub returns : goal.returns
 returns c =
-    let l = c in
-    let a = l.args in
-    let (nowhere, none_left) = turn_none a.image.now a.begin l.loop-low.low l.loop-low.high a.stamp (omega arith) in
-    (sym (l.loop-low.invariant.3 ∙ nowhere), sym (l.loop-low.invariant.4 ∙ rw (none_left, add-zero)))
+    let a = c.args in
+    let (nowhere, none_left) = turn_none a.image.now a.begin c.loop-low.low c.loop-low.high a.stamp (omega arith) in
+    (sym (c.loop-low.invariant.3 ∙ nowhere), sym (c.loop-low.invariant.4 ∙ rw (none_left, add-zero)))

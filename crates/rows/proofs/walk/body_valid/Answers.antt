@@ -15,23 +15,21 @@ use Rattle.rows.proofs.walk.body_valid.Goals as goal
 
 pub body_of-requires : goal.body_of-requires
 body_of-requires c =
-    let inside : (let p = c in BodyInside p.args.image.now p.args.row) = (let p = c in let e : p.args.row.offset + size_of p.args.row ≤ p.args.end = leb-true _ _ (sym c.body_inside.ensures ∙ c.if-body_inside.true) in omega (arith, p.requires.0)) in
+    let inside : (BodyInside c.args.image.now c.args.row) = (let e : c.args.row.offset + size_of c.args.row ≤ c.args.end = leb-true _ _ (sym c.body_inside.ensures ∙ c.if-body_inside.true) in omega (arith, c.requires.0)) in
     inside
 
 pub contents_valid_by_counts-requires : goal.contents_valid_by_counts-requires
 contents_valid_by_counts-requires c =
-    let inside : (let p = c in BodyInside p.args.image.now p.args.row) = (let p = c in let e : p.args.row.offset + size_of p.args.row ≤ p.args.end = leb-true _ _ (sym c.body_inside.ensures ∙ c.if-body_inside.true) in omega (arith, p.requires.0)) in
-    let p = c in
-    let l : length c.body_of.result.now ≡ size_of p.args.row = ap length c.body_of.ensures ∙ length_body_part p.args.image.now p.args.row inside in
-    (omega arith, p.requires.1, p.requires.2, p.requires.3)
+    let inside : (BodyInside c.args.image.now c.args.row) = (let e : c.args.row.offset + size_of c.args.row ≤ c.args.end = leb-true _ _ (sym c.body_inside.ensures ∙ c.if-body_inside.true) in omega (arith, c.requires.0)) in
+    let l : length c.body_of.result.now ≡ size_of c.args.row = ap length c.body_of.ensures ∙ length_body_part c.args.image.now c.args.row inside in
+    (omega arith, c.requires.1, c.requires.2, c.requires.3)
 
 pub returns-then-body_inside : goal.returns-then-body_inside
 unfolding body_by_rule_at
 returns-then-body_inside c =
-    let inside : (let p = c in BodyInside p.args.image.now p.args.row) = (let p = c in let e : p.args.row.offset + size_of p.args.row ≤ p.args.end = leb-true _ _ (sym c.body_inside.ensures ∙ c.if-body_inside.true) in omega (arith, p.requires.0)) in
-    let p = c in
-    let row = p.args.row in
-    let s = p.args.image.now in
+    let inside : (BodyInside c.args.image.now c.args.row) = (let e : c.args.row.offset + size_of c.args.row ≤ c.args.end = leb-true _ _ (sym c.body_inside.ensures ∙ c.if-body_inside.true) in omega (arith, c.requires.0)) in
+    let row = c.args.row in
+    let s = c.args.image.now in
     let e : c.contents_valid_by_counts.result ≡ contents_by_rule row.stamp (body_at s row.offset row.reads row.writes) =
     c.contents_valid_by_counts.ensures
     ∙ ap (λ (x : List ℕ). contents_by_rule row.stamp (body_at x 0 row.reads row.writes)) c.body_of.ensures

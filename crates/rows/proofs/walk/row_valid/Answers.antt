@@ -8,10 +8,9 @@ use Rattle.rows.proofs.walk.row_valid.Goals as goal
 
 pub body_valid-requires : goal.body_valid-requires
 body_valid-requires c =
-    let p = c in
     let h = both_left _ _ (sym c.head_valid.ensures ∙ c.if-head_valid.true) in
-    let n = fields_counts p.args.row h in
-    (p.requires, n.0, n.1, (fields_facts p.args.row h).0)
+    let n = fields_counts c.args.row h in
+    (c.requires, n.0, n.1, (fields_facts c.args.row h).0)
 
 pub returns-then-head_valid : goal.returns-then-head_valid
 unfolding row_by_rule_at

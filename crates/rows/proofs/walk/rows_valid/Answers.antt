@@ -26,15 +26,15 @@ row_valid-requires c = c.requires.1
 pub returns-then-not-row_valid : goal.returns-then-not-row_valid
 unfolding both
 returns-then-not-row_valid c =
-    let turn : (let l = c in let a = l.args in let f = fields_at a.image.now (a.begin + 24 * l.loop-i.i) in rows_walk a.image.now a.begin a.rows 0 (a.begin + 24 * a.rows) a.end ≡ both (row_by_rule_at a.image.now f l.loop-i.last l.loop-i.due a.end) (rows_walk a.image.now (a.begin + 24 * (l.loop-i.i + 1)) (a.rows - (l.loop-i.i + 1)) f.stamp (l.loop-i.due + size_of f) a.end)) = (let l = c in let a = l.args in l.loop-i.invariant.2 ∙ rows_turn a.image.now a.begin a.rows l.loop-i.i l.loop-i.last l.loop-i.due a.end c.loop-i-test.true) in
-    let walked : (let a = c.args in rows_by_rule_at a.image.now a.begin a.rows a.end ≡ rows_walk a.image.now a.begin a.rows 0 (a.begin + 24 * a.rows) a.end) = (let p = c in let a = p.args in sym (rows_walked a.image.now a.begin a.rows a.end (all_of a.image.now (λ i. (c.shared_slice_known-1.given i).fits)) p.requires.0 p.requires.1 p.requires.2)) in
+    let turn : (let a = c.args in let f = fields_at a.image.now (a.begin + 24 * c.loop-i.i) in rows_walk a.image.now a.begin a.rows 0 (a.begin + 24 * a.rows) a.end ≡ both (row_by_rule_at a.image.now f c.loop-i.last c.loop-i.due a.end) (rows_walk a.image.now (a.begin + 24 * (c.loop-i.i + 1)) (a.rows - (c.loop-i.i + 1)) f.stamp (c.loop-i.due + size_of f) a.end)) = (let a = c.args in c.loop-i.invariant.2 ∙ rows_turn a.image.now a.begin a.rows c.loop-i.i c.loop-i.last c.loop-i.due a.end c.loop-i-test.true) in
+    let walked : (let a = c.args in rows_by_rule_at a.image.now a.begin a.rows a.end ≡ rows_walk a.image.now a.begin a.rows 0 (a.begin + 24 * a.rows) a.end) = (let a = c.args in sym (rows_walked a.image.now a.begin a.rows a.end (all_of a.image.now (λ i. (c.shared_slice_known-1.given i).fits)) c.requires.0 c.requires.1 c.requires.2)) in
     let e : row_by_rule_at _ _ _ _ _ ≡ false = sym c.row_valid.ensures ∙ c.if-not-row_valid.true in
     sym (walked ∙ turn ∙ rw (← c.row_at-row.ensures, e))
 
 pub loop-i-preserved : goal.loop-i-preserved
 unfolding both
 loop-i-preserved c =
-    let turn : (let l = c in let a = l.args in let f = fields_at a.image.now (a.begin + 24 * l.loop-i.i) in rows_walk a.image.now a.begin a.rows 0 (a.begin + 24 * a.rows) a.end ≡ both (row_by_rule_at a.image.now f l.loop-i.last l.loop-i.due a.end) (rows_walk a.image.now (a.begin + 24 * (l.loop-i.i + 1)) (a.rows - (l.loop-i.i + 1)) f.stamp (l.loop-i.due + size_of f) a.end)) = (let l = c in let a = l.args in l.loop-i.invariant.2 ∙ rows_turn a.image.now a.begin a.rows l.loop-i.i l.loop-i.last l.loop-i.due a.end c.loop-i-test.true) in
+    let turn : (let a = c.args in let f = fields_at a.image.now (a.begin + 24 * c.loop-i.i) in rows_walk a.image.now a.begin a.rows 0 (a.begin + 24 * a.rows) a.end ≡ both (row_by_rule_at a.image.now f c.loop-i.last c.loop-i.due a.end) (rows_walk a.image.now (a.begin + 24 * (c.loop-i.i + 1)) (a.rows - (c.loop-i.i + 1)) f.stamp (c.loop-i.due + size_of f) a.end)) = (let a = c.args in c.loop-i.invariant.2 ∙ rows_turn a.image.now a.begin a.rows c.loop-i.i c.loop-i.last c.loop-i.due a.end c.loop-i-test.true) in
     let h = sym c.row_valid.ensures ∙ c.if-not-row_valid.false in
     let room = row_room _ _ _ _ _ h in
     let size = c.body_length.ensures.0 in
@@ -42,7 +42,6 @@ loop-i-preserved c =
 
 pub returns : goal.returns
 returns c =
-    let walked : (let a = c.args in rows_by_rule_at a.image.now a.begin a.rows a.end ≡ rows_walk a.image.now a.begin a.rows 0 (a.begin + 24 * a.rows) a.end) = (let p = c in let a = p.args in sym (rows_walked a.image.now a.begin a.rows a.end (all_of a.image.now (λ i. (c.shared_slice_known-1.given i).fits)) p.requires.0 p.requires.1 p.requires.2)) in
-    let l = c in
-    let a = l.args in
-    sym (walked ∙ l.loop-i.invariant.2 ∙ rows_end a.image.now (a.begin + 24 * l.loop-i.i) (a.rows - l.loop-i.i) l.loop-i.last l.loop-i.due a.end (omega arith))
+    let walked : (let a = c.args in rows_by_rule_at a.image.now a.begin a.rows a.end ≡ rows_walk a.image.now a.begin a.rows 0 (a.begin + 24 * a.rows) a.end) = (let a = c.args in sym (rows_walked a.image.now a.begin a.rows a.end (all_of a.image.now (λ i. (c.shared_slice_known-1.given i).fits)) c.requires.0 c.requires.1 c.requires.2)) in
+    let a = c.args in
+    sym (walked ∙ c.loop-i.invariant.2 ∙ rows_end a.image.now (a.begin + 24 * c.loop-i.i) (a.rows - c.loop-i.i) c.loop-i.last c.loop-i.due a.end (omega arith))

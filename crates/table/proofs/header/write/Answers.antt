@@ -4,8 +4,7 @@ use Rattle.table.proofs.header.write.Goals as goal
 
 pub returns : goal.returns
 returns c =
-    let p = c in
     rw (
       c.write_four_byte_fields.ensures,
       c.put_four_u8.ensures,
-    ) (header_steps p.args.s.now p.args.h p.requires)
+    ) (header_steps c.args.s.now c.args.h c.requires)

@@ -16,7 +16,7 @@ returns-then-s-lt-LENGTH c = rw (parse_short (model_of c.args.model) c.args.s.no
 
 pub returns-then-whole_valid : goal.returns-then-whole_valid
 returns-then-whole_valid c =
-    let parsed : (let a = c.args in parse format_one (model_of a.model) a.s.now ≡ provided c.whole_valid.result (table_at format_one a.s.now)) = (let p = c in let a = p.args in let s = a.s.now in parse_tests (model_of a.model) s (all_of s (λ i. (c.shared_slice_known-1.given i).fits)) c.if-s-lt-LENGTH.false (omega arith) ∙ ap (λ (b : Bool). provided b (table_at format_one s)) (rw c.read-h.ensures at (sym c.whole_valid.ensures))) in
+    let parsed : (let a = c.args in parse format_one (model_of a.model) a.s.now ≡ provided c.whole_valid.result (table_at format_one a.s.now)) = (let a = c.args in let s = a.s.now in parse_tests (model_of a.model) s (all_of s (λ i. (c.shared_slice_known-1.given i).fits)) c.if-s-lt-LENGTH.false (omega arith) ∙ ap (λ (b : Bool). provided b (table_at format_one s)) (rw c.read-h.ensures at (sym c.whole_valid.ensures))) in
     let a = c.args in
     let s = a.s.now in
     let tests = sym c.whole_valid.ensures ∙ c.if-whole_valid.true in
@@ -25,5 +25,5 @@ returns-then-whole_valid c =
 
 pub returns : goal.returns
 returns c =
-    let parsed : (let a = c.args in parse format_one (model_of a.model) a.s.now ≡ provided c.whole_valid.result (table_at format_one a.s.now)) = (let p = c in let a = p.args in let s = a.s.now in parse_tests (model_of a.model) s (all_of s (λ i. (c.shared_slice_known-1.given i).fits)) c.if-s-lt-LENGTH.false (omega arith) ∙ ap (λ (b : Bool). provided b (table_at format_one s)) (rw c.read-h.ensures at (sym c.whole_valid.ensures))) in
+    let parsed : (let a = c.args in parse format_one (model_of a.model) a.s.now ≡ provided c.whole_valid.result (table_at format_one a.s.now)) = (let a = c.args in let s = a.s.now in parse_tests (model_of a.model) s (all_of s (λ i. (c.shared_slice_known-1.given i).fits)) c.if-s-lt-LENGTH.false (omega arith) ∙ ap (λ (b : Bool). provided b (table_at format_one s)) (rw c.read-h.ensures at (sym c.whole_valid.ensures))) in
     rw (parsed, c.if-whole_valid.false)

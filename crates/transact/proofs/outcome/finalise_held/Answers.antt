@@ -14,51 +14,46 @@ use Rattle.transact.proofs.outcome.finalise_held.Goals as goal
 pub row_at-held-requires : goal.row_at-held-requires
 row_at-held-requires c =
     let known : AllBytes c.args.table.now = all_of c.args.table.now (λ i. (c.slice_known-1.given i).fits) in
-    let p = c in holds_row_inside format_one p.args.table.now p.args.index one_starts (image_holds valley p.args.table.now p.requires.0) (index_here valley p.args.table.now p.args.stamp p.args.index known p.requires.0 p.requires.1)
+    holds_row_inside format_one c.args.table.now c.args.index one_starts (image_holds valley c.args.table.now c.requires.0) (index_here valley c.args.table.now c.args.stamp c.args.index known c.requires.0 c.requires.1)
 
 pub returns-then-held-eq0 : goal.returns-then-held-eq0
 returns-then-held-eq0 c =
     let known : AllBytes c.args.table.now = all_of c.args.table.now (λ i. (c.slice_known-1.given i).fits) in
     λ view found.
-    let p = c in
-    let s = p.args.table.now in
-    rw c.refusal.ensures (outcome_missing valley s p.args.stamp view known p.requires.0 p.args.verdict p.requires.2 p.args.index found (rw c.row_at-held.ensures at c.if-held-eq0.true))
+    let s = c.args.table.now in
+    rw c.refusal.ensures (outcome_missing valley s c.args.stamp view known c.requires.0 c.args.verdict c.requires.2 c.args.index found (rw c.row_at-held.ensures at c.if-held-eq0.true))
 
 pub opposite-requires : goal.opposite-requires
 opposite-requires c =
     let known : AllBytes c.args.table.now = all_of c.args.table.now (λ i. (c.slice_known-1.given i).fits) in
-    let p = c in
-    let k = codes_here valley p.args.table.now p.args.stamp p.args.index known p.requires.0 p.requires.1 in
-    rw c.row_at-held.ensures (k.1, p.requires.2)
+    let k = codes_here valley c.args.table.now c.args.stamp c.args.index known c.requires.0 c.requires.1 in
+    rw c.row_at-held.ensures (k.1, c.requires.2)
 
 pub returns-then-opposite : goal.returns-then-opposite
 returns-then-opposite c =
     let known : AllBytes c.args.table.now = all_of c.args.table.now (λ i. (c.slice_known-1.given i).fits) in
     λ view found.
-    let p = c in
-    let s = p.args.table.now in
-    rw c.refusal-then-opposite.ensures (outcome_against valley s p.args.stamp view known p.requires.0 p.args.verdict p.requires.2 p.args.index found (rw c.row_at-held.ensures at c.if-held-eq0.false) (rw (← c.row_at-held.ensures) (sym c.opposite.ensures ∙ c.if-opposite.true)))
+    let s = c.args.table.now in
+    rw c.refusal-then-opposite.ensures (outcome_against valley s c.args.stamp view known c.requires.0 c.args.verdict c.requires.2 c.args.index found (rw c.row_at-held.ensures at c.if-held-eq0.false) (rw (← c.row_at-held.ensures) (sym c.opposite.ensures ∙ c.if-opposite.true)))
 
 pub read-h-requires : goal.read-h-requires
-read-h-requires c = let p = c in holds_least format_one p.args.table.now one_starts (image_holds valley p.args.table.now p.requires.0)
+read-h-requires c = holds_least format_one c.args.table.now one_starts (image_holds valley c.args.table.now c.requires.0)
 
 pub overflow_add-verdict : goal.overflow_add-verdict
-overflow_add-verdict c = let p = c in let (low, high) = verdict_range p.args.verdict p.requires.2 in omega arith
+overflow_add-verdict c = let (low, high) = verdict_range c.args.verdict c.requires.2 in omega arith
 
 pub set_outcome-requires : goal.set_outcome-requires
 set_outcome-requires c =
     let known : AllBytes c.args.table.now = all_of c.args.table.now (λ i. (c.slice_known-1.given i).fits) in
-    let p = c in
-    let s = p.args.table.now in
-    (image_holds valley s p.requires.0, index_here valley s p.args.stamp p.args.index known p.requires.0 p.requires.1, (let (low, high) = verdict_range p.args.verdict p.requires.2 in omega arith))
+    let s = c.args.table.now in
+    (image_holds valley s c.requires.0, index_here valley s c.args.stamp c.args.index known c.requires.0 c.requires.1, (let (low, high) = verdict_range c.args.verdict c.requires.2 in omega arith))
 
 pub overflow_add-result : goal.overflow_add-result
-overflow_add-result c = let p = c in let (low, high) = verdict_range p.args.verdict p.requires.2 in omega arith
+overflow_add-result c = let (low, high) = verdict_range c.args.verdict c.requires.2 in omega arith
 
 pub returns : goal.returns
 returns c =
     let known : AllBytes c.args.table.now = all_of c.args.table.now (λ i. (c.slice_known-1.given i).fits) in
     λ view found.
-    let p = c in
-    let s = p.args.table.now in
-    rw (c.set_outcome.ensures, c.read-h.ensures) (outcome_taken valley s p.args.stamp view known p.requires.0 p.args.verdict p.requires.2 p.args.index found (rw c.row_at-held.ensures at c.if-held-eq0.false) (rw (← c.row_at-held.ensures) (sym c.opposite.ensures ∙ c.if-opposite.false)))
+    let s = c.args.table.now in
+    rw (c.set_outcome.ensures, c.read-h.ensures) (outcome_taken valley s c.args.stamp view known c.requires.0 c.args.verdict c.requires.2 c.args.index found (rw c.row_at-held.ensures at c.if-held-eq0.false) (rw (← c.row_at-held.ensures) (sym c.opposite.ensures ∙ c.if-opposite.false)))

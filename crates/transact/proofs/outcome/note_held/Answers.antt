@@ -12,39 +12,37 @@ use Rattle.transact.proofs.outcome.note_held.Goals as goal
 pub row_at-held-requires : goal.row_at-held-requires
 row_at-held-requires c =
     let known : AllBytes c.args.table.now = all_of c.args.table.now (λ i. (c.slice_known-1.given i).fits) in
-    let p = c in holds_row_inside format_one p.args.table.now p.args.index one_starts (image_holds valley p.args.table.now p.requires.0) (index_here valley p.args.table.now p.args.stamp p.args.index known p.requires.0 p.requires.1)
+    holds_row_inside format_one c.args.table.now c.args.index one_starts (image_holds valley c.args.table.now c.requires.0) (index_here valley c.args.table.now c.args.stamp c.args.index known c.requires.0 c.requires.1)
 
 pub opposite-requires : goal.opposite-requires
 opposite-requires c =
     let known : AllBytes c.args.table.now = all_of c.args.table.now (λ i. (c.slice_known-1.given i).fits) in
-    let p = c in rw c.row_at-held.ensures ((codes_here valley p.args.table.now p.args.stamp p.args.index known p.requires.0 p.requires.1).1, p.requires.2)
+    rw c.row_at-held.ensures ((codes_here valley c.args.table.now c.args.stamp c.args.index known c.requires.0 c.requires.1).1, c.requires.2)
 
 pub returns-then-opposite : goal.returns-then-opposite
 returns-then-opposite c =
     let known : AllBytes c.args.table.now = all_of c.args.table.now (λ i. (c.slice_known-1.given i).fits) in
     λ M x found.
-    let p = c in
-    rw c.refusal.ensures (note_opposed M p.args.table.now p.args.stamp p.args.verdict x p.requires.0 p.args.index known found (rw (← c.row_at-held.ensures) (sym c.opposite.ensures ∙ c.if-opposite.true)))
+    rw c.refusal.ensures (note_opposed M c.args.table.now c.args.stamp c.args.verdict x c.requires.0 c.args.index known found (rw (← c.row_at-held.ensures) (sym c.opposite.ensures ∙ c.if-opposite.true)))
 
 pub read-h-requires : goal.read-h-requires
-read-h-requires c = let p = c in holds_least format_one p.args.table.now one_starts (image_holds valley p.args.table.now p.requires.0)
+read-h-requires c = holds_least format_one c.args.table.now one_starts (image_holds valley c.args.table.now c.requires.0)
 
 pub noted_as-outcome-requires : goal.noted_as-outcome-requires
 noted_as-outcome-requires c =
     let known : AllBytes c.args.table.now = all_of c.args.table.now (λ i. (c.slice_known-1.given i).fits) in
-    let p = c in rw c.row_at-held.ensures ((codes_here valley p.args.table.now p.args.stamp p.args.index known p.requires.0 p.requires.1).1, p.requires.2)
+    rw c.row_at-held.ensures ((codes_here valley c.args.table.now c.args.stamp c.args.index known c.requires.0 c.requires.1).1, c.requires.2)
 
 pub set_outcome-requires : goal.set_outcome-requires
 set_outcome-requires c =
     let known : AllBytes c.args.table.now = all_of c.args.table.now (λ i. (c.slice_known-1.given i).fits) in
-    let p = c in (image_holds valley p.args.table.now p.requires.0, (index_here valley p.args.table.now p.args.stamp p.args.index known p.requires.0 p.requires.1), c.noted_as-outcome.ensures.1)
+    (image_holds valley c.args.table.now c.requires.0, (index_here valley c.args.table.now c.args.stamp c.args.index known c.requires.0 c.requires.1), c.noted_as-outcome.ensures.1)
 
 pub returns : goal.returns
 returns c =
     let known : AllBytes c.args.table.now = all_of c.args.table.now (λ i. (c.slice_known-1.given i).fits) in
     λ M x found.
-    let p = c in
-    let s = p.args.table.now in
+    let s = c.args.table.now in
     let e = rw c.row_at-held.ensures at c.noted_as-outcome.ensures.0 in
     rw (c.set_outcome.ensures, c.read-h.ensures)
-    (note_taken M s p.args.stamp p.args.verdict x p.requires.0 p.args.index known found c.noted_as-outcome.result e c.noted_as-outcome.ensures.1 (rw (← c.row_at-held.ensures) (sym c.opposite.ensures ∙ c.if-opposite.false)))
+    (note_taken M s c.args.stamp c.args.verdict x c.requires.0 c.args.index known found c.noted_as-outcome.result e c.noted_as-outcome.ensures.1 (rw (← c.row_at-held.ensures) (sym c.opposite.ensures ∙ c.if-opposite.false)))

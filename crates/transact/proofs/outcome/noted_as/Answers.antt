@@ -4,7 +4,7 @@ use Rattle.transact.proofs.CodesMeant.{verdict_range, noted_first, noted_stays}
 use Rattle.transact.proofs.outcome.noted_as.Goals as goal
 
 pub returns-then-outcome-eq0 : goal.returns-then-outcome-eq0
-returns-then-outcome-eq0 c = let p = c in let (low, high) = verdict_range p.args.verdict p.requires.1 in (noted_first p.args.outcome p.args.verdict p.requires.1 c.if-outcome-eq0.true, omega arith)
+returns-then-outcome-eq0 c = let (low, high) = verdict_range c.args.verdict c.requires.1 in (noted_first c.args.outcome c.args.verdict c.requires.1 c.if-outcome-eq0.true, omega arith)
 
 pub returns : goal.returns
-returns c = let p = c in (noted_stays p.args.outcome p.args.verdict c.if-outcome-eq0.false, p.requires.0)
+returns c = (noted_stays c.args.outcome c.args.verdict c.if-outcome-eq0.false, c.requires.0)

@@ -17,54 +17,49 @@ use Rattle.transact.proofs.outcome.propose_outcome.Reads as reads
 use Rattle.transact.proofs.outcome.propose_outcome.Goals as goal
 
 pub row_to_propose-found-requires : goal.row_to_propose-found-requires
-row_to_propose-found-requires c = let p = c in (p.requires.begins_with_image.0, p.requires.verdict_value.3)
+row_to_propose-found-requires c = (c.requires.begins_with_image.0, c.requires.verdict_value.3)
 
 pub note_held-requires : goal.note_held-requires
-note_held-requires c = let p = c in
-    let s = p.args.table.now in
-    let x = body_at p.args.message.now 12 p.args.reads p.args.writes in
-    let M = limited p.args.limit in
+note_held-requires c = let s = c.args.table.now in
+    let x = body_at c.args.message.now 12 c.args.reads c.args.writes in
+    let M = limited c.args.limit in
     let T = table_at format_one s in
-    (p.requires.begins_with_image.0, (held_clear M T p.args.stamp x _ (sym c.row_to_propose-found.ensures.0 ∙ c.in-Held.is)).1, p.requires.verdict_value.0)
+    (c.requires.begins_with_image.0, (held_clear M T c.args.stamp x _ (sym c.row_to_propose-found.ensures.0 ∙ c.in-Held.is)).1, c.requires.verdict_value.0)
 
 pub add_new-requires : goal.add_new-requires
-add_new-requires c = let p = c in
-    let s = p.args.table.now in
-    let x = body_at p.args.message.now 12 p.args.reads p.args.writes in
-    let M = limited p.args.limit in
+add_new-requires c = let s = c.args.table.now in
+    let x = body_at c.args.message.now 12 c.args.reads c.args.writes in
+    let M = limited c.args.limit in
     let T = table_at format_one s in
     let found = (sym c.row_to_propose-found.ensures.0 ∙ c.in-New.is) in
-    let clear = new_clear M T p.args.stamp x _ found in
-    let unheld = absent_none T.rows p.args.stamp _ clear.1 in
-    let room = room_for_row s p.args.limit (record { stamp = p.args.stamp; retry = 0; offset = 12; reads = p.args.reads; writes = p.args.writes; prepare = 0; outcome = p.args.verdict }) p.requires.begins_with_image.0 p.requires.begins_with_image.1 p.requires.begins_with_image.2 p.requires.verdict_value.1 p.requires.verdict_value.2 (let (low, high) = verdict_range p.args.verdict p.requires.verdict_value.0 in omega arith) (room_found M T p.args.stamp unheld clear.0.2) in
-    record { holds = (image_holds valley s p.requires.begins_with_image.0, (image_regular valley s p.requires.begins_with_image.0).0.rise, clear.1); storable = ((p.requires.verdict_value.2, omega arith, (let (low, high) = verdict_range p.args.verdict p.requires.verdict_value.0 in omega arith), no_retry), p.requires.verdict_value.3); table_bound = room }
+    let clear = new_clear M T c.args.stamp x _ found in
+    let unheld = absent_none T.rows c.args.stamp _ clear.1 in
+    let room = room_for_row s c.args.limit (record { stamp = c.args.stamp; retry = 0; offset = 12; reads = c.args.reads; writes = c.args.writes; prepare = 0; outcome = c.args.verdict }) c.requires.begins_with_image.0 c.requires.begins_with_image.1 c.requires.begins_with_image.2 c.requires.verdict_value.1 c.requires.verdict_value.2 (let (low, high) = verdict_range c.args.verdict c.requires.verdict_value.0 in omega arith) (room_found M T c.args.stamp unheld clear.0.2) in
+    record { holds = (image_holds valley s c.requires.begins_with_image.0, (image_regular valley s c.requires.begins_with_image.0).0.rise, clear.1); storable = ((c.requires.verdict_value.2, omega arith, (let (low, high) = verdict_range c.args.verdict c.requires.verdict_value.0 in omega arith), no_retry), c.requires.verdict_value.3); table_bound = room }
 
 pub returns-in-Against : goal.returns-in-Against
 unfolding served_compared
-returns-in-Against c = let p = c in
-    let s = p.args.table.now in
-    let x = body_at p.args.message.now 12 p.args.reads p.args.writes in
-    let M = limited p.args.limit in
+returns-in-Against c = let s = c.args.table.now in
+    let x = body_at c.args.message.now 12 c.args.reads c.args.writes in
+    let M = limited c.args.limit in
     let T = table_at format_one s in
-    let (reply, after) = outcome_proposal_refused M s p.args.stamp p.args.verdict x p.requires.begins_with_image.0 _ (sym c.row_to_propose-found.ensures.0 ∙ c.in-Against.is) in
+    let (reply, after) = outcome_proposal_refused M s c.args.stamp c.args.verdict x c.requires.begins_with_image.0 _ (sym c.row_to_propose-found.ensures.0 ∙ c.in-Against.is) in
     record { reply_value = (c.with_compared.ensures.0 ∙ c.refusal.ensures ∙ reply, c.with_compared.ensures.1 ∙ c.row_to_propose-found.ensures.1); table_after = after }
 
 pub returns-in-Held : goal.returns-in-Held
 unfolding served_compared
-returns-in-Held c = let p = c in
-    let s = p.args.table.now in
-    let x = body_at p.args.message.now 12 p.args.reads p.args.writes in
-    let M = limited p.args.limit in
+returns-in-Held c = let s = c.args.table.now in
+    let x = body_at c.args.message.now 12 c.args.reads c.args.writes in
+    let M = limited c.args.limit in
     let T = table_at format_one s in
     let (reply, after) = c.note_held.ensures M x (sym c.row_to_propose-found.ensures.0 ∙ c.in-Held.is) in
     record { reply_value = (c.with_compared-in-Held.ensures.0 ∙ reply, c.with_compared-in-Held.ensures.1 ∙ c.row_to_propose-found.ensures.1); table_after = after }
 
 pub returns-in-New : goal.returns-in-New
 unfolding served_compared
-returns-in-New c = let p = c in
-    let s = p.args.table.now in
-    let x = body_at p.args.message.now 12 p.args.reads p.args.writes in
-    let M = limited p.args.limit in
+returns-in-New c = let s = c.args.table.now in
+    let x = body_at c.args.message.now 12 c.args.reads c.args.writes in
+    let M = limited c.args.limit in
     let T = table_at format_one s in
-    let (reply, after) = note_new_taken M s p.args.stamp p.args.verdict x p.requires.begins_with_image.0 _ p.args.message.now (record { stamp = p.args.stamp; retry = 0; offset = 12; reads = p.args.reads; writes = p.args.writes; prepare = 0; outcome = p.args.verdict }) p.requires.verdict_value.0 (sym c.row_to_propose-found.ensures.0 ∙ c.in-New.is) refl refl refl refl in
+    let (reply, after) = note_new_taken M s c.args.stamp c.args.verdict x c.requires.begins_with_image.0 _ c.args.message.now (record { stamp = c.args.stamp; retry = 0; offset = 12; reads = c.args.reads; writes = c.args.writes; prepare = 0; outcome = c.args.verdict }) c.requires.verdict_value.0 (sym c.row_to_propose-found.ensures.0 ∙ c.in-New.is) refl refl refl refl in
     record { reply_value = (c.with_compared-in-New.ensures.0 ∙ c.add_new.ensures.value ∙ reply, c.with_compared-in-New.ensures.1 ∙ c.row_to_propose-found.ensures.1); table_after = c.add_new.ensures.table_after ∙ after }

@@ -9,23 +9,21 @@ use Rattle.transact.proofs.prepare.add_checked.Reads as reads
 use Rattle.transact.proofs.prepare.add_checked.Goals as goal
 
 pub check_new-checked-requires : goal.check_new-checked-requires
-check_new-checked-requires c = let p = c in (p.requires.begins_with_image.0, p.requires.begins_with_image.2)
+check_new-checked-requires c = (c.requires.begins_with_image.0, c.requires.begins_with_image.2)
 
 pub add_new-requires : goal.add_new-requires
-add_new-requires c = let p = c in
-    let s = p.args.table.now in
-    let q = p.requires.begins_with_image in
-    let r = p.args.row in
-    let x = body_at p.args.message.now r.offset r.reads r.writes in
+add_new-requires c = let s = c.args.table.now in
+    let q = c.requires.begins_with_image in
+    let r = c.args.row in
+    let x = body_at c.args.message.now r.offset r.reads r.writes in
     let k = checked_storable valley s r.stamp x q.0 in
-    rw (c.with_prepare.ensures, c.check_new-checked.ensures) record { holds = (image_holds valley s q.0, (image_regular valley s q.0).0.rise, q.1); storable = ((q.3, k.0, rw q.4 (omega arith), k.1), q.2); table_bound = p.requires.table_bound }
+    rw (c.with_prepare.ensures, c.check_new-checked.ensures) record { holds = (image_holds valley s q.0, (image_regular valley s q.0).0.rise, q.1); storable = ((q.3, k.0, rw q.4 (omega arith), k.1), q.2); table_bound = c.requires.table_bound }
 
 pub returns : goal.returns
 returns c = λ M found.
-    let p = c in
-    let s = p.args.table.now in
-    let q = p.requires.begins_with_image in
-    let r = p.args.row in
-    let x = body_at p.args.message.now r.offset r.reads r.writes in
+    let s = c.args.table.now in
+    let q = c.requires.begins_with_image in
+    let r = c.args.row in
+    let x = body_at c.args.message.now r.offset r.reads r.writes in
     rw (c.add_new.ensures.value, c.add_new.ensures.table_after, c.with_prepare.ensures, c.check_new-checked.ensures)
-    (checked_taken M s r.stamp x q.0 p.args.index p.args.message.now _ found refl refl refl refl q.4)
+    (checked_taken M s r.stamp x q.0 c.args.index c.args.message.now _ found refl refl refl refl q.4)

@@ -11,14 +11,12 @@ use Rattle.seek.proofs.SoughtRows.{rows_inside, rows_rise}
 use Rattle.transact.proofs.prepare.check_new.Goals as goal
 
 pub read-h-requires : goal.read-h-requires
-read-h-requires c = let p = c in holds_least format_one p.args.table.now one_starts (image_holds valley p.args.table.now p.requires.0)
+read-h-requires c = holds_least format_one c.args.table.now one_starts (image_holds valley c.args.table.now c.requires.0)
 
 pub check-requires : goal.check-requires
-check-requires c = let p = c in
-    let l = length_body_part p.args.message.now p.args.row p.requires.1 in
-    rw (c.read-h.ensures, c.body_of.ensures) (rows_inside valley p.args.table.now valley_sound p.requires.0, omega (arith, l), rows_rise valley p.args.table.now valley_sound p.requires.0)
+check-requires c = let l = length_body_part c.args.message.now c.args.row c.requires.1 in
+    rw (c.read-h.ensures, c.body_of.ensures) (rows_inside valley c.args.table.now valley_sound c.requires.0, omega (arith, l), rows_rise valley c.args.table.now valley_sound c.requires.0)
 
 pub returns : goal.returns
 unfolding proposal_check
-returns c = let p = c in
-    rw (c.check.ensures, c.read-h.ensures, c.body_of.ensures, body_of_part p.args.message.now p.args.row p.requires.1, holds_rows_at format_one p.args.table.now)
+returns c = rw (c.check.ensures, c.read-h.ensures, c.body_of.ensures, body_of_part c.args.message.now c.args.row c.requires.1, holds_rows_at format_one c.args.table.now)

@@ -14,51 +14,46 @@ use Rattle.transact.proofs.prepare.finalise_held.Goals as goal
 pub row_at-held-requires : goal.row_at-held-requires
 row_at-held-requires c =
     let known : AllBytes c.args.table.now = all_of c.args.table.now (λ i. (c.slice_known-1.given i).fits) in
-    let p = c in holds_row_inside format_one p.args.table.now p.args.index one_starts (image_holds valley p.args.table.now p.requires.0) (index_here valley p.args.table.now p.args.stamp p.args.index known p.requires.0 p.requires.1)
+    holds_row_inside format_one c.args.table.now c.args.index one_starts (image_holds valley c.args.table.now c.requires.0) (index_here valley c.args.table.now c.args.stamp c.args.index known c.requires.0 c.requires.1)
 
 pub returns-then-held-eq0 : goal.returns-then-held-eq0
 returns-then-held-eq0 c =
     let known : AllBytes c.args.table.now = all_of c.args.table.now (λ i. (c.slice_known-1.given i).fits) in
     λ view found.
-    let p = c in
-    let s = p.args.table.now in
-    rw c.refusal.ensures (prepare_missing valley s p.args.stamp view known p.requires.0 p.args.res p.args.retry p.requires.2 p.args.index found (rw c.row_at-held.ensures at c.if-held-eq0.true))
+    let s = c.args.table.now in
+    rw c.refusal.ensures (prepare_missing valley s c.args.stamp view known c.requires.0 c.args.res c.args.retry c.requires.2 c.args.index found (rw c.row_at-held.ensures at c.if-held-eq0.true))
 
 pub unequal_final-requires : goal.unequal_final-requires
 unequal_final-requires c =
     let known : AllBytes c.args.table.now = all_of c.args.table.now (λ i. (c.slice_known-1.given i).fits) in
-    let p = c in
-    let k = codes_here valley p.args.table.now p.args.stamp p.args.index known p.requires.0 p.requires.1 in
-    rw c.row_at-held.ensures (k.0, k.2, p.requires.2)
+    let k = codes_here valley c.args.table.now c.args.stamp c.args.index known c.requires.0 c.requires.1 in
+    rw c.row_at-held.ensures (k.0, k.2, c.requires.2)
 
 pub returns-then-unequal_final : goal.returns-then-unequal_final
 returns-then-unequal_final c =
     let known : AllBytes c.args.table.now = all_of c.args.table.now (λ i. (c.slice_known-1.given i).fits) in
     λ view found.
-    let p = c in
-    let s = p.args.table.now in
-    rw c.refusal-then-unequal_final.ensures (prepare_against valley s p.args.stamp view known p.requires.0 p.args.res p.args.retry p.requires.2 p.args.index found (rw c.row_at-held.ensures at c.if-held-eq0.false) (rw (← c.row_at-held.ensures) (sym c.unequal_final.ensures ∙ c.if-unequal_final.true)))
+    let s = c.args.table.now in
+    rw c.refusal-then-unequal_final.ensures (prepare_against valley s c.args.stamp view known c.requires.0 c.args.res c.args.retry c.requires.2 c.args.index found (rw c.row_at-held.ensures at c.if-held-eq0.false) (rw (← c.row_at-held.ensures) (sym c.unequal_final.ensures ∙ c.if-unequal_final.true)))
 
 pub read-h-requires : goal.read-h-requires
-read-h-requires c = let p = c in holds_least format_one p.args.table.now one_starts (image_holds valley p.args.table.now p.requires.0)
+read-h-requires c = holds_least format_one c.args.table.now one_starts (image_holds valley c.args.table.now c.requires.0)
 
 pub overflow_add-res : goal.overflow_add-res
-overflow_add-res c = let p = c in let (low, high, by) = result_range p.args.res p.args.retry p.requires.2 in omega arith
+overflow_add-res c = let (low, high, by) = result_range c.args.res c.args.retry c.requires.2 in omega arith
 
 pub set_prepare-requires : goal.set_prepare-requires
 set_prepare-requires c =
     let known : AllBytes c.args.table.now = all_of c.args.table.now (λ i. (c.slice_known-1.given i).fits) in
-    let p = c in
-    let s = p.args.table.now in
-    (image_holds valley s p.requires.0, index_here valley s p.args.stamp p.args.index known p.requires.0 p.requires.1, (let (low, high, by) = result_range p.args.res p.args.retry p.requires.2 in omega arith), retry_final p.args.res p.args.retry p.requires.2)
+    let s = c.args.table.now in
+    (image_holds valley s c.requires.0, index_here valley s c.args.stamp c.args.index known c.requires.0 c.requires.1, (let (low, high, by) = result_range c.args.res c.args.retry c.requires.2 in omega arith), retry_final c.args.res c.args.retry c.requires.2)
 
 pub overflow_add-result : goal.overflow_add-result
-overflow_add-result c = let p = c in let (low, high, by) = result_range p.args.res p.args.retry p.requires.2 in omega arith
+overflow_add-result c = let (low, high, by) = result_range c.args.res c.args.retry c.requires.2 in omega arith
 
 pub returns : goal.returns
 returns c =
     let known : AllBytes c.args.table.now = all_of c.args.table.now (λ i. (c.slice_known-1.given i).fits) in
     λ view found.
-    let p = c in
-    let s = p.args.table.now in
-    rw (c.set_prepare.ensures, c.read-h.ensures) (prepare_taken valley s p.args.stamp view known p.requires.0 p.args.res p.args.retry p.requires.2 p.args.index found (rw c.row_at-held.ensures at c.if-held-eq0.false) (rw (← c.row_at-held.ensures) (sym c.unequal_final.ensures ∙ c.if-unequal_final.false)))
+    let s = c.args.table.now in
+    rw (c.set_prepare.ensures, c.read-h.ensures) (prepare_taken valley s c.args.stamp view known c.requires.0 c.args.res c.args.retry c.requires.2 c.args.index found (rw c.row_at-held.ensures at c.if-held-eq0.false) (rw (← c.row_at-held.ensures) (sym c.unequal_final.ensures ∙ c.if-unequal_final.false)))

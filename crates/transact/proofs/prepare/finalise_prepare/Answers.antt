@@ -10,18 +10,16 @@ use Rattle.transact.proofs.Finalised.{known_place, prepare_finding}
 use Rattle.transact.proofs.prepare.finalise_prepare.Goals as goal
 
 pub finalise_held-requires : goal.finalise_held-requires
-finalise_held-requires c = let p = c in (p.requires.0, (known_place (table_at format_one p.args.table.now) p.args.stamp p.args.view _ (sym c.row_to_finalise-found.ensures.0 ∙ c.in-Known.is)).2, p.requires.1)
+finalise_held-requires c = (c.requires.0, (known_place (table_at format_one c.args.table.now) c.args.stamp c.args.view _ (sym c.row_to_finalise-found.ensures.0 ∙ c.in-Known.is)).2, c.requires.1)
 
 pub returns-in-Refused : goal.returns-in-Refused
 unfolding served_compared
-returns-in-Refused c = let p = c in
-    let s = p.args.table.now in
+returns-in-Refused c = let s = c.args.table.now in
     let bytes : AllBytes s = all_of s (λ i. (c.slice_known-1.given i).fits) in
-    let (reply, after) = prepare_finding valley s p.args.stamp p.args.view bytes p.requires.0 p.args.res p.args.retry p.requires.1 _ (sym c.row_to_finalise-found.ensures.0 ∙ c.in-Refused.is) in
+    let (reply, after) = prepare_finding valley s c.args.stamp c.args.view bytes c.requires.0 c.args.res c.args.retry c.requires.1 _ (sym c.row_to_finalise-found.ensures.0 ∙ c.in-Refused.is) in
     record { reply_value = (c.with_compared.ensures.0 ∙ c.refusal.ensures ∙ reply, c.with_compared.ensures.1 ∙ c.row_to_finalise-found.ensures.1); table_after = after }
 
 pub returns-in-Known : goal.returns-in-Known
 unfolding served_compared
-returns-in-Known c = let p = c in
-    let (reply, after) = c.finalise_held.ensures p.args.view (sym c.row_to_finalise-found.ensures.0 ∙ c.in-Known.is) in
+returns-in-Known c = let (reply, after) = c.finalise_held.ensures c.args.view (sym c.row_to_finalise-found.ensures.0 ∙ c.in-Known.is) in
     record { reply_value = (c.with_compared-in-Known.ensures.0 ∙ reply, c.with_compared-in-Known.ensures.1 ∙ c.row_to_finalise-found.ensures.1); table_after = after }

@@ -6,12 +6,12 @@ use Rattle.transact.proofs.prepare.unequal_final.Goals as goal
 
 pub returns-then-prepare-le4 : goal.returns-then-prepare-le4
 unfolding both
-returns-then-prepare-le4 c = let p = c in let q = p.requires in rw (unequal_told p.args.prepare p.args.held p.args.res p.args.retry q.0 q.1 q.2, le-ltb 4 _ c.if-prepare-le4.true)
+returns-then-prepare-le4 c = let q = c.requires in rw (unequal_told c.args.prepare c.args.held c.args.res c.args.retry q.0 q.1 q.2, le-ltb 4 _ c.if-prepare-le4.true)
 
 pub returns-then-res-prepare : goal.returns-then-res-prepare
 unfolding both
-returns-then-res-prepare c = let p = c in let q = p.requires in rw (unequal_told p.args.prepare p.args.held p.args.res p.args.retry q.0 q.1 q.2, lt-ltb 4 _ c.if-prepare-le4.false, ne_eqb _ _ c.if-res-prepare.true)
+returns-then-res-prepare c = let q = c.requires in rw (unequal_told c.args.prepare c.args.held c.args.res c.args.retry q.0 q.1 q.2, lt-ltb 4 _ c.if-prepare-le4.false, ne_eqb _ _ c.if-res-prepare.true)
 
 pub returns : goal.returns
 unfolding both
-returns c = let p = c in let q = p.requires in rw (unequal_told p.args.prepare p.args.held p.args.res p.args.retry q.0 q.1 q.2, lt-ltb 4 _ c.if-prepare-le4.false, eq-eqb _ _ c.if-res-prepare.false)
+returns c = let q = c.requires in rw (unequal_told c.args.prepare c.args.held c.args.res c.args.retry q.0 q.1 q.2, lt-ltb 4 _ c.if-prepare-le4.false, eq-eqb _ _ c.if-res-prepare.false)
