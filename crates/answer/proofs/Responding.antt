@@ -4,6 +4,11 @@ use mathlib.Core.Bool.{true, false, cond}
 use mathlib.Core.List.{List}
 use mathlib.Core.Logic.{◌⊎◌, inl, inr}
 use mathlib.Core.Option.{Option, none, some}
+use Rattle.std.specs.Prelude as code
+use Rattle.std.specs.Prelude.{Result, Ok, Err, MatchResult, is_ok}
+use Rattle.numbers.specs.declared.Refusal.{Refusal}
+use Rattle.numbers.specs.declared.Refusal.TheVariants.{BadMessage}
+use Rattle.numbers.specs.Inner.Ended.{ended_with}
 use Prim.Native.Nat.{ℕ, ◌≤◌, ◌<◌}
 use native.Mathlib.Omega.{arith}
 use lib.Dec.{eqb}
@@ -15,14 +20,12 @@ use Rattle.rules.specs.Tables.{Model, Table, valley, table_by_rule}
 use Rattle.rules.specs.Messages.{Message, table_after}
 use Rattle.rules.specs.Circumstances.{too_small, reply_too_small, message_by_rule}
 use Rattle.rules.specs.Answers.{Answer, refusal, refused, taken, reply_from, proposal_check}
-use Rattle.rules.proofs.Logic.{cases}
+use Rattle.rules.proofs.Logic.{cases, impossible}
 use Rattle.rules.proofs.Tables.{table_by}
-use Rattle.table.specs.declared.image.Found.TheVariants.{Image, Nothing}
 use Rattle.table.specs.Headers.{header_at}
 use Rattle.table.specs.Images.{format_one}
 use Rattle.table.specs.Parse.{parse, table_at, image_found, BeginsWithImage}
 use Rattle.table.proofs.Images.{parse_reads}
-use Rattle.edit.specs.Inner.Holding.{Holds}
 use Rattle.edit.specs.Edited.{edited}
 use Rattle.edit.proofs.EditedBuffers.{edited_same, edited_as}
 use Rattle.message.specs.Messages.{message_at, keeping_rules, message_to}
@@ -30,8 +33,10 @@ use Rattle.seek.specs.Inner.Limits.{limited}
 use Rattle.seek.proofs.HeldRows.{image_holds, image_regular}
 use Rattle.transact.specs.declared.reply.Reply.{Reply}
 use Rattle.transact.specs.Replies.{reply_as, reply_bytes}
-use Rattle.transact.specs.Inner.Served.{served_number, served}
-use Rattle.answer.specs.Inner.BoxAnswers.{answer_to, answer_reply, answer_buffer, answer_compared, heard, heard_reply, heard_buffer, heard_compared}
+use Rattle.transact.specs.Inner.DoneReplies.{Tells}
+use Rattle.transact.specs.Inner.Served.{served_number, served, served_reply, served_buffer, served_compared}
+use Rattle.transact.proofs.Serving.{tells_refusal}
+use Rattle.answer.specs.Inner.BoxAnswers.{answer_to, answer_compared, heard, heard_reply, heard_buffer, heard_compared}
 use Rattle.answer.specs.Calls.{call_number, call_table, call_reply, change_by, search_steps, steps_of, compares_none, call_compared}
 use Rattle.answer.proofs.AnswerCall.{number_for, call_number_lem, to_refusal}
 use Rattle.answer.proofs.AnswerCompared.{served_compared_lem}
@@ -39,15 +44,15 @@ use Rattle.answer.proofs.AnswerWays.{own_rule, served_other, AnswerWay.small, wa
 
 -- ---- the table that was looked for
 
-pub found_nothing : (o : Option Table) → Nothing ≡ image_found format_one o → o ≡ none
+pub found_nothing : (o : Option Table) → code.None ≡ image_found format_one o → o ≡ none
 found_nothing none e = refl
 found_nothing (some T) e = let z : ◌≡◌ {A = ℕ} 0 1 = cc in absurd (omega arith)
 
-module _ (M : Model) (s : List ℕ) (l : ℕ) (found : Image l ≡ image_found format_one (parse format_one M s)) where
+module _ (M : Model) (s : List ℕ) (l : ℕ) (found : code.Some l ≡ image_found format_one (parse format_one M s)) where
   pub found_begins : BeginsWithImage M s
   found_begins = go (parse format_one M s) refl found
     where
-      go : (o : Option Table) → parse format_one M s ≡ o → Image l ≡ image_found format_one o → parse format_one M s ≡ some (table_at format_one s)
+      go : (o : Option Table) → parse format_one M s ≡ o → code.Some l ≡ image_found format_one o → parse format_one M s ≡ some (table_at format_one s)
       go none e f = let z : ◌≡◌ {A = ℕ} 0 1 = cc in absurd (omega arith)
       go (some T) e f = e ∙ ap some (sym (parse_reads format_one M s T e).0)
 
@@ -58,28 +63,35 @@ widened limit s kind keeping_rules =
     let b : table_by_rule valley (table_at format_one s) ≡ true = table_by valley regular (omega arith) in
     rw (b, image_holds (limited limit) s keeping_rules)
 
--- no message: 3, and nothing is changed
-pub none_answered : (M : Model) (s : List ℕ) → Holds format_one s → (reply_as (refusal 3) ≡ answer_reply M none s) × (s ≡ answer_buffer M none s)
-unfolding refused
-none_answered M s holds = (refl, sym (edited_same format_one (λ T. T) s holds refl))
-
 -- ---- what was heard is what was read of the message
 
-module _ (M : Model) (s message : List ℕ) (asked : Option Message) (keeping_rules : BeginsWithImage M s) (told : asked ≡ message_to format_one M (header_at s).n message) where
-  same_heard : answer_to M asked (table_at format_one s) ≡ heard M message (table_at format_one s)
-  unfolding table_at
-  same_heard = ap (λ o. answer_to M o (table_at format_one s)) told
+module _ (M : Model) (s message : List ℕ) (keeping_rules : BeginsWithImage M s) where
+  -- what is promised of a call that hears it
+  abbrev pub Heard : Result Reply Refusal → List ℕ → ℕ → Type 0
+  Heard told after n = Tells told (heard_reply M message (parse format_one M s)) × (after ≡ heard_buffer M message s (parse format_one M s)) × (n ≡ heard_compared M message (parse format_one M s))
 
-  pub heard_so : (answer_reply M asked s ≡ heard_reply M message (parse format_one M s)) × (answer_buffer M asked s ≡ heard_buffer M message s (parse format_one M s))
-  heard_so =
+  -- no message: 3, and nothing is changed
+  pub heard_none : none ≡ message_to format_one M (header_at s).n message → Heard (Err BadMessage) s 0
+  unfolding table_at refused
+  heard_none told =
+      let is : heard M message (table_at format_one s) ≡ refused 3 (table_at format_one s) = ap (λ o. answer_to M o (table_at format_one s)) (sym told) in
       rw keeping_rules (
-        ap (λ (a : Answer). reply_as a.reply) same_heard,
-        edited_as format_one (λ U. (answer_to M asked U).table) (λ U. (heard M message U).table) s (ap (λ (a : Answer). a.table) same_heard),
+        tells_refusal BadMessage _ (ap (λ (a : Answer). reply_as a.reply) (sym is)),
+        sym (edited_same format_one (λ U. (heard M message U).table) s (image_holds M s keeping_rules) (ap (λ (a : Answer). a.table) is)),
+        ap (λ o. answer_compared o (table_at format_one s)) told,
       )
 
-  pub heard_compared_lem : answer_compared asked (table_at format_one s) ≡ heard_compared M message (parse format_one M s)
+  pub heard_message : (m : Message) → some m ≡ message_to format_one M (header_at s).n message → (told : Result Reply Refusal) (after : List ℕ) (n : ℕ) →
+      Tells told (served_reply M m s) → after ≡ served_buffer M m s → n ≡ served_compared (table_at format_one s) m → Heard told after n
   unfolding table_at
-  heard_compared_lem = rw keeping_rules (ap (λ o. answer_compared o (table_at format_one s)) told)
+  heard_message m asked told after n tells buffer compared =
+      let is : served M (table_at format_one s) m ≡ heard M message (table_at format_one s) = ap (λ o. answer_to M o (table_at format_one s)) asked in
+      let reply : served_reply M m s ≡ reply_as (heard M message (table_at format_one s)).reply = ap (λ (a : Answer). reply_as a.reply) is in
+      rw keeping_rules (
+        (tells.0 ∙ reply, tells.1 ∙ ap (λ (r : Reply). r.number) reply),
+        buffer ∙ edited_as format_one (λ U. (served M U m).table) (λ U. (heard M message U).table) s (ap (λ (a : Answer). a.table) is),
+        compared ∙ ap (λ o. answer_compared o (table_at format_one s)) asked,
+      )
 
 -- ---- the call's three promises, of a call with buffers that are large enough
 
@@ -181,6 +193,12 @@ module _ (M : Model) (table message reply : List ℕ) where
         go none e p f = rw (number_is, e)
         go (some T) e none f = rw (number_is, e, f)
         go (some T) e (some m) f = rw (by_own_rule T e m f, e, f) (by_rule_lem T m (cases (message_by_rule M T.n m)))
+
+-- what is told of a call beside its reply ends as what was heard
+pub ended_same : (said : Result Reply Refusal) (ended : Result (Unit {0}) Refusal) (P : Reply → Type 0) → MatchResult said P (λ r. ended ≡ Err r) → is_ok ended ≡ is_ok said → ended_with ended ≡ ended_with said
+ended_same (Ok reply) (Ok done) P told same = refl
+ended_same (Ok reply) (Err r) P told same = impossible same refl
+ended_same (Err r) ended P told same = ap ended_with told
 
 -- ---- buffers too small
 

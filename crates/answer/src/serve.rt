@@ -3,23 +3,29 @@ ghost use Rattle.std.specs.Prelude.{◌≡◌, ◌+◌, ◌*◌, ◌≤◌, leng
 ghost use Rattle.rules.specs.Tables.{valley};
 ghost use Rattle.table.specs.Headers.{header_at};
 ghost use Rattle.table.specs.Images.{format_one};
-ghost use Rattle.message.specs.Inner.MeantMessages.{meant, Coded};
+ghost use Rattle.message.specs.Inner.MeantMessages.{meant, message_meant, Coded};
 ghost use Rattle.message.specs.Messages.{message_to};
 ghost use Rattle.seek.specs.Inner.Limits.{limited};
 ghost use Rattle.table.specs.Parse.{table_at, BeginsWithImage};
-ghost use Rattle.answer.specs.Inner.BoxAnswers.{answer_reply, answer_buffer, answer_compared};
+ghost use Rattle.transact.specs.Inner.DoneReplies.{Tells};
+ghost use Rattle.transact.specs.Inner.Served.{served_reply, served_buffer, served_compared};
 
 use crate::{read, views};
 use message::kinds::Message;
-use transact::reply::{CountedReply, Reply};
+use numbers::Refusal;
+use rows::lookup::Compared;
+use transact::reply::Reply;
 use transact::{outcome, prepare};
 
-// The answer to one of the seven messages, or to none.
-pub fn serve(table: &mut [u8], message: &[u8], asked: Message, limit: u16) -> CountedReply
+// What is said to a message, with the rows that were compared for it.
+pub type Said = Compared<Result<Reply, Refusal>>;
+
+// The answer to one of the seven messages. Messages 5 to 7 seek no row.
+pub fn serve(table: &mut [u8], message: &[u8], asked: Message, limit: u16) -> Said
     requires begins_with_image { BeginsWithImage valley table.old × (limit ≤ 512) × ((limited limit).least_buffer ≤ length table.old) }
-    requires asked_value { (meant format_one message.now asked ≡ message_to format_one (limited limit) (header_at table.old).n message.now) × Coded asked }
-    ensures reply_value { (result.reply ≡ answer_reply (limited limit) (meant format_one message.now asked) table.old) × (result.compared ≡ answer_compared (meant format_one message.now asked) (table_at format_one table.old)) }
-    ensures table_after { table.new ≡ answer_buffer (limited limit) (meant format_one message.now asked) table.old }
+    requires asked_value { (meant format_one message.now (Some asked) ≡ message_to format_one (limited limit) (header_at table.old).n message.now) × Coded (Some asked) }
+    ensures reply_value { Tells result.found (served_reply (limited limit) (message_meant format_one message.now asked) table.old) × (result.compared ≡ served_compared (table_at format_one table.old) (message_meant format_one message.now asked)) }
+    ensures table_after { table.new ≡ served_buffer (limited limit) (message_meant format_one message.now asked) table.old }
 {
     match asked {
         Message::ProposePrepare {
@@ -31,8 +37,7 @@ pub fn serve(table: &mut [u8], message: &[u8], asked: Message, limit: u16) -> Co
             stamp,
             view,
             result,
-            retry,
-        } => prepare::finalise_prepare(table, stamp, view, result, retry),
+        } => prepare::finalise_prepare(table, stamp, view, result),
         Message::ProposeOutcome {
             stamp,
             verdict,
@@ -44,13 +49,12 @@ pub fn serve(table: &mut [u8], message: &[u8], asked: Message, limit: u16) -> Co
             view,
             verdict,
         } => outcome::finalise_outcome(table, stamp, view, verdict),
-        Message::ChangeView { view } => views::change_view(table, view).with_compared(0),
+        Message::ChangeView { view } => Compared::without_search(views::change_view(table, view)),
         Message::StartView { view } => {
-            views::start_view(table, &message[5..], view).with_compared(0)
+            Compared::without_search(views::start_view(table, &message[5..], view))
         }
         Message::ReadRegister { stamp, register } => {
-            read::read_register(table, stamp, register).with_compared(0)
+            Compared::without_search(read::read_register(table, stamp, register))
         }
-        Message::Bad => Reply::refusal(3).with_compared(0),
     }
 }

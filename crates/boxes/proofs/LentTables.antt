@@ -178,18 +178,29 @@ module _ (M : Model) (tables : List ℕ) (n : ℕ) where
   unfolding start_number
   start_number_lem = small_or_bad (ltb (length tables) (M.least_buffer * n)) (not (is_group n))
 
-  pub start_small : length tables < M.least_buffer * n → (1 ≡ start_number M tables n) × (tables ≡ start_tables M tables n)
+  pub start_small : length tables < M.least_buffer * n → start_number M tables n ≡ 1
+  start_small l = start_number_lem ∙ rw (lt-ltb _ _ l)
+
+  pub start_small_kept : length tables < M.least_buffer * n → start_tables M tables n ≡ tables
   unfolding start_tables
-  start_small l = let e : start_number M tables n ≡ 1 = start_number_lem ∙ rw (lt-ltb _ _ l) in (sym e, rw e)
+  start_small_kept l = rw (start_small l)
 
   module _ (room : M.least_buffer * n ≤ length tables) where
-    pub start_bad : is_group n ≡ false → (3 ≡ start_number M tables n) × (tables ≡ start_tables M tables n)
-    unfolding start_tables
-    start_bad h = let e : start_number M tables n ≡ 3 = start_number_lem ∙ rw (le-ltb _ _ room, h) in (sym e, rw e)
+    pub start_bad : is_group n ≡ false → start_number M tables n ≡ 3
+    start_bad h = start_number_lem ∙ rw (le-ltb _ _ room, h)
 
-    pub start_done : is_group n ≡ true → (0 ≡ start_number M tables n) × (fresh_first M n n tables ≡ start_tables M tables n)
+    pub start_bad_kept : is_group n ≡ false → start_tables M tables n ≡ tables
     unfolding start_tables
-    start_done h = let e : start_number M tables n ≡ 0 = start_number_lem ∙ rw (le-ltb _ _ room, h) in (sym e, rw e)
+    start_bad_kept h = rw (start_bad h)
+
+    pub start_done : is_group n ≡ true → start_number M tables n ≡ 0
+    start_done h = start_number_lem ∙ rw (le-ltb _ _ room, h)
+
+    pub start_fresh : is_group n ≡ true → start_tables M tables n ≡ fresh_first M n n tables
+    unfolding start_tables
+    start_fresh h = rw (start_done h)
+
+pub ruleset starts = (start_small, start_small_kept, start_bad, start_bad_kept, start_done, start_fresh)
 
 -- ---- a message arrives
 

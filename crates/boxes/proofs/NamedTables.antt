@@ -3,6 +3,7 @@ use mathlib.Core.Path.{◌≡◌, refl, sym, ap, ◌∙◌}
 use mathlib.Core.Bool.{true, false}
 use mathlib.Core.List.{List, [], ◌∷◌, ◌++◌}
 use mathlib.Core.Option.{Option, none, some}
+use Rattle.std.specs.Prelude as given
 use Prim.Native.Nat.{ℕ, ◌+◌, ◌*◌, ◌/◌, ◌≤◌, ◌<◌}
 use native.Mathlib.Nat.{add-zero, zero-add, mul-suc, mul_comm, div-lt_iff_lt-mul, le-div_iff_mul-le}
 use native.Mathlib.Numerals.{add-one}
@@ -17,14 +18,13 @@ use Rattle.rules.specs.Tables.{Model, Table}
 use Rattle.rules.specs.Circumstances.{too_small}
 use Rattle.rules.proofs.Logic.{impossible}
 use Rattle.table.specs.declared.header.Header.{Header}
-use Rattle.table.specs.declared.image.Found.TheVariants.{Image, Nothing}
 use Rattle.table.specs.Headers.{header_at}
 use Rattle.table.specs.Images.{format_one, image_length, image}
 use Rattle.table.specs.Parse.{parse, image_found}
 use Rattle.table.proofs.Images.{Sound, length_image, parse_begins, parsed}
 use Rattle.table.proofs.Found.{found_table}
 use Rattle.image_run.specs.Inner.WholeRuns.{laid_out}
-use Rattle.image_run.specs.Runs.{before, images, or_none, one_or_more, run_tables}
+use Rattle.image_run.specs.Runs.{or_none, one_or_more, run_tables}
 use Rattle.image_run.proofs.RunTurns.{images_none}
 use Rattle.merge.specs.Calls as merge
 use Rattle.merge.proofs.MergeCall.{merge_number_lem, merge_refused}
@@ -55,17 +55,17 @@ module _ (M : Model) (tables boxes : List ℕ) where
     named_turn = rw (drop-cons boxes i 0 more, add-one i)
 
     -- a box has a table: those behind it decide
-    pub whole_turn : (n : ℕ) → image_found format_one (parse format_one M (buffer_named M tables boxes i)) ≡ Image n → is_some (tables_named M tables (drop i boxes)) ≡ is_some (tables_named M tables (drop (i + 1) boxes))
+    pub whole_turn : (n : ℕ) → image_found format_one (parse format_one M (buffer_named M tables boxes i)) ≡ given.Some n → is_some (tables_named M tables (drop i boxes)) ≡ is_some (tables_named M tables (drop (i + 1) boxes))
     unfolding both
     whole_turn n h =
         let (T, e, l) = found_table format_one M (buffer_named M tables boxes i) n h in
         ap is_some named_turn ∙ joined_some M (parse format_one M (buffer_named M tables boxes i)) (tables_named M tables (drop (i + 1) boxes)) ∙ rw e
 
     -- it has none
-    pub whole_not : image_found format_one (parse format_one M (buffer_named M tables boxes i)) ≡ Nothing → is_some (tables_named M tables (drop i boxes)) ≡ false
+    pub whole_not : image_found format_one (parse format_one M (buffer_named M tables boxes i)) ≡ given.None → is_some (tables_named M tables (drop i boxes)) ≡ false
     whole_not h = go (parse format_one M (buffer_named M tables boxes i)) refl h
       where
-        go : (o : Option Table) → parse format_one M (buffer_named M tables boxes i) ≡ o → image_found format_one o ≡ Nothing → is_some (tables_named M tables (drop i boxes)) ≡ false
+        go : (o : Option Table) → parse format_one M (buffer_named M tables boxes i) ≡ o → image_found format_one o ≡ given.None → is_some (tables_named M tables (drop i boxes)) ≡ false
         go none e f = ap is_some named_turn ∙ rw e
         go (some T) e f = let c : ◌≡◌ {A = ℕ} 0 1 = cc in absurd (omega arith)
 

@@ -1,5 +1,5 @@
 // Where the table buffer of a box stands among those of its group, side by side in one lent buffer.
-ghost use Rattle.std.specs.Prelude.{◌≡◌, ◌*◌, min};
+ghost use Rattle.std.specs.Prelude.{◌≡◌, ◌*◌};
 ghost use Rattle.rules.specs.Tables.{valley};
 ghost use Rattle.boxes.specs.Inner.OneBuffer.{buffer_of};
 
@@ -9,23 +9,15 @@ use table::model;
 pub fn place(boxnumber: u8) -> usize
     ensures { result ≡ 49176 * boxnumber }
 {
-    model::VALLEY_BUFFER * boxnumber as usize
-}
-
-fn smaller(a: usize, b: usize) -> usize
-    ensures { result ≡ min a b }
-{
-    if a < b {
-        return a;
-    }
-    b
+    model::VALLEY_BUFFER * usize::from(boxnumber)
 }
 
 // A box's table buffer, to read: what there is of it, if the lent buffer ends before it does.
+#[tactic(auto, using(crate::proofs::LentTables::part_read))]
 pub fn buffer_of(tables: &[u8], boxnumber: u8) -> &[u8]
     ensures { result.now ≡ buffer_of valley tables.now boxnumber }
 {
-    let from = smaller(place(boxnumber), tables.len());
-    let to = smaller(place(boxnumber) + model::VALLEY_BUFFER, tables.len());
-    &tables[from..to]
+    let from = place(boxnumber);
+    let to = from + model::VALLEY_BUFFER;
+    &tables[from.min(tables.len())..to.min(tables.len())]
 }

@@ -1,3 +1,4 @@
+pub mod LentParts
 pub mod Steps
 pub mod Registers
 pub mod Marks

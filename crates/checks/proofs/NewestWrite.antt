@@ -1,10 +1,11 @@
 -- The first write that is met from the last row on is the greatest: rows rise.
-use mathlib.Core.Path.{◌≡◌, refl, ap, ◌∙◌}
+use mathlib.Core.Path.{◌≡◌, refl, sym, ap, ◌∙◌}
 use mathlib.Core.Bool.{Bool, true, false, cond}
 use mathlib.Core.List.{List, [], ◌∷◌}
 use mathlib.Core.Logic.{◌⊎◌, inl, inr}
-use Prim.Native.Nat.{ℕ, zero, suc, ◌≤◌, ◌<◌}
+use Prim.Native.Nat.{ℕ, zero, suc, ◌+◌, ◌-◌, ◌*◌, ◌≤◌, ◌<◌}
 use native.Mathlib.Omega.{arith}
+use Rattle.std.proofs.Common.{Option, Some, None, is_some, IfSome, unwrap_or}
 use lib.Dec.{eqb, ltb, leb}
 use lib.ListN.{drop}
 use borrow.Author.Tests.{ltb-true, ltb-false, lt-ltb, le-ltb}
@@ -13,8 +14,14 @@ use Rattle.rules.specs.Stamps.{Access}
 use Rattle.rules.specs.Tables.{Row, rising}
 use Rattle.rules.specs.Check.{committed}
 use Rattle.rules.specs.Messages.{Found, found, nothing_found, write_of, later}
-use Rattle.rules.proofs.Logic.{cases, both_left, both_right}
+use Rattle.rules.proofs.Logic.{impossible, cases, both_left, both_right}
+use Rattle.rows.specs.declared.row.RowFields.{RowFields}
+use Rattle.rows.specs.Fields.{fields_at}
+use Rattle.rows.specs.Read.{row_of, rows_at}
+use Rattle.checks.specs.declared.newest.Written.{Written}
+use Rattle.checks.specs.Inner.Given.{found_meant}
 use Rattle.checks.specs.Inner.Passed.{found_in}
+use Rattle.checks.proofs.Steps.{rows_step, rows_behind}
 use Rattle.checks.proofs.Rounds.{found_step, found_none}
 
 -- what a row gives has its stamp for a version, or 0
@@ -44,11 +51,11 @@ unfolding later
 later_first a b t = rw t refl
 
 -- with nothing behind a row, what it gives is what all give
-pub later_nothing : (a : Found) → 0 < a.version → later a nothing_found ≡ a
+later_nothing : (a : Found) → 0 < a.version → later a nothing_found ≡ a
 unfolding later
 later_nothing a l = rw (lt-ltb 0 a.version l) refl
 
-pub later_none : (a : Found) → a.version ≤ 0 → later a nothing_found ≡ nothing_found
+later_none : (a : Found) → a.version ≤ 0 → later a nothing_found ≡ nothing_found
 later_none a l = later_second a nothing_found l
 
 rising_on : (low : ℕ) (r : Row) (rs : List Row) → rising low (r ∷ rs) ≡ true → (low < r.stamp) × (rising r.stamp rs ≡ true)
@@ -84,3 +91,53 @@ found_behind low (suc n) (r ∷ rs) s k rise l =
     go (inl e) (inl m) rest = later_second (found_in r s k) (found rs s k) (omega arith)
     go (inr z) b rest = later_second (found_in r s k) (found rs s k) (omega arith)
     go (inl e) (inr z) rest = let v = ap (λ (f : Found). f.version) rest in absurd (omega arith)
+
+-- ---- what was found, or 0 and 0
+
+abbrev pub no_write : Written
+no_write = record { version = 0; value = 0 }
+
+pub version_or : (r : Option Written) → (unwrap_or r no_write).version ≡ (found_meant r).version
+version_or None = refl
+version_or (Some w) = refl
+
+pub value_or : (r : Option Written) → (unwrap_or r no_write).value ≡ (found_meant r).value
+value_or None = refl
+value_or (Some w) = refl
+
+-- ---- from the last row to the first
+
+row_stamp : (s : List ℕ) (at n i low : ℕ) → i < n → rising low (rows_at s at n) ≡ true → low < (fields_at s (at + 24 * i)).stamp
+unfolding rows_at row_of
+row_stamp s at zero i low l rise = absurd (omega arith)
+row_stamp s at (suc n) zero low l rise =
+    let e : at + 24 * 0 ≡ at = omega arith in
+    rw e (rising_on low (row_of s (fields_at s at)) (rows_at s (at + 24) n) rise).0
+row_stamp s at (suc n) (suc i) low l rise =
+    let (above, on) = rising_on low (row_of s (fields_at s at)) (rows_at s (at + 24) n) rise in
+    let e : at + 24 + 24 * i ≡ at + 24 * suc i = omega arith in
+    let next = rw e at (row_stamp s (at + 24) n i (fields_at s at).stamp (omega arith) on) in
+    omega (arith, above, next)
+
+module _ (s : List ℕ) (begin n i stamp k : ℕ) (l : 0 < i) (h : i ≤ n) (none : found (rows_at s (begin + 24 * i) (n - i)) stamp k ≡ nothing_found) where
+  abbrev fields : RowFields
+  fields = fields_at s (begin + 24 * (i - 1))
+
+  row_alone : found (rows_at s (begin + 24 * (i - 1)) (n - (i - 1))) stamp k ≡ later (found_in (row_of s fields) stamp k) nothing_found
+  row_alone = ap (λ (rs : List Row). found rs stamp k) (rows_step s begin n i l h) ∙ found_step _ _ stamp k ∙ ap (later (found_in (row_of s fields) stamp k)) none
+
+  -- the first row that gives something gives what all give
+  pub newest_met : (r : Option Written) → rising 0 (rows_at s begin n) ≡ true → is_some r ≡ true → found_meant r ≡ found_in (row_of s fields) stamp k → IfSome r (λ w. w.version ≡ fields.stamp) → found_meant r ≡ found (rows_at s begin n) stamp k
+  newest_met None rise some e v = impossible some refl
+  newest_met (Some w) rise some e v =
+      let row : Found = found_in (row_of s fields) stamp k in
+      let first : 0 < fields.stamp = row_stamp s begin n (i - 1) 0 (omega arith) rise in
+      let above : 0 < row.version = rw (← e, v) first in
+      let alone = row_alone ∙ later_nothing row above in
+      let behind = rows_behind s begin n (i - 1) (omega arith) in
+      e ∙ sym (found_behind 0 (i - 1) (rows_at s begin n) stamp k rise (rw (behind, alone) above) ∙ rw (behind, alone))
+
+  -- a row that gives nothing leaves nothing given
+  pub newest_goes_on : (r : Option Written) → is_some r ≡ false → found_meant r ≡ found_in (row_of s fields) stamp k → found (rows_at s (begin + 24 * (i - 1)) (n - (i - 1))) stamp k ≡ nothing_found
+  newest_goes_on None some e = row_alone ∙ ap (λ (f : Found). later f nothing_found) (sym e) ∙ later_none nothing_found (omega arith)
+  newest_goes_on (Some w) some e = impossible refl some

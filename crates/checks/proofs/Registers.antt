@@ -3,67 +3,59 @@ use mathlib.Core.Path.{◌≡◌, refl, sym, ap, ap₂, ◌∙◌}
 use mathlib.Core.Bool.{Bool, true, false, cond}
 use mathlib.Core.List.{List, [], ◌∷◌}
 use mathlib.Core.Logic.{◌⊎◌, inl, inr}
-use Prim.Native.Nat.{ℕ, zero, suc, ◌+◌, ◌*◌, ◌≤◌, ◌<◌}
-use native.Mathlib.Nat.{zero-add}
+use Prim.Native.Nat.{ℕ, ◌+◌, ◌-◌, ◌*◌, ◌≤◌, ◌<◌}
 use native.Mathlib.Omega.{arith}
-use lib.Dec.{eqb, ltb}
-use borrow.Author.Tests.{lt-ltb, le-ltb}
+use lib.Dec.{eqb}
+use Rattle.std.proofs.Common.{Option, Some, None, is_some}
+use borrow.Author.Tests.{lt-ltb, le-ltb, eq-eqb, ne_eqb}
 use Rattle.rules.specs.Tests.{both, either, any}
 use Rattle.rules.specs.Stamps.{Access, Body}
 use Rattle.rules.specs.Messages.{Found, nothing_found, write_of}
 use Rattle.rules.specs.Check.{overwrites}
-use Rattle.rules.specs.DayOrder.{stale, common}
+use Rattle.rules.specs.DayOrder.{stale}
 use Rattle.rules.specs.Inner.Clashes.{clash}
-use Rattle.rules.proofs.Logic.{cases, both_false, both_whole, either_none, either_false, either_assoc, eqb_sym}
+use Rattle.rules.proofs.Logic.{cases, both_false, both_whole, either_none, either_false, eqb_sym}
 use Rattle.rules.proofs.Lists.{none_any}
 use Rattle.rules.proofs.Check.{overwrites_below}
 use Rattle.rules.proofs.DayOrder.{overwrites_stale}
-use Rattle.rows.specs.declared.row.RowFields.{RowFields}
-use Rattle.rows.specs.Read.{access_at, access_of, accesses_at, body_at, row_of}
-use Rattle.rows.specs.Inner.Rows.{BodyInside, body_part}
-use Rattle.rows.proofs.Turns.{body_of_part}
-use Rattle.checks.specs.declared.accesses.Write.{Write}
-use Rattle.checks.specs.declared.accesses.Write.TheVariants.{Value, Missing}
-use Rattle.checks.specs.Inner.RegisterWrites.{write_to}
+use Rattle.rows.specs.Read.{access_at, accesses_at}
+use Rattle.checks.specs.Inner.RegisterWrites.{write_to, early}
+use Rattle.checks.proofs.LentParts.{accesses_turn, accesses_over}
 
 -- ---- searching
 
-pub write_step : (a : Access) (more : List Access) (k : ℕ) → write_to (a ∷ more) k ≡ cond (eqb a.register k) (Value a.number) (write_to more k)
+write_step : (a : Access) (more : List Access) (k : ℕ) → write_to (a ∷ more) k ≡ cond (eqb a.register k) (Some a.number) (write_to more k)
 unfolding write_to
 write_step a more k = refl
 
-pub write_end : (k : ℕ) → write_to [] k ≡ Missing
+write_end : (k : ℕ) → write_to [] k ≡ None
 unfolding write_to
 write_end k = refl
 
-abbrev pub is_there : Write → Bool
-is_there (Value v) = true
-is_there Missing = false
-
-there_step : (b : Bool) (v : ℕ) (w : Write) → is_there (cond b (Value v) w) ≡ either b (is_there w)
+there_step : (b : Bool) (v : ℕ) (w : Option ℕ) → is_some (cond b (Some v) w) ≡ either b (is_some w)
 unfolding either
 there_step true v w = refl
 there_step false v w = refl
 
 -- an access of its register is among these
-pub among_found : (accs : List Access) (k : ℕ) → any (λ a. eqb k a.register) accs ≡ is_there (write_to accs k)
+pub among_found : (accs : List Access) (k : ℕ) → any (λ a. eqb k a.register) accs ≡ is_some (write_to accs k)
 unfolding any write_to
 among_found [] k = refl
 among_found (a ∷ more) k = ap₂ either (eqb_sym k a.register) (among_found more k) ∙ sym (there_step (eqb a.register k) a.number (write_to more k))
 
+-- i of n writes passed: the one at hand is of the register, or the search goes on
+pub write_here : (s : List ℕ) (from n i k : ℕ) → i < n → (access_at s (9 * (from + i))).register ≡ k → write_to (accesses_at s (9 * (from + i)) (n - i)) k ≡ Some (access_at s (9 * (from + i))).number
+write_here s from n i k l e = ap (λ (accs : List Access). write_to accs k) (accesses_turn s from n i l) ∙ write_step _ _ k ∙ rw (eq-eqb _ k e)
+
+pub write_behind : (s : List ℕ) (from n i k : ℕ) → i < n → ((access_at s (9 * (from + i))).register ≡ k → ⊥) → write_to (accesses_at s (9 * (from + i)) (n - i)) k ≡ write_to (accesses_at s (9 * (from + (i + 1))) (n - (i + 1))) k
+write_behind s from n i k l d = ap (λ (accs : List Access). write_to accs k) (accesses_turn s from n i l) ∙ write_step _ _ k ∙ rw (ne_eqb _ k d)
+
+pub write_over : (s : List ℕ) (at n i k : ℕ) → n ≤ i → write_to (accesses_at s at (n - i)) k ≡ None
+write_over s at n i k l = ap (λ (accs : List Access). write_to accs k) (accesses_over s at n i l) ∙ write_end k
+
+pub ruleset write_turns = (write_here, write_behind, write_over)
+
 -- ---- a stale read
-
--- a read of a version below w of a register that is written at w
-abbrev pub early : ℕ → List Access → Access → Bool
-early w writes read = any (λ write. both (eqb read.register write.register) (ltb read.number w)) writes
-
-pub stale_step : (w : ℕ) (writes : List Access) (read : Access) (more : List Access) → stale w writes (read ∷ more) ≡ either (early w writes read) (stale w writes more)
-unfolding stale any
-stale_step w writes read more = refl
-
-pub stale_end : (w : ℕ) (writes : List Access) → stale w writes [] ≡ false
-unfolding stale any
-stale_end w writes = refl
 
 any_whole : (test : Access → Bool) (accs : List Access) → any (λ a. both (test a) true) accs ≡ any test accs
 unfolding any
@@ -71,48 +63,13 @@ any_whole test [] = refl
 any_whole test (a ∷ more) = ap₂ either (both_whole (test a)) (any_whole test more)
 
 -- it is, if the version is below and the register is found
-pub early_found : (w : ℕ) (writes : List Access) (read : Access) → read.number < w → early w writes read ≡ is_there (write_to writes read.register)
+pub early_found : (w : ℕ) (writes : List Access) (read : Access) → read.number < w → early w writes read ≡ is_some (write_to writes read.register)
 early_found w writes read l = rw (lt-ltb read.number w l) (any_whole (λ a. eqb read.register a.register) writes ∙ among_found writes read.register)
 
 pub early_not : (w : ℕ) (writes : List Access) (read : Access) → w ≤ read.number → early w writes read ≡ false
 early_not w writes read l = none_any _ writes (λ a m. rw (le-ltb read.number w l) (both_false (eqb read.register a.register)))
 
--- ---- a register in common
-
--- an access of a register that is written
-abbrev pub rewritten : List Access → Access → Bool
-rewritten writes a = any (λ b. eqb a.register b.register) writes
-
-pub common_step : (a : Access) (more writes : List Access) → common (a ∷ more) writes ≡ either (rewritten writes a) (common more writes)
-unfolding common any
-common_step a more writes = refl
-
-pub common_end : (writes : List Access) → common [] writes ≡ false
-unfolding common any
-common_end writes = refl
-
-either_of_none : (b : Bool) → either false b ≡ b
-unfolding either
-either_of_none b = refl
-
--- accesses that stand one behind the other, as a body's reads and its writes do
-pub common_parts : (s : List ℕ) (at n m : ℕ) (writes : List Access) → common (accesses_at s at (n + m)) writes ≡ either (common (accesses_at s at n) writes) (common (accesses_at s (at + 9 * n) m) writes)
-unfolding accesses_at
-common_parts s at zero m writes =
-    let e : at + 9 * 0 ≡ at = omega arith in
-    let k : 0 + m ≡ m = omega arith in
-    rw (e, k) (sym (ap (λ (b : Bool). either b (common (accesses_at s at m) writes)) (common_end writes) ∙ either_of_none _))
-common_parts s at (suc n) m writes =
-    let a = access_of (access_at s at) in
-    let e : at + 9 * suc n ≡ at + 9 + 9 * n = omega arith in
-    let k : suc n + m ≡ suc (n + m) = omega arith in
-    let first = common (accesses_at s (at + 9) n) writes in
-    let second = common (accesses_at s (at + 9 + 9 * n) m) writes in
-    rw (e, k)
-    (common_step a (accesses_at s (at + 9) (n + m)) writes
-    ∙ ap (either (rewritten writes a)) (common_parts s (at + 9) n m writes)
-    ∙ sym (either_assoc (rewritten writes a) first second)
-    ∙ ap (λ (b : Bool). either b second) (sym (common_step a (accesses_at s (at + 9) n) writes)))
+pub ruleset early_sides = (early_found, early_not)
 
 -- ---- clashes by the stamps
 
@@ -136,26 +93,20 @@ module _ (s : ℕ) (x : Body) (t : ℕ) (y : Body) where
   unfolding clash
   clash_level e = either_false (overwrites_not t y.writes s x.reads (omega arith)) (overwrites_not s x.writes t y.reads (omega arith))
 
+pub ruleset clash_sides = (clash_below, clash_above, clash_level, lt-ltb, le-ltb)
+
 -- ---- message 7
 
 -- the write that is found, with its transaction's stamp
-abbrev pub written_at : ℕ → Write → Found
-written_at stamp (Value v) = record { version = stamp; value = v }
-written_at stamp Missing = nothing_found
+abbrev pub written_at : ℕ → Option ℕ → Found
+written_at stamp (Some v) = record { version = stamp; value = v }
+written_at stamp None = nothing_found
 
 pub written_as : (stamp : ℕ) (writes : List Access) (k : ℕ) → write_of stamp writes k ≡ written_at stamp (write_to writes k)
 unfolding write_of write_to
 written_as stamp [] k = refl
 written_as stamp (a ∷ more) k = go (eqb a.register k) (written_as stamp more k)
   where
-    go : (b : Bool) → write_of stamp more k ≡ written_at stamp (write_to more k) → cond b (record { version = stamp; value = a.number }) (write_of stamp more k) ≡ written_at stamp (cond b (Value a.number) (write_to more k))
+    go : (b : Bool) → write_of stamp more k ≡ written_at stamp (write_to more k) → cond b (record { version = stamp; value = a.number }) (write_of stamp more k) ≡ written_at stamp (cond b (Some a.number) (write_to more k))
     go true e = refl
     go false e = e
-
--- the writes of a row are those in the part where its body lies
-pub writes_in : (s : List ℕ) (f : RowFields) → BodyInside s f → (row_of s f).body.writes ≡ accesses_at (body_part s f) (9 * f.reads) f.writes
-unfolding row_of body_at
-writes_in s f h = sym (rw zero-add at (ap (λ (x : Body). x.writes) (body_of_part s f h)))
-
-pub written_in : (s : List ℕ) (f : RowFields) (k : ℕ) → BodyInside s f → write_of f.stamp (row_of s f).body.writes k ≡ written_at f.stamp (write_to (accesses_at (body_part s f) (9 * f.reads) f.writes) k)
-written_in s f k h = written_as f.stamp _ k ∙ ap (λ (ws : List Access). written_at f.stamp (write_to ws k)) (writes_in s f h)

@@ -1,84 +1,57 @@
 // A body's accesses, searched for a register, and marked by their registers.
-ghost use Rattle.std.specs.Prelude.{◌≡◌, ◌+◌, ◌*◌, ◌≤◌, length};
+ghost use Rattle.std.specs.Prelude.{◌≡◌};
 ghost use Rattle.rules.specs.DayOrder.{common};
-ghost use Rattle.rows.specs.Read.{accesses_at};
-ghost use Rattle.checks.specs.Inner.RegisterWrites.{write_to, Marked, any_marked};
+ghost use Rattle.rows.specs.Read.{access_of};
+ghost use Rattle.checks.specs.Inner.Lent.{listed};
+ghost use Rattle.checks.specs.Inner.RegisterWrites.{write_to, Marked, any_marked, rewritten};
 
-// What a search for a register among writes gives: the value, or that none is there.
-#[derive(Clone, Copy)]
-pub enum Write {
-    Value { value: u64 },
-    Missing,
-}
+use crate::lent::Accesses;
+use rows::body::Access;
 
-// The write of a register, of the `n` accesses of a body from an index on.
-pub fn write_to(body: &[u8], from: usize, n: usize, register: u8) -> Write
-    requires { 9 * (from + n) ≤ length body.now }
-    ensures { result ≡ write_to (accesses_at body.now (9 * from) n) register }
+// The value of the write of a register.
+#[tactic(auto, using(crate::proofs::Registers::write_turns))]
+pub fn write_to(written: Accesses, register: u8) -> Option<u64>
+    ensures { result ≡ write_to (listed written.entry) register }
 {
-    let mut i: usize = 0;
-    while i < n {
-        let a = rows::body::access_at(body, from + i);
-        if a.register == register {
-            return Write::Value { value: a.number };
+    for i in 0..written.count {
+        let write = written.at(i);
+        if write.register == register {
+            return Some(write.number);
         }
-        i += 1;
     }
-    Write::Missing
+    None
 }
 
-// Marks for the registers of the `n` accesses of a body from an index on. There are 64 of them; a byte that is no register has the mark of one, so that what is not marked is not there, and what is marked has to be looked for.
-pub fn marks_of(body: &[u8], from: usize, n: usize) -> [bool; 64]
-    requires { 9 * (from + n) ≤ length body.now }
-    ensures { Marked result (accesses_at body.now (9 * from) n) }
+// Marks for the registers of accesses. There are 64 of them; a byte that is no register has the mark of one, so that what is not marked is not there, and what is marked has to be looked for. The register is cast: with `usize::from` the proof of the marks did not close.
+pub fn marks_of(accesses: Accesses) -> [bool; 64]
+    ensures { Marked result (listed accesses.entry) }
 {
     let mut marks = [false; 64];
-    let mut i: usize = 0;
-    while i < n {
-        let access = rows::body::access_at(body, from + i);
-        marks[access.register as usize % 64] = true;
-        i += 1;
+    for i in 0..accesses.count {
+        marks[accesses.at(i).register as usize % 64] = true;
     }
     marks
 }
 
-// Whether one of the `n` accesses of a body from an index on has its register marked.
-pub fn any_marked(body: &[u8], from: usize, n: usize, marks: &[bool; 64]) -> bool
-    requires { 9 * (from + n) ≤ length body.now }
-    ensures { result ≡ any_marked marks.now (accesses_at body.now (9 * from) n) }
+// Whether one of some accesses has its register marked.
+#[tactic(auto, unfolding(crate::specs::Inner::RegisterWrites::any_marked))]
+pub fn any_marked(accesses: Accesses, marks: &[bool; 64]) -> bool
+    ensures { result ≡ any_marked marks.now (listed accesses.entry) }
 {
-    let mut i: usize = 0;
-    while i < n {
-        let access = rows::body::access_at(body, from + i);
-        if marks[access.register as usize % 64] {
-            return true;
-        }
-        i += 1;
-    }
-    false
+    accesses.any(|access| marks[access.register as usize % 64])
 }
 
-// Whether one of the first `accesses` of a body is of a register that a transaction writes. Only one that is marked is looked for among its writes.
-pub fn common(
-    held: &[u8],
-    accesses: usize,
-    body: &[u8],
-    from: usize,
-    writes: usize,
-    marks: &[bool; 64],
-) -> bool
-    requires { (9 * accesses ≤ length held.now) × (9 * (from + writes) ≤ length body.now) }
-    ensures { Marked marks.now (accesses_at body.now (9 * from) writes) → result ≡ common (accesses_at held.now 0 accesses) (accesses_at body.now (9 * from) writes) }
+// Whether an access is of a register that a transaction writes. Only one that is marked is looked for among its writes.
+fn rewritten(access: Access, written: Accesses, marks: &[bool; 64]) -> bool
+    ensures { Marked marks.now (listed written.entry) → result ≡ rewritten (listed written.entry) (access_of access) }
 {
-    let mut i: usize = 0;
-    while i < accesses {
-        let access = rows::body::access_at(held, i);
-        if marks[access.register as usize % 64] {
-            let Write::Missing = write_to(body, from, writes, access.register) else {
-                return true;
-            };
-        }
-        i += 1;
-    }
-    false
+    marks[access.register as usize % 64] && write_to(written, access.register).is_some()
+}
+
+// Whether one of some accesses is of a register that a transaction writes.
+#[tactic(auto, unfolding(rules::specs::DayOrder::common))]
+pub fn common(accesses: Accesses, written: Accesses, marks: &[bool; 64]) -> bool
+    ensures { Marked marks.now (listed written.entry) → result ≡ common (listed accesses.entry) (listed written.entry) }
+{
+    accesses.any(|access| rewritten(access, written, marks))
 }

@@ -4,8 +4,10 @@
 #![tactic(auto)]
 
 pub mod accesses;
+pub mod checked;
 pub mod clashes;
 pub mod day;
 pub mod floor;
+pub mod lent;
 pub mod newest;
 pub mod pass;

@@ -26,11 +26,10 @@ use Rattle.rules.proofs.Reordered.{Reordered, same, swapped, under, then, every_
 use Rattle.rules.proofs.Orders as orders
 use Rattle.message.proofs.Forms.{result_read_lem}
 use Rattle.replies.specs.declared.held.Reply.{Reply}
-use Rattle.count.specs.declared.answer.Counted.{Counted}
 use Rattle.replies.specs.PlainReplies.{result_read, heard, all_heard}
 use Rattle.count.specs.Calls.{count_of, count_bytes}
 use Rattle.count.specs.Inner.RecordBytes.{reply_of, all_bytes}
-use Rattle.count.specs.Answers.{answer_as}
+use Rattle.count.specs.Answers.{Answer, answer_as}
 use Rattle.count.specs.Inner.MeantAnswers.{meant}
 use Rattle.count.proofs.HeardBytes.{EachFits, ResultsByRule, count_of_records, count_of_bytes}
 use Rattle.count.proofs.Decisions.{by_rule_lem, chosen_by_rule, results_good, any_retried}
@@ -106,7 +105,7 @@ agreeing_few hs r = omega (arith, counts_apart (λ h. same_result r h.result) (�
 module _ (n : ℕ) (lent : Lent) where
   -- ---- two answers that the promise allows for one input are equal
 
-  pub count_determined : {a b : Counted} → a ≡ answer_as (count_lent n lent) → b ≡ answer_as (count_lent n lent) → a ≡ b
+  pub count_determined : {a b : Answer} → a ≡ answer_as (count_lent n lent) → b ≡ answer_as (count_lent n lent) → a ≡ b
   count_determined e f = e ∙ sym f
 
   -- ---- and each says what `rules` answers
@@ -190,11 +189,11 @@ count-any_lent n lent other w v p = whole_lent n lent w ∙ count-any_order n p 
 -- ---- replies that were heard: the answer of either call says what `rules` counts of them
 
 -- an answer says the count that it is of
-says : (n : ℕ) (lent : Lent) {c : rules.Counted} → count_lent n lent ≡ c → {a : Counted} → a ≡ answer_as (count_lent n lent) → (a ≡ answer_as c) × (meant a ≡ c)
+says : (n : ℕ) (lent : Lent) {c : rules.Counted} → count_lent n lent ≡ c → {a : Answer} → a ≡ answer_as (count_lent n lent) → (a ≡ answer_as c) × (meant a ≡ c)
 says n lent k e = (e ∙ ap answer_as k, ap meant e ∙ answer_meant n lent ∙ k)
 
-pub counted_heard : (n : ℕ) (hs : List Heard) → EachFits hs → {a : Counted} → a ≡ answer_as (count_bytes n (all_bytes hs)) → (a ≡ answer_as (counted n hs)) × (meant a ≡ counted n hs)
+pub counted_heard : (n : ℕ) (hs : List Heard) → EachFits hs → {a : Answer} → a ≡ answer_as (count_bytes n (all_bytes hs)) → (a ≡ answer_as (counted n hs)) × (meant a ≡ counted n hs)
 counted_heard n hs k = says n (laid (all_bytes hs)) (count_of_bytes n hs k)
 
-pub counted_records : (n : ℕ) (hs : List Heard) → ResultsByRule hs → {a : Counted} → a ≡ answer_as (count_of n (map reply_of hs)) → (a ≡ answer_as (counted n hs)) × (meant a ≡ counted n hs)
+pub counted_records : (n : ℕ) (hs : List Heard) → ResultsByRule hs → {a : Answer} → a ≡ answer_as (count_of n (map reply_of hs)) → (a ≡ answer_as (counted n hs)) × (meant a ≡ counted n hs)
 counted_records n hs k = says n (records (map reply_of hs)) (count_of_records n hs k)

@@ -1,3 +1,5 @@
+pub mod Gathered
+pub mod Sizes
 pub mod Counts
 pub mod HeardBytes
 pub mod Decisions

@@ -7,6 +7,7 @@ use mathlib.Core.List.{List, [], ◌∷◌}
 use mathlib.Core.Option.{Option, none, some}
 use Prim.Native.Nat.{ℕ, ◌+◌, ◌*◌, ◌/◌, ◌%◌, ◌^◌, ◌<◌, ◌≤◌, max}
 use native.Mathlib.Omega.{arith}
+use Rattle.std.specs.Prelude as code
 use lib.Dec.{eqb, ltb, leb}
 use lib.ListN.{length, length-map}
 use borrow.Author.Tests.{eqb-true, eqb-false, eq-eqb, ne_eqb, ltb-true, ltb-false, lt-ltb, leb-true, leb-false, le-leb, lt-leb, not-true}
@@ -36,7 +37,7 @@ use Rattle.count.specs.declared.answer.Counted.TheVariants.{Wait}
 use Rattle.count.specs.Calls.{count_of}
 use Rattle.count.specs.Answers.{answer_as}
 use Rattle.count.specs.Inner.MeantAnswers.{contradicting}
-use Rattle.count.specs.Inner.TallyAnswers.{is_bad, fast_by, contradicts_by, how_many, slow_by, decided_by, answered}
+use Rattle.count.specs.Inner.TallyAnswers.{is_bad, fast_packed, unless_zero, fast_by, contradicts_by, how_many, slow_by, decided_by, answered}
 use Rattle.count.proofs.Counts.{bad_refused, contradicted, clear}
 use Rattle.count.proofs.Decisions.{other_final, final_is, no_final, contradicts_none, contradicts_other, contradicts_slow, contradicts_fast, slow_abort, slow_ok, slow_retry, slow_abstain}
 use Rattle.count.proofs.CountCall.{count-any_order}
@@ -46,9 +47,9 @@ use Rattle.count.proofs.CountCall.{count-any_order}
 abbrev packed_of : Result → ℕ
 packed_of q = 8 * result_retry q + result_code q
 
-abbrev packed_as : Option Result → ℕ
-packed_as none = 0
-packed_as (some q) = packed_of q
+abbrev packed_as : Option Result → code.Option ℕ
+packed_as none = code.None
+packed_as (some q) = code.Some (packed_of q)
 
 code_fits : (q : Result) → (0 < result_code q) × (result_code q < 8)
 code_fits OK = (omega arith, omega arith)
@@ -64,8 +65,16 @@ retry_fits ABSTAIN h = omega arith
 retry_fits (RETRY s) h = let l : s < 281474976710656 = ltb-true _ _ (both_right _ _ h) in omega arith
 
 -- it is taken apart again
-unpacked : (q : Result) → (packed_of q % 8 ≡ result_code q) × (packed_of q / 8 ≡ result_retry q) × (packed_of q ≡ 0 → ⊥)
-unpacked q = let (p, l) = code_fits q in (omega arith, omega arith, λ e. omega arith)
+unpacked : (q : Result) → (packed_of q % 8 ≡ result_code q) × (packed_of q / 8 ≡ result_retry q)
+unpacked q = let (p, l) = code_fits q in (omega arith, omega arith)
+
+abbrev packed_or_0 : Option Result → ℕ
+packed_or_0 none = 0
+packed_or_0 (some q) = packed_of q
+
+unless_told : (o : Option Result) → unless_zero (packed_or_0 o) ≡ packed_as o
+unless_told none = refl
+unless_told (some q) = let above : packed_of q ≡ 0 → ⊥ = (λ e. let (p, l) = code_fits q in omega arith) in rw (ne_eqb _ _ above) refl
 
 packed_same : (r q : Result) → packed_of r ≡ packed_of q → r ≡ q
 unfolding same_result
@@ -284,9 +293,9 @@ module _ (n v : ℕ) (s : Said) (rs : List Reply) (k : Fine v s rs) (good : are_
         omega arith,
       )
 
-  fast_told : fast_by n (tally_of v s rs) ≡ packed_as (fast_of n hs)
-  unfolding fast_by
-  fast_told = go (cases (leb (fast_count (f_of n)) (count (like_it s) rs))) (same? (range_of ds).least (range_of ds).greatest) (cases (leb (fast_count (f_of n)) (length ds)))
+  fast_packed_told : fast_packed n (tally_of v s rs) ≡ packed_or_0 (fast_of n hs)
+  unfolding fast_packed
+  fast_packed_told = go (cases (leb (fast_count (f_of n)) (count (like_it s) rs))) (same? (range_of ds).least (range_of ds).greatest) (cases (leb (fast_count (f_of n)) (length ds)))
     where
       few : count (like_it s) rs < fast_count (f_of n) → ((r : Reply) → r ∈ rs → like_it s r ≡ false → agreeing hs (heard r).result < fast_count (f_of n)) → fast_of n hs ≡ none
       few l d = fast_missing (λ r m. at r m (cases (like_it s r)))
@@ -302,7 +311,7 @@ module _ (n v : ℕ) (s : Said) (rs : List Reply) (k : Fine v s rs) (good : are_
           at (inl y) = absurd (never (others_fast r m t (leb-true _ _ y)))
           at (inr y) = leb-false _ _ y
 
-      go : (leb (fast_count (f_of n)) (count (like_it s) rs) ≡ true) ⊎ (leb (fast_count (f_of n)) (count (like_it s) rs) ≡ false) → ((range_of ds).least ≡ (range_of ds).greatest) ⊎ (eqb (range_of ds).least (range_of ds).greatest ≡ false) → (leb (fast_count (f_of n)) (length ds) ≡ true) ⊎ (leb (fast_count (f_of n)) (length ds) ≡ false) → fast_by n (tally_of v s rs) ≡ packed_as (fast_of n hs)
+      go : (leb (fast_count (f_of n)) (count (like_it s) rs) ≡ true) ⊎ (leb (fast_count (f_of n)) (count (like_it s) rs) ≡ false) → ((range_of ds).least ≡ (range_of ds).greatest) ⊎ (eqb (range_of ds).least (range_of ds).greatest ≡ false) → (leb (fast_count (f_of n)) (length ds) ≡ true) ⊎ (leb (fast_count (f_of n)) (length ds) ≡ false) → fast_packed n (tally_of v s rs) ≡ packed_or_0 (fast_of n hs)
       go (inl t) x y = let (q, m, l) = k.one in let e = like_result q l in rw (t, fast_found q m (rw (e, agree_first) (leb-true _ _ t)), e) first_packed
       go (inr t) (inr d) y = rw (t, others.3, d, few (leb-false _ _ t) (λ r m i. less r m i (λ z. eqb-false _ _ d z.0))) refl
       go (inr t) (inl e) (inr y) = rw (t, others.3, eq-eqb _ _ e, others.0, y, few (leb-false _ _ t) (λ r m i. less r m i (λ z. impossible (le-leb _ _ z.1) y))) refl
@@ -319,12 +328,16 @@ module _ (n v : ℕ) (s : Said) (rs : List Reply) (k : Fine v s rs) (good : are_
               let (inn, d) = those_of (unlike_it s) rs r m in let b = count-those (λ x. same_result (heard r).result (heard x).result) (unlike_it s) (differs r inn (not-true _ d)) rs in
               let a = agreeing_is (heard r).result in omega arith
 
-          at : (xs : List Reply) → ds ≡ xs → fast_by n (tally_of v s rs) ≡ packed_as (fast_of n hs)
+          at : (xs : List Reply) → ds ≡ xs → fast_packed n (tally_of v s rs) ≡ packed_or_0 (fast_of n hs)
           at [] i = let l : fast_count (f_of n) ≤ length ds = leb-true _ _ y in let z = (fast_most n facts.group).0 in let w = ap length i in absurd (omega arith)
           at (r ∷ xs) i =
               let m : r ∈ ds = subst (λ (zs : List Reply). r ∈ zs) (sym i) (Memᴰ.head refl) in let inn = (those_of (unlike_it s) rs r m).0 in
               let p : packed_by r ≡ (range_of ds).greatest = let (a, b) = in_range_lem ds r m in omega arith in
               rw (t, others.3, eq-eqb _ _ e, others.0, y, fast_found r inn (all_agree r m)) (sym p ∙ packed_heard r (read r inn))
+
+  fast_told : fast_by n (tally_of v s rs) ≡ packed_as (fast_of n hs)
+  unfolding fast_by
+  fast_told = rw fast_packed_told (unless_told (fast_of n hs))
 
   -- ---- "Two unequal finals, or a fast count for a result other than a final one: 6."
 
@@ -378,7 +391,7 @@ module _ (n v : ℕ) (s : Said) (rs : List Reply) (k : Fine v s rs) (good : are_
       go (some q) e (inr d) p i = rw (ne_eqb _ _ (finals_some q e), d) (contradicts_other n hs facts.not_bad q e (finals_other q e ∙ rw d refl))
       go (some q) e (inl j) none i = rw (ne_eqb _ _ (finals_some q e), eq-eqb _ _ j, i) (contradicts_slow n hs facts.not_bad q (finals_other q e ∙ rw (eq-eqb _ _ j) refl) i)
       go (some q) e (inl j) (some p) i =
-          rw (ne_eqb _ _ (finals_some q e), eq-eqb _ _ j, i, ne_eqb _ _ (unpacked p).2, finals_same q e j, same_packed q p)
+          rw (ne_eqb _ _ (finals_some q e), eq-eqb _ _ j, i, finals_same q e j, same_packed q p)
           (contradicts_fast n hs facts.not_bad q p e (finals_other q e ∙ rw (eq-eqb _ _ j) refl) i)
 
   -- ---- "slow ABORT if any is ABORT; slow OK if f+1 are OK; slow RETRY with the greatest stamp if any; slow ABSTAIN"
@@ -441,19 +454,19 @@ module _ (n v : ℕ) (s : Said) (rs : List Reply) (k : Fine v s rs) (good : are_
   number_told : count (like_it s) rs % 256 + (others_of ds).number % 256 ≡ length hs
   number_told = let a = all_parted in let b = others.0 in let c = facts.at_most in let d = length-map rs heard in omega arith
 
-  decided_told : contradicting n hs ≡ false → decided_by n (tally_of v s rs) (packed_as (fast_of n hs)) ≡ answer_as (decided n hs)
+  decided_told : contradicting n hs ≡ false → code.Ok (decided_by n (tally_of v s rs) (packed_as (fast_of n hs))) ≡ answer_as (decided n hs)
   unfolding decided_by decided
   decided_told clear = go (fast_of n hs) refl (cases (ltb (length hs) (quorum (f_of n)))) (final_heard hs) refl (same? (range_of ls).least (range_of ls).greatest)
     where
       final_slow : (q : Result) → final_heard hs ≡ some q → (range_of ls).least ≡ (range_of ls).greatest → slow_by n (tally_of v s rs) ≡ packed_of q
       final_slow q i j = slow_final n (tally_of v s rs) (finals_some q i) ∙ finals_same q i j
 
-      go : (o : Option Result) → fast_of n hs ≡ o → (ltb (length hs) (quorum (f_of n)) ≡ true) ⊎ (ltb (length hs) (quorum (f_of n)) ≡ false) → (p : Option Result) → final_heard hs ≡ p → ((range_of ls).least ≡ (range_of ls).greatest) ⊎ (eqb (range_of ls).least (range_of ls).greatest ≡ false) → decided_by n (tally_of v s rs) (packed_as (fast_of n hs)) ≡ answer_as (decided n hs)
-      go (some q) e x p i y = let (a, b, c) = unpacked q in rw (e, ne_eqb _ _ c, a, b) refl
+      go : (o : Option Result) → fast_of n hs ≡ o → (ltb (length hs) (quorum (f_of n)) ≡ true) ⊎ (ltb (length hs) (quorum (f_of n)) ≡ false) → (p : Option Result) → final_heard hs ≡ p → ((range_of ls).least ≡ (range_of ls).greatest) ⊎ (eqb (range_of ls).least (range_of ls).greatest ≡ false) → code.Ok (decided_by n (tally_of v s rs) (packed_as (fast_of n hs))) ≡ answer_as (decided n hs)
+      go (some q) e x p i y = let (a, b) = unpacked q in rw (e, a, b) refl
       go none e (inl x) p i y = rw (e, number_told, x) refl
-      go none e (inr x) none i y = let (a, b, c) = unpacked (slow_result n hs) in rw (e, number_told, x, i, slow_told (finals_none i), a, b) refl
+      go none e (inr x) none i y = let (a, b) = unpacked (slow_result n hs) in rw (e, number_told, x, i, slow_told (finals_none i), a, b) refl
       go none e (inr x) (some q) i (inr d) = impossible (sym (contradicts_other n hs facts.not_bad q i (finals_other q i ∙ rw d refl))) clear
-      go none e (inr x) (some q) i (inl j) = let (a, b, c) = unpacked q in rw (e, number_told, x, i, final_slow q i j, a, b) refl
+      go none e (inr x) (some q) i (inl j) = let (a, b) = unpacked q in rw (e, number_told, x, i, final_slow q i j, a, b) refl
 
   -- all together
   good_answered : is_group n ≡ true → seen_of rs < 2 ^ n → answered n (tally_of v s rs) ≡ answer_as (count_of n rs)
@@ -473,8 +486,8 @@ none_counted n group =
     clear n [] (good_by n [] group refl (λ r m. absurd (Memᴰ.not-nil m)) refl (λ r m. absurd (Memᴰ.not-nil m))) refl
     ∙ rw (lt-ltb 0 (quorum (f_of n)) (omega arith)) refl
 
-none_answered : (n : ℕ) → is_group n ≡ true → answered n no_tally ≡ Wait
-unfolding answered is_bad fast_by contradicts_by decided_by seen_of
+none_answered : (n : ℕ) → is_group n ≡ true → answered n no_tally ≡ code.Ok Wait
+unfolding answered is_bad fast_packed fast_by contradicts_by decided_by seen_of
 none_answered n group =
     rw (group, lt-leb (2 ^ n) 0 (seen_below n [] (λ r m. absurd (Memᴰ.not-nil m))), lt-leb (fast_count (f_of n)) 0 (fast_most n group).0, lt-ltb 0 (quorum (f_of n)) (omega arith)) refl
 

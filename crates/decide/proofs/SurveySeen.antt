@@ -4,20 +4,29 @@ use mathlib.Core.Bool.{Bool, true, false}
 use mathlib.Core.Logic.{◌⊎◌, inl, inr}
 use mathlib.Core.List.Memᴰ
 use mathlib.Core.List.{List, [], ◌∷◌, ◌++◌}
-use Prim.Native.Nat.{ℕ, suc, ◌+◌, ◌-◌, ◌≤◌, ◌<◌, ◌^◌}
+use Prim.Native.Nat.{ℕ, suc, ◌-◌, ◌≤◌, ◌<◌, ◌^◌}
 use native.Mathlib.Omega.{arith}
 use lib.Dec.{ltb}
-use lib.ListN.{length, length-append}
+use lib.ListN.{length, replicate, length-append}
+use Rattle.std.specs.Prelude.{Some, None}
 use borrow.Author.Tests.{ltb-true, ltb-false}
 use Rattle.rules.specs.Tests.{either, any, those}
-use Rattle.rules.specs.Tables.{Row, Table}
+use Rattle.rules.specs.Tables.{Row, Table, valley}
 use Rattle.rules.specs.Merge.{rows_of, two_bodies, contradictory, stamps}
 use Rattle.rules.proofs.Logic.{cases, either_none}
 use Rattle.rules.proofs.Lists.{◌∈◌, any_append}
 use Rattle.rules.proofs.Stamps.{RisingFrom}
 use Rattle.rules.proofs.Merge.{some_row}
-use Rattle.gather.specs.Inner.Stamps.{next_after}
-use Rattle.gather.proofs.NextStamps.{AllRegular, stamps_stamped, stamps_from_one}
+use Rattle.image_run.specs.Inner.WholeRuns.{tables_of, Images}
+use Rattle.gather.specs.declared.held.Gathered.{Gathered}
+use Rattle.gather.specs.declared.walk.StampsOf.{StampsOf}
+use Rattle.gather.specs.Inner.UsedTables.{used_of}
+use Rattle.gather.specs.Inner.Stamps.{next_after, stamp_or_none}
+use Rattle.gather.specs.Inner.Gathered.{GatheredFrom, rows_in}
+use Rattle.gather.specs.Inner.Walk.{GivesStamp}
+use Rattle.gather.proofs.NextStamps.{AllRegular, used_regular, stamps_stamped, stamps_from_one}
+use Rattle.gather.proofs.Gathered.{all_regular}
+use Rattle.gather.proofs.StampsWalked.{Walking, walk_begins, step_next, step_gathered, step_rows, step_walks, walk_ends}
 use Rattle.decide.specs.declared.survey.Survey.{Survey}
 use Rattle.decide.specs.Inner.Surveyed.{surveyed, with_stamp}
 use Rattle.gather.proofs.StampsInTurn.{below, below_all, below_first, below_next, next_in}
@@ -89,3 +98,49 @@ module _ (Ts : List Table) where
 
       pub seen_held : stamp < 2 ^ 48 → 0 < length (rows_of Ts stamp)
       seen_held l = stamp_held Ts all stamp (h.one l)
+
+-- ---- step after step of the walk over the stamps
+
+module _ (run : List ℕ) (newest : ℕ) where
+  -- between two steps all stamps below the next one are seen
+  pub record Seeing (left : StampsOf) (seen : Survey) : Type 0 where
+    pub same-run : left.run.now ≡ run
+    pub walk : Walking run newest left.cursors
+    pub so-far : Seen (used_of newest (tables_of valley run)) seen (next_after left.cursors.last (stamps (used_of newest (tables_of valley run))))
+
+  module _ (images : Images valley run) where
+    used_are : AllRegular (used_of newest (tables_of valley run))
+    used_are = used_regular newest (tables_of valley run) (all_regular run images)
+
+    pub seeing_begins : (left : StampsOf) → left.run.now ≡ run → left.cursors ≡ record { newest = newest; last = 0; places = replicate 4 0 } → Seeing left (record { bodies = false; contradiction = false; stamps = 0 })
+    seeing_begins left same is =
+        let (walk, last) = walk_begins run newest left.cursors is in
+        record { same-run = same; walk = walk; so-far = seen_first _ used_are _ (rw last refl) }
+
+    module _ (left : StampsOf) (seen : Survey) (h : Seeing left seen) where
+      pub seeing_ends : None ≡ stamp_or_none (next_after left.cursors.last (stamps (used_of left.cursors.newest (tables_of valley left.run.now)))) → seen ≡ surveyed (used_of newest (tables_of valley run)) (stamps (used_of newest (tables_of valley run)))
+      seeing_ends told = seen_all _ used_are seen _ h.so-far (walk_ends run newest left.cursors h.walk (rw h.same-run at told))
+
+      module _ (g : Gathered) (after : StampsOf) (step : (after.run.now ≡ left.run.now) × GivesStamp left.run.now left.cursors (Some g) after.cursors) where
+        same-step : GivesStamp run left.cursors (Some g) after.cursors
+        same-step = rw h.same-run at step.1
+
+        next : (g.cursors.last ≡ next_after left.cursors.last (stamps (used_of newest (tables_of valley run)))) × (g.cursors.last < 2 ^ 48)
+        next = step_next run newest left.cursors h.walk g same-step.0 same-step.1
+
+        seen-here : Seen (used_of newest (tables_of valley run)) seen g.cursors.last
+        seen-here = rw (← next.0) at h.so-far
+
+        pub seeing_held : GatheredFrom run g × (0 < length (rows_in run g))
+        seeing_held = (step_gathered run newest left.cursors h.walk g same-step.0 same-step.1, rw (step_rows run newest left.cursors h.walk g same-step.0 same-step.1) (seen_held _ used_are seen _ seen-here next.1))
+
+        pub seeing_few : (seen.stamps < g.cursors.last) × (g.cursors.last < 2 ^ 48)
+        seeing_few = (seen_few _ used_are seen _ seen-here next.1, next.1)
+
+        pub seeing_next : Seeing after (with_stamp (rows_in run g) seen)
+        seeing_next =
+            record {
+              same-run = step.0 ∙ h.same-run;
+              walk = rw same-step.2 (step_walks run newest left.cursors h.walk g same-step.0 same-step.1);
+              so-far = rw (same-step.2, step_rows run newest left.cursors h.walk g same-step.0 same-step.1) (seen_next _ used_are seen _ seen-here next.1 _ refl);
+            }

@@ -1,24 +1,24 @@
 -- What a stamp's row holds before any check, in bytes: what the code puts together is what `rules` says.
 use mathlib.Core.Path.{◌≡◌, refl, sym, ap, ◌∙◌}
-use mathlib.Core.Bool.{Bool, true, false, cond, not}
-use mathlib.Core.Logic.{◌⊎◌, inl, inr}
+use mathlib.Core.Bool.{Bool, true, false, cond}
+use mathlib.Core.Logic.{inl, inr}
 use mathlib.Core.List.{List}
 use mathlib.Core.Option.{Option, none, some}
-use Prim.Native.Nat.{ℕ, ◌+◌, ◌≤◌}
+use Rattle.std.specs.Prelude as std
+use Rattle.std.specs.Option.{ForSome}
 use native.Mathlib.Omega.{arith}
-use lib.Dec.{eqb}
-use borrow.Author.Tests.{eq-eqb, eqb-false}
+use Prim.Native.Nat.{ℕ, ◌≤◌}
 use Rattle.rules.specs.Tests.{both, any, is_some}
-use Rattle.rules.specs.Tables.{Result, Result.OK, Result.ABORT, Result.ABSTAIN, Result.RETRY, Prepare, Prepare.final, Verdict.commit, Verdict.abort, Outcome, Outcome.no_outcome, Outcome.noted, Outcome.done, Row, result_code, prepare_code, prepare_retry, outcome_code, row_by_rule}
+use Rattle.rules.specs.Tables.{Result, Result.OK, Result.ABORT, Result.ABSTAIN, Result.RETRY, Prepare, Prepare.final, Verdict.commit, Verdict.abort, Outcome, Outcome.no_outcome, Outcome.noted, Outcome.done, Row, prepare_code, prepare_retry, outcome_code, row_by_rule}
 use Rattle.rules.specs.Merge.{merged_outcome, final_of, agreed_of, holds_prepare, standing_from, standing, agreed_prepare, open_prepare, unchecked_prepare}
-use Rattle.rules.proofs.Logic.{same?}
 use Rattle.rules.proofs.Lists.{◌∈◌}
 use Rattle.rules.proofs.Merge.{unchecked_retry}
 use Rattle.rules.proofs.Standings.{NoneOrDone, outcome_cases, standing_says}
 use Rattle.rows.specs.Fields.{prepare_numbered, outcome_numbered, retry_by_code}
 use Rattle.rows.proofs.Codes.{prepare_read, outcome_read, retry_of_code, prepare_code_limit, outcome_code_limit}
-use Rattle.rows.specs.declared.result.Result as rows
-use Rattle.gather.specs.Inner.State.{final_code, state_of, outcome_held}
+use Rattle.gather.specs.declared.results.HeldResult.{HeldResult}
+use Rattle.gather.specs.declared.state.State.{State}
+use Rattle.gather.specs.Inner.State.{final_held, state_of, outcome_held}
 use Rattle.gather.specs.Inner.Agreed.{agreed_as}
 use Rattle.gather.proofs.StateSeen.{state_outcome}
 use Rattle.decide.specs.declared.unchecked.Unchecked.{Unchecked}
@@ -30,32 +30,40 @@ coded p outcome = record { prepare = prepare_code p; retry = prepare_retry p; ou
 
 -- ---- a final result
 
-pub with_final : (agreement : ℕ) (rs : List Row) → ((state_of rs).prepare ≡ 0 → ⊥) → record { prepare = (state_of rs).prepare; retry = (state_of rs).retry; outcome = outcome_held (state_of rs) } ≡ unchecked_as agreement rs
+some_same : {a b : HeldResult} → ◌≡◌ {A = std.Option HeldResult} (std.Some a) (std.Some b) → a ≡ b
+some_same e = cc
+
+-- a final result with an outcome byte
+abbrev final_bytes : HeldResult → ℕ → Unchecked
+final_bytes r outcome = record { prepare = r.code; retry = r.retry; outcome = outcome }
+
+pub with_final : (agreement : ℕ) (rs : List Row) (r : HeldResult) → (state_of rs).final_result ≡ std.Some r → record { prepare = r.code; retry = r.retry; outcome = outcome_held (state_of rs) } ≡ unchecked_as agreement rs
 unfolding state_of unchecked_as standing
-with_final agreement rs d = go (final_of rs) refl
+with_final agreement rs r h = go (final_of rs) refl
   where
-    go : (f : Option Result) → final_of rs ≡ f → record { prepare = (state_of rs).prepare; retry = (state_of rs).retry; outcome = outcome_held (state_of rs) } ≡ unchecked_as agreement rs
-    go none e = absurd (d (ap final_code e))
-    go (some r) e = rw e (ap (coded (final r)) (state_outcome rs))
+    go : (f : Option Result) → final_of rs ≡ f → record { prepare = r.code; retry = r.retry; outcome = outcome_held (state_of rs) } ≡ unchecked_as agreement rs
+    go none e = let no : ◌≡◌ {A = std.Option HeldResult} std.None (std.Some r) = ap final_held (sym e) ∙ h in cc
+    go (some q) e =
+        let held : HeldResult = record { code = prepare_code (final q); retry = prepare_retry (final q) } in
+        let same : held ≡ r = some_same (ap final_held (sym e) ∙ h) in
+        rw (e, ← same) (ap (coded (final q)) (state_outcome rs))
 
 -- ---- an agreed one, an open one, none
 
-pub agreed_code : (o : Option Result) → (agreed_as o).code ≤ 4
-agreed_code none = omega arith
-agreed_code (some OK) = omega arith
-agreed_code (some ABORT) = omega arith
-agreed_code (some ABSTAIN) = omega arith
-agreed_code (some (RETRY t)) = omega arith
-
-pub agreed_some : (o : Option Result) → not (eqb (agreed_as o).code 0) ≡ is_some o
+pub agreed_some : (o : Option Result) → std.is_some (agreed_as o) ≡ is_some o
 agreed_some none = refl
-agreed_some (some OK) = refl
-agreed_some (some ABORT) = refl
-agreed_some (some ABSTAIN) = refl
-agreed_some (some (RETRY t)) = refl
+agreed_some (some r) = refl
 
-abbrev together : rows.Result → Bool → ℕ → Unchecked
-together a held outcome = record { prepare = cond (eqb a.code 0) (cond held (open_byte outcome) 0) (agreed_byte a.code outcome); retry = cond (eqb a.code 0) 0 a.retry; outcome = outcome }
+pub agreed_code : (o : Option Result) → ForSome (agreed_as o) (λ held. held.code ≤ 4)
+agreed_code none held e = cc
+agreed_code (some OK) held e = rw (← some_same e) (omega arith)
+agreed_code (some ABORT) held e = rw (← some_same e) (omega arith)
+agreed_code (some ABSTAIN) held e = rw (← some_same e) (omega arith)
+agreed_code (some (RETRY t)) held e = rw (← some_same e) (omega arith)
+
+abbrev together : std.Option HeldResult → Bool → ℕ → Unchecked
+together (std.Some r) held outcome = record { prepare = agreed_byte r.code outcome; retry = r.retry; outcome = outcome }
+together std.None held outcome = record { prepare = cond held (open_byte outcome) 0; retry = 0; outcome = outcome }
 
 -- a merge has no noted outcome
 abbrev Said : Outcome → Type 0
@@ -91,24 +99,32 @@ not_final (some q) held o s = agreed_coded q held o s
 not_final none true o s = open_coded o s
 not_final none false o s = refl
 
-pub without_final_lem : (agreement : ℕ) (rs : List Row) → (state_of rs).prepare ≡ 0 → without_final (state_of rs) (agreed_as (agreed_of agreement rs)) ≡ unchecked_as agreement rs
-unfolding state_of without_final unchecked_as standing
-without_final_lem agreement rs z = go (final_of rs) refl
+without_as : (x : State) (a : std.Option HeldResult) → without_final x a ≡ together a x.held (outcome_held x)
+unfolding without_final
+without_as x (std.Some r) = refl
+without_as x std.None = refl
+
+pub without_final_lem : (agreement : ℕ) (rs : List Row) → (state_of rs).final_result ≡ std.None → without_final (state_of rs) (agreed_as (agreed_of agreement rs)) ≡ unchecked_as agreement rs
+unfolding state_of unchecked_as standing
+without_final_lem agreement rs z = without_as (state_of rs) (agreed_as (agreed_of agreement rs)) ∙ go (final_of rs) refl
   where
-    go : (f : Option Result) → final_of rs ≡ f → without_final (state_of rs) (agreed_as (agreed_of agreement rs)) ≡ unchecked_as agreement rs
-    go (some r) e = let k : 4 + result_code r ≡ 0 = sym (ap final_code e) ∙ z in absurd (omega arith)
+    go : (f : Option Result) → final_of rs ≡ f → together (agreed_as (agreed_of agreement rs)) (state_of rs).held (outcome_held (state_of rs)) ≡ unchecked_as agreement rs
+    go (some r) e = let no : ◌≡◌ {A = std.Option HeldResult} (final_held (some r)) std.None = ap final_held (sym e) ∙ z in cc
     go none e =
         let held = any (λ r. holds_prepare r.prepare) rs in
         rw e (ap (together (agreed_as (agreed_of agreement rs)) held) (state_outcome rs) ∙ not_final (agreed_of agreement rs) held (merged_outcome rs) (merged_said rs))
 
+from_as : (x : State) (a f : std.Option HeldResult) → x.final_result ≡ f → unchecked_from x a ≡ elim f [ std.Some r ↦ final_bytes r (outcome_held x) | std.None ↦ without_final x a ]
+unfolding unchecked_from
+from_as x a f e = rw (← e) refl
+
 -- a final result as it is held, or what the agreed one says
 pub unchecked_from_lem : (agreement : ℕ) (rs : List Row) → unchecked_from (state_of rs) (agreed_as (agreed_of agreement rs)) ≡ unchecked_as agreement rs
-unfolding unchecked_from
-unchecked_from_lem agreement rs = go (same? (state_of rs).prepare 0)
+unchecked_from_lem agreement rs = go (state_of rs).final_result refl
   where
-    go : ((state_of rs).prepare ≡ 0) ⊎ (eqb (state_of rs).prepare 0 ≡ false) → cond (eqb (state_of rs).prepare 0) (without_final (state_of rs) (agreed_as (agreed_of agreement rs))) (record { prepare = (state_of rs).prepare; retry = (state_of rs).retry; outcome = outcome_held (state_of rs) }) ≡ unchecked_as agreement rs
-    go (inl z) = rw (eq-eqb (state_of rs).prepare 0 z) (without_final_lem agreement rs z)
-    go (inr d) = rw d (with_final agreement rs (eqb-false (state_of rs).prepare 0 d))
+    go : (f : std.Option HeldResult) → (state_of rs).final_result ≡ f → unchecked_from (state_of rs) (agreed_as (agreed_of agreement rs)) ≡ unchecked_as agreement rs
+    go (std.Some r) e = from_as _ _ _ e ∙ with_final agreement rs r e
+    go std.None e = from_as _ _ _ e ∙ without_final_lem agreement rs e
 
 -- ---- they can be stored, and are read as what they say
 

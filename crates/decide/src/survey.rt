@@ -1,15 +1,17 @@
-// What all stamps of the used tables say together, before anything is written: 5, 6 and 7.
+// What all stamps of the used tables say together, before anything is written: other body, contradiction and full.
 ghost use Rattle.std.specs.Prelude.{◌≡◌, ◌^◌, ◌<◌, ◌≤◌, length};
 ghost use Rattle.rules.specs.Tables.{valley};
 ghost use Rattle.rules.specs.Merge.{stamps};
 ghost use Rattle.image_run.specs.Inner.WholeRuns.{tables_of, Images};
 ghost use Rattle.gather.specs.Inner.UsedTables.{used_of};
 ghost use Rattle.gather.specs.Inner.Gathered.{GatheredFrom, rows_in};
+ghost use Rattle.numbers.specs.Inner.Ended.{ended_with};
 ghost use Rattle.decide.specs.Inner.Surveyed.{surveyed, with_stamp, survey_number};
 
 use gather::held::Gathered;
-use gather::stamps::Cursors;
-use gather::{bodies, held, stamps, state};
+use gather::walk::StampsOf;
+use gather::{bodies, state};
+use numbers::Refusal;
 
 // Whether a stamp has two bodies, whether one is held with a contradiction, and how many stamps there are.
 #[derive(Clone, Copy)]
@@ -20,19 +22,16 @@ pub struct Survey {
 }
 
 // One more stamp, with its rows.
-fn with_stamp(mut survey: Survey, run: &[u8], gathered: Gathered) -> Survey
+fn with_stamp(survey: Survey, run: &[u8], gathered: Gathered) -> Survey
     requires images { Images valley run.now × (length (tables_of valley run.now) ≤ 4) × GatheredFrom run.now gathered × (0 < length (rows_in run.now gathered)) }
     requires stamps_lt_last { (survey.stamps < gathered.cursors.last) × (gathered.cursors.last < 2 ^ 48) }
     ensures { result ≡ with_stamp (rows_in run.now gathered) survey }
 {
-    if bodies::two_bodies(run, gathered) {
-        survey.bodies = true;
+    Survey {
+        bodies: survey.bodies || bodies::two_bodies(run, gathered),
+        contradiction: survey.contradiction || state::state_of(gathered).contradicts(),
+        stamps: survey.stamps + 1,
     }
-    if state::state_of(gathered).contradicts() {
-        survey.contradiction = true;
-    }
-    survey.stamps += 1;
-    survey
 }
 
 // All stamps of the used tables of a run.
@@ -45,31 +44,26 @@ pub fn survey_stamps(run: &[u8], newest: u32) -> Survey
         contradiction: false,
         stamps: 0,
     };
-    let mut cursors = Cursors::start(newest);
-    let mut stamp = stamps::next_stamp(run, cursors);
-    while stamp < stamps::NO_STAMP {
-        let gathered = held::gather(run, cursors, stamp);
+    for gathered in StampsOf::used(run, newest) {
         seen = with_stamp(seen, run, gathered);
-        cursors = gathered.cursors;
-        stamp = stamps::next_stamp(run, cursors);
     }
     seen
 }
 
 impl Survey {
-    // What refuses a merge, of the stamps alone.
-    pub fn number(self, limit: u16) -> u8
-        ensures { result ≡ survey_number limit self }
+    // Whether the stamps allow a merge, or what they refuse it for.
+    pub fn allows_merge(self, limit: u16) -> Result<(), Refusal>
+        ensures { ended_with result ≡ survey_number limit self }
     {
         if self.bodies {
-            return 5;
+            return Err(Refusal::OtherBody);
         }
         if self.contradiction {
-            return 6;
+            return Err(Refusal::Contradiction);
         }
-        if (limit as usize) < self.stamps {
-            return 7;
+        if usize::from(limit) < self.stamps {
+            return Err(Refusal::Full);
         }
-        0
+        Ok(())
     }
 }

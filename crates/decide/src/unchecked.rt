@@ -1,11 +1,12 @@
 // What a stamp's row holds before any check; nothing, if a check is still to come.
 ghost use Rattle.std.specs.Prelude.{◌≡◌, ◌≤◌};
+ghost use Rattle.std.specs.Option.{ForSome};
 ghost use Rattle.decide.specs.Inner.Unsettled.{agreed_byte, open_byte, without_final, unchecked_from};
 
+use gather::results::HeldResult;
 use gather::state::State;
-use rows::result::Result;
 
-// A row's state: the prepare byte with its retry stamp, and the outcome byte.
+// A row's state: the prepare byte with its retry stamp, and the outcome byte. They are bytes, since they are written as they stand.
 #[derive(Clone, Copy)]
 pub struct Unchecked {
     pub prepare: u8,
@@ -14,69 +15,59 @@ pub struct Unchecked {
 }
 
 // An agreed result: not OK stays, OK with an outcome stays, OK without one is checked.
+#[tactic(auto, unfolding(rules::specs::Tests::both))]
 fn agreed_byte(code: u8, outcome: u8) -> u8
     requires { code ≤ 4 }
     ensures { result ≡ agreed_byte code outcome }
 {
-    if code == 1 {
-        if outcome == 0 {
-            return 0;
-        }
+    match (code, outcome) {
+        (1, 0) => 0,
+        _ => code + 4,
     }
-    code + 4
 }
 
 // An open one: OK with commit, ABORT with abort, otherwise checked.
 fn open_byte(outcome: u8) -> u8
     ensures { result ≡ open_byte outcome }
 {
-    if outcome == 0 {
-        return 0;
+    match outcome {
+        0 => 0,
+        3 => 5,
+        _ => 6,
     }
-    if outcome == 3 {
-        return 5;
-    }
-    6
 }
 
 // Where no final result is held: an agreed result, an open one, or no prepare at all.
-fn without_final(state: State, agreed: Result) -> Unchecked
-    requires { agreed.code ≤ 4 }
+#[tactic(auto, unfolding(crate::specs::Inner::Unsettled::without_final))]
+fn without_final(state: State, agreed: Option<HeldResult>) -> Unchecked
+    requires { ForSome agreed (λ held. held.code ≤ 4) }
     ensures { result ≡ without_final state agreed }
 {
     let outcome = state.outcome();
-    if agreed.code != 0 {
-        return Unchecked {
-            prepare: agreed_byte(agreed.code, outcome),
-            retry: agreed.retry,
-            outcome,
-        };
-    }
-    if state.held {
-        return Unchecked {
-            prepare: open_byte(outcome),
-            retry: 0,
-            outcome,
-        };
-    }
+    let (prepare, retry) = match agreed {
+        Some(held) => (agreed_byte(held.code, outcome), held.retry),
+        None if state.held => (open_byte(outcome), 0),
+        None => (0, 0),
+    };
     Unchecked {
-        prepare: 0,
-        retry: 0,
+        prepare,
+        retry,
         outcome,
     }
 }
 
 // The state of a stamp's row, by what its rows hold together and by the result that is agreed. A final result stays.
-pub fn unchecked_state(state: State, agreed: Result) -> Unchecked
-    requires { agreed.code ≤ 4 }
+#[tactic(auto, unfolding(crate::specs::Inner::Unsettled::unchecked_from))]
+pub fn unchecked_state(state: State, agreed: Option<HeldResult>) -> Unchecked
+    requires { ForSome agreed (λ held. held.code ≤ 4) }
     ensures { result ≡ unchecked_from state agreed }
 {
-    if state.prepare != 0 {
-        return Unchecked {
-            prepare: state.prepare,
-            retry: state.retry,
+    match state.final_result {
+        Some(held) => Unchecked {
+            prepare: held.code,
+            retry: held.retry,
             outcome: state.outcome(),
-        };
+        },
+        None => without_final(state, agreed),
     }
-    without_final(state, agreed)
 }

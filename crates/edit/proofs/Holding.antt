@@ -52,6 +52,15 @@ holds_least F s k h =
 pub one_starts : Starts format_one
 one_starts rows = refl
 
+-- ---- of an image in format 1
+
+pub one_least : (s : List ℕ) → Holds format_one s → 24 ≤ length s
+one_least s h = holds_least format_one s one_starts h
+
+-- the image ends where its header says, inside the buffer
+pub one_end : (s : List ℕ) → AllBytes s → Holds format_one s → (header_at s).length ≤ length s
+one_end s a h = rw (holds_header format_one s a h) (holds_long format_one s one_starts h)
+
 -- the row at an index lies inside
 pub holds_row_inside : (F : Form) (s : List ℕ) (i : ℕ) → Starts F → Holds F s → i < (header_at s).rows → F.begin + 24 * i + 24 ≤ length s
 holds_row_inside F s i k h m =

@@ -19,18 +19,21 @@ use rows::row::RowFields;
 use table::header;
 
 // Where the body of a row that comes to an index goes: before that of the row that stands there, or after all of them.
+#[tactic(auto, using(rules::proofs::Chains::tests), unfolding(crate::specs::Inner::Parts::body_place))]
 fn body_place(image: &[u8], begin: usize, rows: usize, index: usize, end: usize) -> usize
     requires { begin + row_length * rows ≤ length image.now }
     ensures { result ≡ body_place image.now begin rows index end }
 {
     if index < rows {
-        return row::row_at(image, begin, index).offset as usize;
+        row::row_at(image, begin, index).offset as usize
+    } else {
+        end
     }
-    end
 }
 
 // Puts a row in at an index and a body in at `middle`, from the end down, so that each part that moves goes to where nothing is needed any more.
-// Rows from the index on and the bodies up to the new one stand side by side, and move as one part.
+// Rows from the index on and the bodies up to the new one stand side by side, and move as one part. The places are arguments here and in `place_row`: a struct of them would be made for one call and taken apart at once.
+#[tactic(auto, using(crate::proofs::Slipped::slipped_steps, rows::proofs::FieldsRead::length_fields))]
 fn slip_in(
     image: &mut [u8],
     begin: usize,
@@ -56,21 +59,21 @@ fn slip_in(
 }
 
 // Lays the offsets of all rows anew, by their counts: the first body right behind the rows, each other behind the one before.
+#[tactic(auto, using(crate::proofs::LaidRows::lay_turn, crate::proofs::LaidRows::lay_end))]
 pub fn lay_offsets(image: &mut [u8], begin: usize, rows: usize)
     requires { (begin + row_length * rows ≤ length image.old) × (begin ≤ 65536) × (rows ≤ 65536) }
     ensures { image.new ≡ laid image.old begin rows (begin + row_length * rows) }
 {
     let mut due = begin + row::LENGTH * rows;
-    let mut i: usize = 0;
-    while i < rows {
+    for i in 0..rows {
         let row = row::row_at(image, begin, i);
         wire::put_u32(image, begin + row::LENGTH * i + 16, due as u32);
         due += row::body_length(row.reads, row.writes);
-        i += 1;
     }
 }
 
 // A row and its body in their places among `rows` rows that begin there and whose bodies end at `end`.
+#[tactic(auto, unfolding(crate::specs::Inner::Parts::placed))]
 fn place_row(
     image: &mut [u8],
     begin: usize,

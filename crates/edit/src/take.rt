@@ -11,6 +11,7 @@ ghost use Rattle.edit.specs.Edited.{edited};
 use table::header;
 
 // Clears what an image that now ends at `end` gave up, if it ended at `old` before.
+#[tactic(auto, using(wire::proofs::Parts::replaced_nothing))]
 fn clear_given_up(table: &mut [u8], end: usize, old: usize)
     requires { old ≤ length table.old }
     ensures { table.new ≡ replaced table.old end (replicate (old - end) 0) }
@@ -21,6 +22,7 @@ fn clear_given_up(table: &mut [u8], end: usize, old: usize)
 }
 
 // Takes the image that lent bytes begin with, whole, in the place of the table's own; the box stays this box.
+#[tactic(auto, using(crate::proofs::Holding::one_least))]
 pub fn take_image(table: &mut [u8], image: &[u8])
     requires { Holds format_one table.old × Holds format_one image.now × ((header_at image.now).length ≤ length table.old) }
     ensures { table.new ≡ edited format_one (taking (table_at format_one image.now)) table.old }

@@ -9,6 +9,7 @@ ghost use Rattle.edit.specs.Edited.{edited};
 use table::header;
 
 // Sets mode, view and promise at once. That promised and view fit the mode is for the caller to see to.
+#[tactic(auto, using(crate::proofs::Holding::one_least))]
 pub fn set_views(table: &mut [u8], mode: u8, view: u32, promised: u32)
     requires { Holds format_one table.old }
     ensures { table.new ≡ edited format_one (with_views mode view promised) table.old }
@@ -21,6 +22,7 @@ pub fn set_views(table: &mut [u8], mode: u8, view: u32, promised: u32)
 }
 
 // The box promises a view, and is changing from now on.
+#[tactic(auto, using(crate::proofs::Holding::one_least, crate::proofs::EditedParts::promise_edited))]
 pub fn promise(table: &mut [u8], view: u32)
     requires { Holds format_one table.old }
     ensures { table.new ≡ edited format_one (λ T. promising T view) table.old }

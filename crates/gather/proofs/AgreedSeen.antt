@@ -3,7 +3,7 @@ use mathlib.Core.Path.{◌≡◌, refl, ap₂}
 use mathlib.Core.Bool.{Bool, true, false, cond}
 use mathlib.Core.List.{List, [], ◌∷◌}
 use mathlib.Core.Option.{Option, none}
-use Prim.Native.Nat.{ℕ, ◌+◌, ◌*◌, ◌<◌, ◌≤◌}
+use Prim.Native.Nat.{ℕ, ◌+◌, ◌<◌, ◌≤◌}
 use native.Mathlib.Omega.{arith}
 use lib.Dec.{eqb, leb}
 use borrow.Author.Tests.{ne_eqb}
@@ -11,7 +11,8 @@ use Rattle.rules.specs.Tests.{both, count, provided, or_else, first_of}
 use Rattle.rules.specs.Tables.{Result, Result.OK, Result.ABORT, Result.ABSTAIN, Result.RETRY, Prepare, Prepare.no_prepare, Prepare.tentative, Prepare.final, Row, result_code, result_retry, prepare_code, prepare_retry, same_result}
 use Rattle.rules.specs.Merge.{holds_tentative, is_agreed, tentative_result, if_agreed, agreed_of}
 use Rattle.rules.proofs.Logic.{eqb_sym}
-use Rattle.rows.specs.declared.result.Result as held
+use Rattle.std.specs.Prelude as std
+use Rattle.gather.specs.declared.results.HeldResult.{HeldResult}
 use Rattle.gather.specs.Inner.Agreed.{is_tentative, agreed_as}
 
 -- ---- a result by its codes
@@ -74,8 +75,8 @@ pub agreed_none : (agreement : ℕ) (all : List Row) → agreed_of_these agreeme
 unfolding first_of
 agreed_none agreement all = refl
 
-abbrev codes_of : ℕ → ℕ → held.Result
-codes_of prepare retry = record { code = prepare; retry = retry }
+abbrev codes_of : ℕ → ℕ → std.Option HeldResult
+codes_of prepare retry = std.Some (record { code = prepare; retry = retry })
 
 one_agreed : (agreement : ℕ) (all : List Row) (p : Prepare) (rest : Option Result) → agreed_as (or_else (if_agreed agreement all (tentative_result p)) rest) ≡ cond (is_enough agreement all (prepare_code p) (prepare_retry p)) (codes_of (prepare_code p) (prepare_retry p)) (agreed_as rest)
 unfolding is_agreed both

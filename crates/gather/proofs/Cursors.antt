@@ -5,12 +5,12 @@ use mathlib.Core.Logic.{◌⊎◌, inl, inr}
 use mathlib.Core.List.Memᴰ
 use mathlib.Core.List.{List, [], ◌∷◌, map}
 use mathlib.Core.Option.{Option, none, some}
-use Prim.Native.Nat.{ℕ, zero, suc, ◌+◌, ◌-◌, ◌*◌, ◌<◌, ◌≤◌, ◌^◌, min}
+use Prim.Native.Nat.{ℕ, zero, suc, ◌+◌, ◌-◌, ◌*◌, ◌<◌, ◌≤◌, ◌^◌}
 use native.Mathlib.Omega.{arith}
 use lib.Dec.{eqb, ltb}
 use lib.ListN.{length, replicate}
 use borrow.Author.Tests.{ltb-true, ltb-false, lt-ltb, le-ltb, eq-eqb, ne_eqb}
-use Rattle.rules.specs.Tests.{is_some, those, count, first_of}
+use Rattle.rules.specs.Tests.{is_some, count, first_of}
 use Rattle.rules.specs.Tables.{Row, Table, rising}
 use Rattle.rules.specs.Messages.{held}
 use Rattle.rules.specs.Merge.{stamps}
@@ -19,7 +19,6 @@ use Rattle.rules.proofs.Lists.{◌∈◌}
 use Rattle.rules.proofs.Rows.{held_cons, held_from_lem, held_is, rising_above}
 use Rattle.rules.proofs.Tables.{Regular}
 use Rattle.rules.proofs.Merge.{stamps_of}
-use Rattle.rows.specs.declared.lookup.Place.{Place}
 use Rattle.rows.specs.declared.lookup.Place.TheVariants.{Held, Absent}
 use Rattle.rows.specs.Fields.{fields_at}
 use Rattle.rows.specs.Inner.Places.{lower, held_or_not, place_of}
@@ -27,7 +26,7 @@ use Rattle.rows.specs.Read.{row_of, rows_at}
 use Rattle.rows.proofs.Sought.{lower_cons, none_lower, ordered, held_row}
 use Rattle.gather.specs.Inner.UsedTables.{used_of}
 use Rattle.gather.specs.Inner.Stamps.{next_after, stamp_above}
-use Rattle.gather.specs.Inner.Cursors.{padded, cursor_in, places_at}
+use Rattle.gather.specs.Inner.Cursors.{padded, cursor_in}
 use Rattle.gather.proofs.NextStamps.{AllRegular, Above, index_of, index_above, next_here, next_past, next_turn}
 use Rattle.gather.proofs.StampsInTurn.{next_in}
 

@@ -1,17 +1,18 @@
 -- What each walk over a run for one stamp does in a turn, and at its end.
 use mathlib.Core.Path.{◌≡◌, refl, sym, ap, ◌∙◌}
-use mathlib.Core.Bool.{true, false}
-use mathlib.Core.Logic.{inl, inr}
+use mathlib.Core.Bool.{true, false, cond}
+use mathlib.Core.Logic.{◌⊎◌, inl, inr}
 use mathlib.Core.List.{List, [], ◌∷◌, map}
 use Prim.Native.Nat.{ℕ, suc, ◌+◌, ◌-◌, ◌≤◌, ◌<◌, ◌^◌, min}
 use native.Mathlib.Omega.{arith}
-use lib.ListN.{length, get_or, set, take, drop, replicate, length-map}
+use lib.Dec.{eqb}
+use lib.ListN.{length, set, take, drop, replicate, length-map, length-set, length-drop}
 use lib.Seq.{drop-drop}
 use Rattle.wire.specs.Inner.ByteLists.{AllBytes}
 use Rattle.wire.proofs.Numbers.{all_drop}
 use Rattle.rules.specs.Tests.{either, any, those, all_of}
 use Rattle.rules.specs.Stamps.{Body}
-use Rattle.rules.specs.Tables.{Row, Table, valley}
+use Rattle.rules.specs.Tables.{Table, valley}
 use Rattle.rules.specs.Merge.{rows_of, stamps}
 use Rattle.rules.proofs.Logic.{impossible}
 use Rattle.rules.proofs.Tables.{table_facts}
@@ -21,21 +22,23 @@ use Rattle.table.specs.Headers.{header_at}
 use Rattle.table.specs.Images.{format_one, image_length}
 use Rattle.table.specs.Parse.{table_at, BeginsWithImage}
 use Rattle.table.proofs.Images.{valley_sound, parsed}
-use Rattle.seek.proofs.HeldRows.{image_regular}
 use Rattle.image_run.specs.Inner.WholeRuns.{tables_of, Images}
-use Rattle.image_run.proofs.RunTurns.{Turn, turn, rest_of, walked, laid_images_lem}
+use Rattle.image_run.specs.Inner.Walk.{NextImage}
+use Rattle.image_run.proofs.RunTurns.{turn, rest_of, laid_images_lem}
+use Rattle.image_run.proofs.TablesWalked.{none_left}
 use Rattle.gather.specs.declared.stamps.Cursors.{Cursors}
 use Rattle.gather.specs.declared.held.Gathered.{Gathered}
 use Rattle.gather.specs.Inner.UsedTables.{used_of, place_in, is_held, no_fields, fields_for, from_first, other_in}
-use Rattle.gather.specs.Inner.Stamps.{next_after, stamp_above}
+use Rattle.gather.specs.Inner.Stamps.{next_after}
 use Rattle.gather.specs.Inner.Cursors.{padded, cursor_in, places_at, StandIn}
 use Rattle.gather.specs.Inner.Gathered.{fields_in, gathered_at, GatheredFrom, rows_in}
 use Rattle.gather.proofs.UsedRows.{Told}
 use Rattle.gather.proofs.UsedRows as used
-use Rattle.gather.proofs.Places.{filled_from, filled_on, filled_end, filled_padded, HasFrom, has_all, has_here, has_later}
+use Rattle.gather.proofs.Places.{filled_from, filled_on, filled_end, filled_padded, HasAll, has_all_four, has_next, has_none, none_beside}
+use Rattle.gather.proofs.OneRow.{gathered_held, gathered_not, cursor_behind}
 use Rattle.gather.proofs.StampsInTurn.{next_is_above}
 use Rattle.gather.proofs.Cursors.{cursors_first, cursors_up}
-use Rattle.gather.proofs.NextStamps.{AllRegular, stamps_stamped, next_most, used_regular, next_turn, next_none}
+use Rattle.gather.proofs.NextStamps.{AllRegular, stamps_stamped, next_most, used_regular}
 
 -- what is left of a run from a place on, as it is handed on
 abbrev pub part_at : List ℕ → ℕ → List ℕ
@@ -49,113 +52,143 @@ left s at = tables_of valley (drop at s)
 pub all_regular : (s : List ℕ) → Images valley s → AllRegular (tables_of valley s)
 all_regular s are T m = (table_facts valley T ((laid_images_lem valley s (tables_of valley s) are).1 T m)).0
 
-pub part_bytes : (s : List ℕ) → AllBytes s → (at : ℕ) → AllBytes (part_at s at)
-part_bytes s bytes at = rw (rest_of s at) (all_drop at s bytes)
-
 pub image_part : (s : List ℕ) (at : ℕ) → at < length s → Images valley (drop at s) → BeginsWithImage valley (part_at s at)
 image_part s at more are = rw (rest_of s at) (turn s at more are).has_image
 
--- the header h was read there
-module _ (newest stamp : ℕ) (s : List ℕ) (bytes : AllBytes s) (at : ℕ) (more : at < length s) (are : Images valley (drop at s)) (h : Header) (told : h ≡ header_at (part_at s at)) where
-  t : Turn valley s at
-  t = turn s at more are
+-- ---- the next image of a walk
 
-  bytes_left : AllBytes (drop at s)
-  bytes_left = all_drop at s bytes
+module _ (newest stamp : ℕ) (s left : List ℕ) (n : NextImage s left) where
+  length_told : image_length format_one (table_at format_one s) ≡ (header_at s).length
+  length_told = sym (ap (λ (x : Header). x.length) (parsed format_one valley s (table_at format_one s) valley_sound n.has_image).header)
 
-  tables_on : left s at ≡ table_at format_one (drop at s) ∷ left s (at + h.length)
-  tables_on = rw (told ∙ ap header_at (rest_of s at)) t.here
+  behind : drop (image_length format_one (table_at format_one s)) s ≡ left
+  behind = ap (λ k. drop k s) length_told ∙ sym n.behind
 
-  length_told : image_length format_one (table_at format_one (drop at s)) ≡ h.length
-  length_told = rw (told ∙ ap header_at (rest_of s at)) (sym (ap (λ (x : Header). x.length) (parsed format_one valley (drop at s) (table_at format_one (drop at s)) valley_sound t.has_image).header))
+  pub other_on : (x : Body) → any (other_in newest stamp x) (tables_of valley s) ≡ either (other_in newest stamp x (table_at format_one s)) (any (other_in newest stamp x) (tables_of valley left))
+  unfolding any
+  other_on x = ap (any (other_in newest stamp x)) n.tables
 
-  pub other_is : (x : Body) → other_in newest stamp x (table_at format_one (part_at s at)) ≡ true → true ≡ any (other_in newest stamp x) (left s at)
-  unfolding any either
-  other_is x e = rw tables_on (rw (rw (rest_of s at) at e) refl)
-
-  pub other_next : (x : Body) → other_in newest stamp x (table_at format_one (part_at s at)) ≡ false → any (other_in newest stamp x) (left s (at + h.length)) ≡ any (other_in newest stamp x) (left s at)
-  unfolding any either
-  other_next x e = rw tables_on (rw (rw (rest_of s at) at e) refl)
-
-  pub first_is : is_held (place_in newest (table_at format_one (part_at s at)) stamp) ≡ true → part_at s at ≡ from_first newest stamp (left s at) (drop at s)
+  pub first_is : is_held (place_in newest (table_at format_one s) stamp) ≡ true → s ≡ from_first newest stamp (tables_of valley s) s
   unfolding from_first
-  first_is e = rw tables_on (rw (rw (rest_of s at) at e) (rest_of s at))
+  first_is e = rw n.tables (rw e refl)
 
-  pub first_next : is_held (place_in newest (table_at format_one (part_at s at)) stamp) ≡ false → from_first newest stamp (left s (at + h.length)) (drop (at + h.length) s) ≡ from_first newest stamp (left s at) (drop at s)
+  pub first_next : is_held (place_in newest (table_at format_one s) stamp) ≡ false → from_first newest stamp (tables_of valley s) s ≡ from_first newest stamp (tables_of valley left) left
   unfolding from_first
-  first_next e = rw tables_on (rw (rw (rest_of s at) at e, length_told, drop-drop h.length at s) refl)
+  first_next e = rw n.tables (rw (e, behind) refl)
 
-  -- an array that has something of each table that is left
-  pub few_on : (k : ℕ) → k + length (left s at) ≤ 4 → (k < 4) × (k + 1 + length (left s (at + h.length)) ≤ 4)
-  few_on k l = let e = ap length tables_on in (omega arith, omega arith)
-
-  module _ (places : List ℕ) (k x : ℕ) (has : HasFrom 0 places k (map (cursor_in newest x) (left s at))) where
-    has_cursors : HasFrom 0 places k (cursor_in newest x (table_at format_one (drop at s)) ∷ map (cursor_in newest x) (left s (at + h.length)))
-    has_cursors = rw tables_on at has
-
-    pub cursor_on : get_or places k 0 ≡ cursor_in newest x (table_at format_one (part_at s at))
-    cursor_on = rw (rest_of s at) (has_here 0 places k (cursor_in newest x (table_at format_one (drop at s))) (map (cursor_in newest x) (left s (at + h.length))) has_cursors)
-
-    pub cursors_on : HasFrom 0 places (k + 1) (map (cursor_in newest x) (left s (at + h.length)))
-    cursors_on = has_later 0 places k (cursor_in newest x (table_at format_one (drop at s))) (map (cursor_in newest x) (left s (at + h.length))) has_cursors
-
-  fields_on : fields_in newest stamp (left s at) (drop at s) ≡ fields_for (part_at s at) (place_in newest (table_at format_one (part_at s at)) stamp) ∷ fields_in newest stamp (left s (at + h.length)) (drop (at + h.length) s)
+  pub fields_on : fields_in newest stamp (tables_of valley s) s ≡ fields_for s (place_in newest (table_at format_one s) stamp) ∷ fields_in newest stamp (tables_of valley left) left
   unfolding fields_in
-  fields_on = rw (tables_on, rest_of s at) (rw (length_told, drop-drop h.length at s) refl)
-
-  module _ (rows : List RowFields) (k : ℕ) (has : HasFrom no_fields rows k (fields_in newest stamp (left s at) (drop at s))) where
-    has_rows : HasFrom no_fields rows k (fields_for (part_at s at) (place_in newest (table_at format_one (part_at s at)) stamp) ∷ fields_in newest stamp (left s (at + h.length)) (drop (at + h.length) s))
-    has_rows = rw fields_on at has
-
-    pub row_on : get_or rows k no_fields ≡ fields_for (part_at s at) (place_in newest (table_at format_one (part_at s at)) stamp)
-    row_on = has_here no_fields rows k (fields_for (part_at s at) (place_in newest (table_at format_one (part_at s at)) stamp)) (fields_in newest stamp (left s (at + h.length)) (drop (at + h.length) s)) has_rows
-
-    pub rows_on : HasFrom no_fields rows (k + 1) (fields_in newest stamp (left s (at + h.length)) (drop (at + h.length) s))
-    rows_on = has_later no_fields rows k (fields_for (part_at s at) (place_in newest (table_at format_one (part_at s at)) stamp)) (fields_in newest stamp (left s (at + h.length)) (drop (at + h.length) s)) has_rows
-
-  -- arrays that are filled
-  pub rows_filled : (rows : List RowFields) (k : ℕ) (f : RowFields) → f ≡ fields_for (part_at s at) (place_in newest (table_at format_one (part_at s at)) stamp) → filled_from (k + 1) (set rows k f) (fields_in newest stamp (left s (at + h.length)) (drop (at + h.length) s)) ≡ filled_from k rows (fields_in newest stamp (left s at) (drop at s))
-  rows_filled rows k f e = rw (e, fields_on) (sym (filled_on k rows _ _))
-
-  pub places_filled : (places : List ℕ) (k x i : ℕ) → i ≡ cursor_in newest x (table_at format_one (part_at s at)) → filled_from (k + 1) (set places k i) (map (cursor_in newest x) (left s (at + h.length))) ≡ filled_from k places (map (cursor_in newest x) (left s at))
-  places_filled places k x i e = rw (e, rest_of s at, tables_on) (sym (filled_on k places _ _))
+  fields_on = rw n.tables (rw behind refl)
 
   -- a table that does not hold the stamp adds nothing to its rows
-  pub rows_next : is_held (place_in newest (table_at format_one (part_at s at)) stamp) ≡ false → rows_of (used_of newest (left s at)) stamp ≡ rows_of (used_of newest (left s (at + h.length))) stamp
-  rows_next e = rw tables_on (go (used.told newest stamp (drop at s) bytes_left t.has_image (left s (at + h.length))) (rw (rest_of s at) at e))
+  pub rows_next : AllBytes s → is_held (place_in newest (table_at format_one s) stamp) ≡ false → rows_of (used_of newest (tables_of valley s)) stamp ≡ rows_of (used_of newest (tables_of valley left)) stamp
+  rows_next bytes e = rw n.tables (go (used.told newest stamp s bytes n.has_image (tables_of valley left)))
     where
-      go : Told newest stamp (drop at s) bytes_left t.has_image (left s (at + h.length)) → is_held (place_in newest (table_at format_one (drop at s)) stamp) ≡ false → rows_of (used_of newest (table_at format_one (drop at s) ∷ left s (at + h.length))) stamp ≡ rows_of (used_of newest (left s (at + h.length))) stamp
-      go (inl (i, w)) d = impossible (rw w.place refl) d
-      go (inr (i, w)) d = w.rows
+      go : Told newest stamp s bytes n.has_image (tables_of valley left) → rows_of (used_of newest (table_at format_one s ∷ tables_of valley left)) stamp ≡ rows_of (used_of newest (tables_of valley left)) stamp
+      go (inl (i, w)) = impossible (rw w.place refl) e
+      go (inr (i, w)) = w.rows
 
-  -- the same for the stamps: `stamp` is the last one here
-  next_on : next_after stamp (stamps (used_of newest (left s at))) ≡ min (stamp_above newest (table_at format_one (part_at s at)) stamp) (next_after stamp (stamps (used_of newest (left s (at + h.length)))))
-  next_on =
-      let o : Images valley (drop (at + h.length) s) = rw (told ∙ ap header_at (rest_of s at)) t.onward in
-      rw (rest_of s at, tables_on) (next_turn newest stamp (table_at format_one (drop at s)) (left s (at + h.length)) (image_regular valley (drop at s) t.has_image).0 (all_regular (drop (at + h.length) s) o))
+  pub bytes_left : AllBytes s → AllBytes left
+  bytes_left bytes = rw n.behind (all_drop (header_at s).length s bytes)
 
-  pub next_step : (next above : ℕ) → above ≡ stamp_above newest (table_at format_one (part_at s at)) stamp → min (min next above) (next_after stamp (stamps (used_of newest (left s (at + h.length))))) ≡ min next (next_after stamp (stamps (used_of newest (left s at))))
-  next_step next above e = rw next_on (let f = e in omega arith)
+-- ---- how far a walk has come
 
-module _ (newest stamp : ℕ) (s : List ℕ) (at : ℕ) (over : length s ≤ at) where
-  pub rows_end : (rows : List RowFields) (k : ℕ) → filled_from k rows (fields_in newest stamp (left s at) (drop at s)) ≡ rows
-  unfolding fields_in
-  rows_end rows k = rw (walked valley s at over) (filled_end k rows)
+-- what is left of a run is a part of it, to its end
+pub record PartOf (run rest : List ℕ) : Type 0 where
+  pub at : ℕ
+  pub within : at ≤ length run
+  pub is : rest ≡ drop at run
 
-  pub places_end : (places : List ℕ) (k x : ℕ) → filled_from k places (map (cursor_in newest x) (left s at)) ≡ places
-  places_end places k x = rw (walked valley s at over) (filled_end k places)
+pub part_on : (run s left : List ℕ) → NextImage s left → PartOf run s → PartOf run left
+part_on run s left n part =
+    let l = part.within in
+    let w = n.within in
+    let e = ap length part.is ∙ length-drop part.at run in
+    record { at = part.at + (header_at s).length; within = omega arith; is = n.behind ∙ ap (drop (header_at s).length) part.is ∙ drop-drop (header_at s).length part.at run }
 
-  pub none_left : rows_of (used_of newest (left s at)) stamp ≡ []
-  unfolding those rows_of all_of
-  none_left = rw (walked valley s at over) refl
+-- it begins where as many bytes are left
+pub part_begins : (run rest : List ℕ) → PartOf run rest → (length rest ≤ length run) × (drop (length run - length rest) run ≡ rest)
+part_begins run rest part =
+    let l = part.within in
+    let e = ap length part.is ∙ length-drop part.at run in
+    let k : length run - length rest ≡ part.at = omega arith in
+    (omega arith, rw k (sym part.is))
 
-  pub first_end : from_first newest stamp (left s at) (drop at s) ≡ drop at s
-  unfolding from_first
-  first_end = rw (walked valley s at over) refl
+-- no table that was passed holds the stamp
+pub record NotYet (newest stamp : ℕ) (run rest : List ℕ) (rows : List RowFields) : Type 0 where
+  pub bytes : AllBytes rest
+  pub part : PartOf run rest
+  pub first : from_first newest stamp (tables_of valley rest) rest ≡ from_first newest stamp (tables_of valley run) run
+  pub some : 0 < length (rows_of (used_of newest (tables_of valley rest)) stamp)
+  pub beside : HasAll no_fields rows (fields_in newest stamp (tables_of valley rest) rest)
 
-  pub next_over : (next : ℕ) → next ≤ 2 ^ 48 → min next (next_after stamp (stamps (used_of newest (left s at)))) ≡ next
-  unfolding those stamps
-  next_over next l = rw (walked valley s at over, next_none stamp) (omega arith)
+-- no table that was passed holds the stamp with another body
+pub record NoOther (newest stamp : ℕ) (x : Body) (run rest : List ℕ) (rows : List RowFields) : Type 0 where
+  pub bytes : AllBytes rest
+  pub other : any (other_in newest stamp x) (tables_of valley rest) ≡ any (other_in newest stamp x) (tables_of valley run)
+  pub beside : HasAll no_fields rows (fields_in newest stamp (tables_of valley rest) rest)
+
+-- the tables that were passed are gathered: k of them
+pub record GatheredTo (newest stamp : ℕ) (run rest places : List ℕ) (k : ℕ) (rows : List RowFields) (behind : List ℕ) : Type 0 where
+  pub bytes : AllBytes rest
+  pub few : k + length (tables_of valley rest) ≤ 4
+  pub cursors : HasAll 0 places (map (cursor_in newest stamp) (tables_of valley rest))
+  pub filled : filled_from k rows (fields_in newest stamp (tables_of valley rest) rest) ≡ padded 4 no_fields (fields_in newest stamp (tables_of valley run) run)
+  pub placed : filled_from k behind (map (cursor_in newest (stamp + 1)) (tables_of valley rest)) ≡ places_at newest (stamp + 1) (tables_of valley run)
+  pub four_rows : length rows ≡ 4
+  pub four_places : length behind ≡ 4
+
+module _ (newest stamp : ℕ) (s left : List ℕ) (n : NextImage s left) (rows others : List RowFields) (row : RowFields) (p : rows ≡ row ∷ others) where
+  -- the row beside an image is the one that was gathered from it
+  row_beside : HasAll no_fields rows (fields_in newest stamp (tables_of valley s) s) → (row ≡ fields_for s (place_in newest (table_at format_one s) stamp)) × HasAll no_fields others (fields_in newest stamp (tables_of valley left) left)
+  row_beside h = has_next no_fields row _ others _ (rw (p, fields_on newest stamp s left n) at h)
+
+  pub row_here : HasAll no_fields rows (fields_in newest stamp (tables_of valley s) s) → row ≡ fields_for s (place_in newest (table_at format_one s) stamp)
+  row_here h = (row_beside h).0
+
+  pub held_first : (run : List ℕ) → NotYet newest stamp run s rows → (row.stamp ≡ 0 → ⊥) → s ≡ from_first newest stamp (tables_of valley run) run
+  held_first run yet d = first_is newest stamp s left n (gathered_held s newest stamp yet.bytes n.has_image row (row_here yet.beside) d) ∙ yet.first
+
+  pub still_not : (run : List ℕ) → NotYet newest stamp run s rows → row.stamp ≡ 0 → NotYet newest stamp run left others
+  still_not run yet z =
+      let d = gathered_not s newest stamp yet.bytes n.has_image row (row_here yet.beside) z in
+      record {
+        bytes = bytes_left newest stamp s left n yet.bytes;
+        part = part_on run s left n yet.part;
+        first = sym (first_next newest stamp s left n d) ∙ yet.first;
+        some = rw (rows_next newest stamp s left n yet.bytes d) at yet.some;
+        beside = (row_beside yet.beside).1;
+      }
+
+  pub still_none : (run : List ℕ) (x : Body) → NoOther newest stamp x run s rows → other_in newest stamp x (table_at format_one s) ≡ false → NoOther newest stamp x run left others
+  unfolding either
+  still_none run x none d = record { bytes = bytes_left newest stamp s left n none.bytes; other = sym (other_on newest stamp s left n x ∙ rw d refl) ∙ none.other; beside = (row_beside none.beside).1 }
+
+  pub one_other : (run : List ℕ) (x : Body) → NoOther newest stamp x run s rows → other_in newest stamp x (table_at format_one s) ≡ true → true ≡ any (other_in newest stamp x) (tables_of valley run)
+  unfolding either
+  one_other run x none d = sym (other_on newest stamp s left n x ∙ rw d refl) ∙ none.other
+
+module _ (newest stamp : ℕ) (run s left : List ℕ) (n : NextImage s left) (places others : List ℕ) (place : ℕ) (p : places ≡ place ∷ others) (k : ℕ) (rows : List RowFields) (behind : List ℕ) (to : GatheredTo newest stamp run s places k rows behind) where
+  cursors_on : (place ≡ cursor_in newest stamp (table_at format_one s)) × HasAll 0 others (map (cursor_in newest stamp) (tables_of valley left))
+  cursors_on = has_next 0 place _ others _ (rw (p, n.tables) at to.cursors)
+
+  pub cursor_here : place ≡ cursor_in newest stamp (table_at format_one s)
+  cursor_here = cursors_on.0
+
+  pub one_gathered : (row : RowFields) (index : ℕ) → row ≡ fields_for s (place_in newest (table_at format_one s) stamp) → index ≡ cond (eqb row.stamp 0) place (place + 1) → GatheredTo newest stamp run left others (k + 1) (set rows k row) (set behind k index)
+  one_gathered row index told placed =
+      let i : index ≡ cursor_in newest (stamp + 1) (table_at format_one s) = placed ∙ cursor_behind s newest stamp to.bytes n.has_image row told place cursor_here in
+      let l = to.few in
+      let e = ap length n.tables in
+      record {
+        bytes = bytes_left newest stamp s left n to.bytes;
+        few = omega arith;
+        cursors = cursors_on.1;
+        filled = rw told (sym (ap (filled_from k rows) (fields_on newest stamp s left n) ∙ filled_on k rows _ _)) ∙ to.filled;
+        placed = rw i (sym (ap (λ (Ts : List Table). filled_from k behind (map (cursor_in newest (stamp + 1)) Ts)) n.tables ∙ filled_on k behind _ _)) ∙ to.placed;
+        four_rows = length-set rows k row ∙ to.four_rows;
+        four_places = length-set behind k index ∙ to.four_places;
+      }
 
 -- before the first turn nothing above all stamps is in the way
 pub next_start : (newest last : ℕ) (s : List ℕ) → Images valley s → min (2 ^ 48) (next_after last (stamps (used_of newest (tables_of valley s)))) ≡ next_after last (stamps (used_of newest (tables_of valley s)))
@@ -166,13 +199,13 @@ next_start newest last s are =
 -- ---- before the first turn
 
 module _ (run : List ℕ) (few : length (tables_of valley run) ≤ 4) where
-  pub cursors_all : (c : Cursors) → StandIn run c → HasFrom 0 c.places 0 (map (cursor_in c.newest (c.last + 1)) (tables_of valley run))
+  pub cursors_all : (c : Cursors) → StandIn run c → HasAll 0 c.places (map (cursor_in c.newest (c.last + 1)) (tables_of valley run))
   cursors_all c stand =
       let n = length-map (tables_of valley run) (cursor_in c.newest (c.last + 1)) in
-      has_all 0 c.places (map (cursor_in c.newest (c.last + 1)) (tables_of valley run)) (ap (λ (x : Cursors). x.places) stand) (omega arith)
+      has_all_four 0 c.places (map (cursor_in c.newest (c.last + 1)) (tables_of valley run)) (ap (λ (x : Cursors). x.places) stand) (omega arith)
 
   -- at the next stamp
-  pub cursors_next : Images valley run → (c : Cursors) → StandIn run c → (stamp : ℕ) → stamp ≡ next_after c.last (stamps (used_of c.newest (tables_of valley run))) → stamp < 2 ^ 48 → HasFrom 0 c.places 0 (map (cursor_in c.newest stamp) (tables_of valley run)) × (0 < stamp)
+  pub cursors_next : Images valley run → (c : Cursors) → StandIn run c → (stamp : ℕ) → stamp ≡ next_after c.last (stamps (used_of c.newest (tables_of valley run))) → stamp < 2 ^ 48 → HasAll 0 c.places (map (cursor_in c.newest stamp) (tables_of valley run)) × (0 < stamp)
   cursors_next are c stand stamp e l =
       let up : c.last < stamp = rw e (next_is_above c.last (stamps (used_of c.newest (tables_of valley run))) (rw e at l)) in
       (rw (cursors_up c.newest c.last stamp up (tables_of valley run) (all_regular run are) (omega (arith, e))) at (cursors_all c stand), omega arith)
@@ -182,20 +215,74 @@ module _ (run : List ℕ) (few : length (tables_of valley run) ≤ 4) where
   fields_length newest stamp [] s = refl
   fields_length newest stamp (T ∷ Ts) s = ap suc (fields_length newest stamp Ts (drop (image_length format_one T) s))
 
-  pub rows_all : (g : Gathered) → GatheredFrom run g → HasFrom no_fields g.rows 0 (fields_in g.cursors.newest g.cursors.last (tables_of valley run) run)
+  pub rows_all : (g : Gathered) → GatheredFrom run g → HasAll no_fields g.rows (fields_in g.cursors.newest g.cursors.last (tables_of valley run) run)
   rows_all g from =
       let n = fields_length g.cursors.newest g.cursors.last (tables_of valley run) run in
-      has_all no_fields g.rows (fields_in g.cursors.newest g.cursors.last (tables_of valley run) run) (ap (λ (x : Gathered). x.rows) from) (omega arith)
+      has_all_four no_fields g.rows (fields_in g.cursors.newest g.cursors.last (tables_of valley run) run) (ap (λ (x : Gathered). x.rows) from) (omega arith)
 
-  pub filling_rows : (newest stamp : ℕ) → filled_from 0 (replicate 4 no_fields) (fields_in newest stamp (tables_of valley run) run) ≡ padded 4 no_fields (fields_in newest stamp (tables_of valley run) run)
+  filling_rows : (newest stamp : ℕ) → filled_from 0 (replicate 4 no_fields) (fields_in newest stamp (tables_of valley run) run) ≡ padded 4 no_fields (fields_in newest stamp (tables_of valley run) run)
   filling_rows newest stamp =
       let n = fields_length newest stamp (tables_of valley run) run in
       filled_padded no_fields (fields_in newest stamp (tables_of valley run) run) (omega arith)
 
-  pub filling_places : (newest s : ℕ) → filled_from 0 (replicate 4 0) (map (cursor_in newest s) (tables_of valley run)) ≡ places_at newest s (tables_of valley run)
+  filling_places : (newest s : ℕ) → filled_from 0 (replicate 4 0) (map (cursor_in newest s) (tables_of valley run)) ≡ places_at newest s (tables_of valley run)
   filling_places newest s =
       let n = length-map (tables_of valley run) (cursor_in newest s) in
       filled_padded 0 (map (cursor_in newest s) (tables_of valley run)) (omega arith)
+
+pub few_left : (k images places : ℕ) → k + images ≤ 4 → k + min images places < 2 ^ 64
+few_left k images places l = omega arith
+
+-- ---- the walks begin
+
+module _ (run : List ℕ) (few : length (tables_of valley run) ≤ 4) (bytes : AllBytes run) where
+  pub none_gathered : Images valley run → (c : Cursors) → StandIn run c → (stamp : ℕ) → stamp ≡ next_after c.last (stamps (used_of c.newest (tables_of valley run))) → stamp < 2 ^ 48 → (rest places : List ℕ) → rest ≡ run → places ≡ c.places → (k : ℕ) → k ≡ 0 → GatheredTo c.newest stamp run rest places k (replicate 4 no_fields) (replicate 4 0)
+  none_gathered are c stand stamp e l rest places r p k z =
+      rw (r, p, z) (record {
+        bytes = bytes;
+        few = omega arith;
+        cursors = (cursors_next run few are c stand stamp e l).0;
+        filled = filling_rows run few c.newest stamp;
+        placed = filling_places run few c.newest (stamp + 1);
+        four_rows = refl;
+        four_places = refl;
+      })
+
+  module _ (g : Gathered) (from : GatheredFrom run g) (rest : List ℕ) (rows : List RowFields) (r : rest ≡ run) (p : rows ≡ g.rows) where
+    pub none_yet : 0 < length (rows_in run g) → NotYet g.cursors.newest g.cursors.last run rest rows
+    none_yet some = rw (r, p) (record { bytes = bytes; part = record { at = 0; within = omega arith; is = refl }; first = refl; some = some; beside = rows_all run few g from })
+
+    pub none_other : (x : Body) → NoOther g.cursors.newest g.cursors.last x run rest rows
+    none_other x = rw (r, p) (record { bytes = bytes; other = refl; beside = rows_all run few g from })
+
+-- ---- and end, with the images or with the array beside them
+
+pub all_gathered : (newest stamp : ℕ) (run rest places : List ℕ) (k : ℕ) (rows : List RowFields) (behind : List ℕ) → GatheredTo newest stamp run rest places k rows behind → (rest ≡ []) ⊎ (length places ≡ 0) → (rows ≡ padded 4 no_fields (fields_in newest stamp (tables_of valley run) run)) × (behind ≡ places_at newest (stamp + 1) (tables_of valley run))
+unfolding fields_in
+all_gathered newest stamp run rest places k rows behind to over =
+    let e : tables_of valley rest ≡ [] = none_beside 0 places (cursor_in newest stamp) rest to.cursors over in
+    (sym (rw e (filled_end k rows)) ∙ to.filled, sym (rw e (filled_end k behind)) ∙ to.placed)
+
+no_row_beside : (newest stamp : ℕ) (rest : List ℕ) (rows : List RowFields) → HasAll no_fields rows (fields_in newest stamp (tables_of valley rest) rest) → (rest ≡ []) ⊎ (length rows ≡ 0) → tables_of valley rest ≡ []
+unfolding fields_in
+no_row_beside newest stamp rest rows h (inl e) = none_left rest e
+no_row_beside newest stamp rest rows h (inr e) = go (tables_of valley rest) (has_none no_fields rows _ e h)
+  where
+    go : (Ts : List Table) → fields_in newest stamp Ts rest ≡ [] → Ts ≡ []
+    go [] q = refl
+    go (T ∷ Ts) q = absurd cc
+
+-- one table holds the stamp, so it is found
+pub one_is_held : (newest stamp : ℕ) (run rest : List ℕ) (rows : List RowFields) → NotYet newest stamp run rest rows → (rest ≡ []) ⊎ (length rows ≡ 0) → ⊥
+unfolding those rows_of all_of
+one_is_held newest stamp run rest rows yet over =
+    let e : tables_of valley rest ≡ [] = no_row_beside newest stamp rest rows yet.beside over in
+    let l : 0 < length (rows_of (used_of newest []) stamp) = rw e at yet.some in
+    absurd (omega arith)
+
+pub no_other_left : (newest stamp : ℕ) (x : Body) (run rest : List ℕ) (rows : List RowFields) → NoOther newest stamp x run rest rows → (rest ≡ []) ⊎ (length rows ≡ 0) → false ≡ any (other_in newest stamp x) (tables_of valley run)
+unfolding any
+no_other_left newest stamp x run rest rows none over = sym (ap (any (other_in newest stamp x)) (no_row_beside newest stamp rest rows none.beside over)) ∙ none.other
 
 -- ---- from stamp to stamp
 

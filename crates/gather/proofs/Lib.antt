@@ -2,6 +2,7 @@ pub mod StateSeen
 pub mod UsedRows
 pub mod AgreedSeen
 pub mod BodiesSeen
+pub mod LeastStamps
 pub mod NextStamps
 pub mod StampsInTurn
 pub mod Places
@@ -11,3 +12,4 @@ pub mod Gathered
 pub mod OneTable
 pub mod OneRow
 pub mod FirstImages
+pub mod StampsWalked

@@ -8,7 +8,8 @@ use Prim.Native.Nat.{ℕ, zero, suc, ◌+◌, ◌*◌, ◌<◌, ◌≤◌, ◌^�
 use native.Mathlib.Omega.{arith}
 use lib.Dec.{eqb, ltb}
 use borrow.Author.Tests.{ltb-true, ltb-false, eqb-true, eqb-false, lt-ltb, le-ltb}
-use Rattle.rules.specs.Tests.{those}
+use Rattle.std.specs.Prelude.{Some, None}
+use Rattle.rules.specs.Tests.{those, every}
 use Rattle.rules.specs.Stamps.{is_stamp}
 use Rattle.rules.specs.Tables.{Row, Table, rising, row_by_rule}
 use Rattle.rules.specs.Merge.{with_stamp, with_stamps, stamps}
@@ -25,7 +26,7 @@ use Rattle.rows.specs.Inner.Places.{place_of}
 use Rattle.rows.specs.Read.{row_of, rows_at}
 use Rattle.rows.proofs.Sought.{sought, place_sought}
 use Rattle.gather.specs.Inner.UsedTables.{used_of}
-use Rattle.gather.specs.Inner.Stamps.{next_after, stamp_above}
+use Rattle.gather.specs.Inner.Stamps.{next_after, stamp_above, stamp_or_none, earlier}
 
 abbrev pub AllRegular : List Table → Type 0
 AllRegular Ts = (T : Table) → T ∈ Ts → Regular T
@@ -146,6 +147,38 @@ next_turn newest last T Ts k all = go (cases (eqb T.view newest)) (next_most las
     go (inl e) most = rw e (next_rows last 0 T.rows (stamps (used_of newest Ts)) k.rise (λ r m. (row_stamped T k r m).1) most)
     go (inr e) most = rw e (omega arith)
 
+-- ---- a stamp or none
+
+pub no_stamp_is : (s : ℕ) → 2 ^ 48 ≤ s → stamp_or_none s ≡ None
+no_stamp_is s l = rw (le-ltb s (2 ^ 48) l) refl
+
+pub stamp_is : (s : ℕ) → s < 2 ^ 48 → stamp_or_none s ≡ Some s
+stamp_is s l = rw (lt-ltb s (2 ^ 48) l) refl
+
+pub is_stamp_told : (s t : ℕ) → stamp_or_none s ≡ Some t → (t ≡ s) × (t < 2 ^ 48)
+is_stamp_told s t e = go (cases (ltb s (2 ^ 48)))
+  where
+    go : (ltb s (2 ^ 48) ≡ true) ⊎ (ltb s (2 ^ 48) ≡ false) → (t ≡ s) × (t < 2 ^ 48)
+    go (inl k) = let q : Some s ≡ Some t = sym (stamp_is s (ltb-true s (2 ^ 48) k)) ∙ e in let f : t ≡ s = cc in let l = ltb-true s (2 ^ 48) k in (f, omega arith)
+    go (inr k) = let q : None ≡ Some t = sym (no_stamp_is s (ltb-false s (2 ^ 48) k)) ∙ e in absurd cc
+
+pub no_stamp_told : (s : ℕ) → stamp_or_none s ≡ None → 2 ^ 48 ≤ s
+no_stamp_told s e = go (cases (ltb s (2 ^ 48)))
+  where
+    go : (ltb s (2 ^ 48) ≡ true) ⊎ (ltb s (2 ^ 48) ≡ false) → 2 ^ 48 ≤ s
+    go (inl k) = let q : Some s ≡ None = sym (stamp_is s (ltb-true s (2 ^ 48) k)) ∙ e in absurd cc
+    go (inr k) = ltb-false s (2 ^ 48) k
+
+-- the earlier of two is the lesser number
+pub earlier_is : (a b : ℕ) → earlier (stamp_or_none a) (stamp_or_none b) ≡ stamp_or_none (min a b)
+earlier_is a b = go (cases (ltb a (2 ^ 48))) (cases (ltb b (2 ^ 48)))
+  where
+    go : (ltb a (2 ^ 48) ≡ true) ⊎ (ltb a (2 ^ 48) ≡ false) → (ltb b (2 ^ 48) ≡ true) ⊎ (ltb b (2 ^ 48) ≡ false) → earlier (stamp_or_none a) (stamp_or_none b) ≡ stamp_or_none (min a b)
+    go (inl k) (inl l) = let m = ltb-true a (2 ^ 48) k in rw (k, l, stamp_is (min a b) (omega arith)) refl
+    go (inl k) (inr l) = let m = ltb-true a (2 ^ 48) k in let n = ltb-false b (2 ^ 48) l in let e : min a b ≡ a = omega arith in rw (k, l, e, stamp_is a m) refl
+    go (inr k) (inl l) = let m = ltb-false a (2 ^ 48) k in let n = ltb-true b (2 ^ 48) l in let e : min a b ≡ b = omega arith in rw (k, l, e, stamp_is b n) refl
+    go (inr k) (inr l) = let m = ltb-false a (2 ^ 48) k in let n = ltb-false b (2 ^ 48) l in rw (k, l, no_stamp_is (min a b) (omega arith)) refl
+
 -- ---- by the look-up: the row at or above last + 1
 
 -- the index of a row that is there, or of one that would be
@@ -197,3 +230,14 @@ index_above s at n last rise =
     let (j, e, h) = sought_above s n at 0 last in
     let f : index_of (sought 0 (rows_at s at n) (last + 1)) ≡ j = e ∙ omega arith in
     rw (place_sought (rows_at s at n) (last + 1) rise, f) h
+
+-- a row that is by the rules has a stamp
+pub stamped_at : (s : List ℕ) (n at j : ℕ) → every row_by_rule (rows_at s at n) ≡ true → j < n → (fields_at s (at + 24 * j)).stamp < 2 ^ 48
+unfolding rows_at row_of every
+stamped_at s zero at j h l = absurd (omega arith)
+stamped_at s (suc n) at zero h l =
+    let e : at + 24 * 0 ≡ at = omega arith in
+    rw e (stamp_range _ (row_facts _ (both_left _ _ h)).stamp).1
+stamped_at s (suc n) at (suc j) h l =
+    let e : at + 24 * suc j ≡ at + 24 + 24 * j = omega arith in
+    rw e (stamped_at s n (at + 24) j (both_right _ _ h) (omega arith))

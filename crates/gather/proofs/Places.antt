@@ -1,9 +1,13 @@
 -- Places of an array that are filled one after the other, and read again.
-use mathlib.Core.Path.{◌≡◌, refl, ap, ◌∙◌}
-use mathlib.Core.List.{List, [], ◌∷◌}
+use mathlib.Core.Path.{◌≡◌, refl, ap}
+use mathlib.Core.Logic.{◌⊎◌, inl, inr}
+use mathlib.Core.List.{List, [], ◌∷◌, map}
 use Prim.Native.Nat.{ℕ, zero, suc, ◌+◌, ◌≤◌}
 use native.Mathlib.Omega.{arith}
-use lib.ListN.{length, get_or, set, replicate}
+use lib.ListN.{length, set, replicate}
+use Rattle.rules.specs.Tables.{Table, valley}
+use Rattle.image_run.specs.Inner.WholeRuns.{tables_of}
+use Rattle.image_run.proofs.TablesWalked.{none_left}
 use Rattle.gather.specs.Inner.Cursors.{padded}
 
 -- these put into an array, from a place on
@@ -28,27 +32,37 @@ filled_padded filler (a ∷ b ∷ c ∷ []) l = refl
 filled_padded filler (a ∷ b ∷ c ∷ d ∷ []) l = refl
 filled_padded filler (a ∷ b ∷ c ∷ d ∷ e ∷ xs) l = absurd (omega arith)
 
--- from a place on an array has these, and then the filler
-abbrev pub HasFrom : {A : Type 0} → A → List A → ℕ → List A → Type 0
-HasFrom filler array k xs = (j : ℕ) → get_or array (k + j) filler ≡ get_or xs j filler
+-- what is left of an array has these, and then the filler
+pub record HasAll {A : Type 0} (filler : A) (array xs : List A) : Type 0 where
+  pub size : ℕ
+  pub is : array ≡ padded size filler xs
+  pub few : length xs ≤ size
 
-padded_read : {A : Type 0} (n : ℕ) (filler : A) (xs : List A) → length xs ≤ n → (j : ℕ) → get_or (padded n filler xs) j filler ≡ get_or xs j filler
+pub has_all_four : {A : Type 0} (filler : A) (array xs : List A) → array ≡ padded 4 filler xs → length xs ≤ 4 → HasAll filler array xs
+has_all_four filler array xs e l = record { size = 4; is = e; few = l }
+
+pub has_next : {A : Type 0} (filler a x : A) (array xs : List A) → HasAll filler (a ∷ array) (x ∷ xs) → (a ≡ x) × HasAll filler array xs
 unfolding padded
-padded_read zero filler [] l j = refl
-padded_read zero filler (x ∷ xs) l j = absurd (omega arith)
-padded_read (suc n) filler [] l zero = refl
-padded_read (suc n) filler [] l (suc j) = padded_read n filler [] (omega arith) j
-padded_read (suc n) filler (x ∷ xs) l zero = refl
-padded_read (suc n) filler (x ∷ xs) l (suc j) = padded_read n filler xs (omega arith) j
+has_next filler a x array xs h = go h.size h.is h.few
+  where
+    go : (n : ℕ) → a ∷ array ≡ padded n filler (x ∷ xs) → length (x ∷ xs) ≤ n → (a ≡ x) × HasAll filler array xs
+    go zero e l = absurd (omega arith)
+    go (suc n) e l = (cc, record { size = n; is = cc; few = omega arith })
 
-pub has_all : {A : Type 0} (filler : A) (array xs : List A) → array ≡ padded 4 filler xs → length xs ≤ 4 → HasFrom filler array 0 xs
-has_all filler array xs e l j =
-    let z : 0 + j ≡ j = omega arith in
-    rw (z, e) (padded_read 4 filler xs l j)
+pub has_none : {A : Type 0} (filler : A) (array xs : List A) → length array ≡ 0 → HasAll filler array xs → xs ≡ []
+unfolding padded
+has_none filler array [] none h = refl
+has_none filler array (x ∷ xs) none h = go h.size h.is h.few
+  where
+    go : (n : ℕ) → array ≡ padded n filler (x ∷ xs) → length (x ∷ xs) ≤ n → x ∷ xs ≡ []
+    go zero e l = absurd (omega arith)
+    go (suc n) e l = let k = ap length e in absurd (omega arith)
 
-module _ {A : Type 0} (filler : A) (array : List A) (k : ℕ) (x : A) (xs : List A) (h : HasFrom filler array k (x ∷ xs)) where
-  pub has_here : get_or array k filler ≡ x
-  has_here = let z : k + 0 ≡ k = omega arith in rw z at (h 0)
-
-  pub has_later : HasFrom filler array (k + 1) xs
-  has_later j = let z : k + 1 + j ≡ k + suc j = omega arith in rw z (h (suc j))
+-- of images that are walked with an array beside them none is left, if the array has an end
+pub none_beside : {A : Type 0} (filler : A) (array : List A) (number : Table → A) (rest : List ℕ) → HasAll filler array (map number (tables_of valley rest)) → (rest ≡ []) ⊎ (length array ≡ 0) → tables_of valley rest ≡ []
+none_beside filler array number rest h (inl e) = none_left rest e
+none_beside filler array number rest h (inr e) = go (tables_of valley rest) (has_none filler array (map number (tables_of valley rest)) e h)
+  where
+    go : (Ts : List Table) → map number Ts ≡ [] → Ts ≡ []
+    go [] k = refl
+    go (T ∷ Ts) k = absurd cc

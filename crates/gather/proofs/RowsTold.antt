@@ -4,10 +4,14 @@ use mathlib.Core.Bool.{Bool, true, false, cond}
 use mathlib.Core.Logic.{◌⊎◌, inl, inr}
 use mathlib.Core.List.{List, [], ◌∷◌}
 use mathlib.Core.Option.{some}
-use Prim.Native.Nat.{ℕ, zero, suc, ◌+◌, ◌-◌, ◌*◌, ◌<◌, ◌≤◌}
+use Prim.Native.Nat.{ℕ, zero, suc, ◌+◌, ◌*◌, ◌<◌, ◌≤◌}
 use native.Mathlib.Omega.{arith}
 use lib.Dec.{eqb, leb}
 use lib.ListN.{length, get_or, drop}
+use Rattle.std.proofs.Common.{add-one}
+use Rattle.std.proofs.Math.Seq.{drop-cons}
+use Rattle.std.specs.Prelude.{Some, None}
+use Rattle.std.specs.List.{filter}
 use borrow.Author.Tests.{ne_eqb, ltb-true}
 use Rattle.wire.specs.Inner.ByteLists.{AllBytes}
 use Rattle.wire.proofs.Numbers.{all_drop}
@@ -113,37 +117,57 @@ agreed_told agreement gs all g (f ∷ fs) rs (inr (r, later, e, c, t)) =
 
 -- ---- what was gathered from a run
 
-pub four_on : (rows : List RowFields) (k : ℕ) → k < 4 → fields_from rows k (4 - k) ≡ get_or rows k no_fields ∷ fields_from rows (k + 1) (4 - (k + 1))
-unfolding fields_from
-four_on rows k l = let e : 4 - k ≡ suc (4 - (k + 1)) = omega arith in rw e refl
-
-pub four_over : (rows : List RowFields) (k : ℕ) → 4 ≤ k → fields_from rows k (4 - k) ≡ []
-unfolding fields_from
-four_over rows k l = let e : 4 - k ≡ 0 = omega arith in rw e refl
-
-pub state_on : (x : State) (rows : List RowFields) (k : ℕ) → k < 4 → saw_fields (saw_outcome (get_or rows k no_fields).outcome (saw_prepare (get_or rows k no_fields).prepare (get_or rows k no_fields).retry x)) (fields_from rows (k + 1) (4 - (k + 1))) ≡ saw_fields x (fields_from rows k (4 - k))
-unfolding saw_fields
-state_on x rows k l = rw (four_on rows k l) refl
-
-pub state_over : (x : State) (rows : List RowFields) (k : ℕ) → 4 ≤ k → saw_fields x (fields_from rows k (4 - k)) ≡ x
-unfolding saw_fields
-state_over x rows k l = rw (four_over rows k l) refl
-
-pub votes_on : (test : RowFields → Bool) (rows : List RowFields) (k : ℕ) → k < 4 → count test (fields_from rows k (4 - k)) ≡ bit (test (get_or rows k no_fields)) + count test (fields_from rows (k + 1) (4 - (k + 1)))
+-- those that pass are counted
+pub count_filtered : {A : Type 0} (test : A → Bool) (xs : List A) → length (filter test xs) ≡ count test xs
 unfolding count
-votes_on test rows k l = rw (four_on rows k l) refl
+count_filtered test [] = refl
+count_filtered test (x ∷ xs) = go (test x) (count_filtered test xs)
+  where
+    go : (b : Bool) → length (filter test xs) ≡ count test xs → length (cond b (x ∷ filter test xs) (filter test xs)) ≡ bit b + count test xs
+    go true e = omega arith
+    go false e = omega arith
 
-pub votes_over : (test : RowFields → Bool) (rows : List RowFields) (k : ℕ) → 4 ≤ k → count test (fields_from rows k (4 - k)) ≡ 0
-unfolding count
-votes_over test rows k l = rw (four_over rows k l) refl
+-- the four places are all there are
+pub four_are : (rows : List RowFields) → length rows ≡ 4 → fields_from rows 0 4 ≡ rows
+unfolding fields_from
+four_are [] e = absurd (omega arith)
+four_are (a ∷ []) e = absurd (omega arith)
+four_are (a ∷ b ∷ []) e = absurd (omega arith)
+four_are (a ∷ b ∷ c ∷ []) e = absurd (omega arith)
+four_are (a ∷ b ∷ c ∷ d ∷ []) e = refl
+four_are (a ∷ b ∷ c ∷ d ∷ x ∷ xs) e = absurd (omega arith)
 
-pub agreed_on : (agreement : ℕ) (all rows : List RowFields) (k : ℕ) → k < 4 → agreed_among agreement all (fields_from rows k (4 - k)) ≡ cond (enough_have agreement all (get_or rows k no_fields).prepare (get_or rows k no_fields).retry) (record { code = (get_or rows k no_fields).prepare; retry = (get_or rows k no_fields).retry }) (agreed_among agreement all (fields_from rows (k + 1) (4 - (k + 1))))
-unfolding agreed_among
-agreed_on agreement all rows k l = rw (four_on rows k l) refl
+nothing_left_of : (rows : List RowFields) (k : ℕ) → length rows ≤ k → drop k rows ≡ []
+nothing_left_of [] zero l = refl
+nothing_left_of [] (suc k) l = refl
+nothing_left_of (x ∷ xs) zero l = absurd (omega arith)
+nothing_left_of (x ∷ xs) (suc k) l = nothing_left_of xs k (omega arith)
 
-pub agreed_over : (agreement : ℕ) (all rows : List RowFields) (k : ℕ) → 4 ≤ k → agreed_among agreement all (fields_from rows k (4 - k)) ≡ record { code = 0; retry = 0 }
-unfolding agreed_among
-agreed_over agreement all rows k l = rw (four_over rows k l) refl
+-- ---- the rows from one on, as they are walked over
+
+module _ (rows : List RowFields) (k : ℕ) (l : k < length rows) where
+  abbrev pub row : RowFields
+  row = get_or rows k no_fields
+
+  rows_on : drop k rows ≡ row ∷ drop (k + 1) rows
+  rows_on = drop-cons rows k no_fields l ∙ rw add-one refl
+
+  pub state_on : (x : State) → saw_fields x (drop k rows) ≡ saw_fields (saw_outcome row.outcome (saw_prepare row.prepare row.retry x)) (drop (k + 1) rows)
+  unfolding saw_fields
+  state_on x = ap (saw_fields x) rows_on
+
+  pub agreed_on : (agreement : ℕ) (all : List RowFields) → agreed_among agreement all (drop k rows) ≡ cond (enough_have agreement all row.prepare row.retry) (Some (record { code = row.prepare; retry = row.retry })) (agreed_among agreement all (drop (k + 1) rows))
+  unfolding agreed_among
+  agreed_on agreement all = ap (agreed_among agreement all) rows_on
+
+module _ (rows : List RowFields) (k : ℕ) (over : length rows ≤ k) where
+  pub state_over : (x : State) → saw_fields x (drop k rows) ≡ x
+  unfolding saw_fields
+  state_over x = ap (saw_fields x) (nothing_left_of rows k over)
+
+  pub agreed_over : (agreement : ℕ) (all : List RowFields) → agreed_among agreement all (drop k rows) ≡ None
+  unfolding agreed_among
+  agreed_over agreement all = ap (agreed_among agreement all) (nothing_left_of rows k over)
 
 four_padded : (fs : List RowFields) → fields_from (padded 4 no_fields fs) 0 4 ≡ padded 4 no_fields fs
 unfolding padded fields_from

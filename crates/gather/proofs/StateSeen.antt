@@ -5,10 +5,11 @@ use mathlib.Core.Logic.{◌⊎◌, inl, inr}
 use mathlib.Core.List.Memᴰ
 use mathlib.Core.List.{List, [], ◌∷◌}
 use mathlib.Core.Option.{Option, none, some}
-use Prim.Native.Nat.{ℕ, ◌+◌}
+use Prim.Native.Nat.{◌+◌}
 use native.Mathlib.Omega.{arith}
 use lib.Dec.{eqb}
 use borrow.Author.Tests.{eqb-true, eq-eqb}
+use Rattle.std.specs.Prelude as std
 use Rattle.rules.specs.Tests.{both, either, any, some_pair, or_else, first_of}
 use Rattle.rules.specs.Tables.{Result, Result.OK, Result.ABORT, Result.ABSTAIN, Result.RETRY, Prepare, Prepare.no_prepare, Prepare.tentative, Prepare.final, Verdict, Verdict.commit, Verdict.abort, Outcome, Outcome.no_outcome, Outcome.noted, Outcome.done, Row, result_code, result_retry, prepare_code, prepare_retry, outcome_code, same_result}
 use Rattle.rules.specs.Circumstances.{unequal_final}
@@ -16,15 +17,16 @@ use Rattle.rules.specs.Merge.{holds_verdict, holds_prepare, final_result, final_
 use Rattle.rules.proofs.Logic.{impossible, none_some, cases, same_test, both_left, both_right, both_true, either_assoc, either_none, either_second}
 use Rattle.rules.proofs.Lists.{◌∈◌, any_some, some_any, none_pair}
 use Rattle.rules.proofs.Same.{same_result_lem, result_same}
+use Rattle.gather.specs.declared.results.HeldResult.{HeldResult}
 use Rattle.gather.specs.declared.state.State.{State}
-use Rattle.gather.specs.Inner.State.{none_seen, final_code, final_retry, state_of, saw_final, saw_tentative, saw_prepare, saw_commit, saw_abort, saw_outcome, contradicts, outcome_held}
+use Rattle.gather.specs.Inner.State.{none_seen, final_held, state_of, saw_final, saw_tentative, saw_prepare, saw_commit, saw_abort, saw_outcome, contradicts, outcome_held}
 
 -- ---- one row
 
 abbrev seen_prepare : Prepare → State → State
 seen_prepare no_prepare x = x
 seen_prepare (tentative q) x = saw_tentative x
-seen_prepare (final q) x = saw_final (4 + result_code q) (result_retry q) (saw_tentative x)
+seen_prepare (final q) x = saw_final (record { code = 4 + result_code q; retry = result_retry q }) (saw_tentative x)
 
 saw_prepare_lem : (p : Prepare) (x : State) → saw_prepare (prepare_code p) (prepare_retry p) x ≡ seen_prepare p x
 unfolding saw_prepare
@@ -71,14 +73,14 @@ saw_row_lem r x = saw_outcome_lem r.outcome _ ∙ ap (seen_outcome r.outcome) (s
 
 -- an outcome leaves what is said of prepare bytes
 abbrev Same : State → State → Type 0
-Same x y = (x.prepare ≡ y.prepare) × (x.retry ≡ y.retry) × (x.held ≡ y.held) × (x.unequal ≡ y.unequal)
+Same x y = (x.final_result ≡ y.final_result) × (x.held ≡ y.held) × (x.unequal ≡ y.unequal)
 
 outcome_same : (o : Outcome) (x : State) → Same (seen_outcome o x) x
-outcome_same no_outcome x = (refl, refl, refl, refl)
-outcome_same (noted commit) x = (refl, refl, refl, refl)
-outcome_same (noted abort) x = (refl, refl, refl, refl)
-outcome_same (done commit) x = (refl, refl, refl, refl)
-outcome_same (done abort) x = (refl, refl, refl, refl)
+outcome_same no_outcome x = (refl, refl, refl)
+outcome_same (noted commit) x = (refl, refl, refl)
+outcome_same (noted abort) x = (refl, refl, refl)
+outcome_same (done commit) x = (refl, refl, refl)
+outcome_same (done abort) x = (refl, refl, refl)
 
 -- a prepare byte leaves what is said of outcomes
 abbrev SameOutcome : State → State → Type 0
@@ -127,32 +129,25 @@ held_seen : (rs : List Row) (x : State) → (saw_rows x rs).held ≡ either x.he
 unfolding saw_rows any
 held_seen [] x = sym (either_none x.held)
 held_seen (r ∷ rs) x =
-    let l : (saw_row r x).held ≡ either x.held (row_held r) = ap (λ (y : State). y.held) (saw_row_lem r x) ∙ (outcome_same r.outcome (seen_prepare r.prepare x)).2 ∙ prepare_held r.prepare x in
+    let l : (saw_row r x).held ≡ either x.held (row_held r) = ap (λ (y : State). y.held) (saw_row_lem r x) ∙ (outcome_same r.outcome (seen_prepare r.prepare x)).1 ∙ prepare_held r.prepare x in
     held_seen rs (saw_row r x) ∙ rw l (either_assoc x.held (row_held r) (any row_held rs))
 
 -- the first final result: what is seen already, or the first of these rows
 abbrev HasSeen : Option Result → State → Type 0
-HasSeen o x = (x.prepare ≡ final_code o) × (x.retry ≡ final_retry o)
-
-final_counts : (q : Result) → eqb (4 + result_code q) 0 ≡ false
-final_counts OK = refl
-final_counts ABORT = refl
-final_counts ABSTAIN = refl
-final_counts (RETRY t) = refl
+HasSeen o x = x.final_result ≡ final_held o
 
 prepare_first : (o : Option Result) (p : Prepare) (x : State) → HasSeen o x → HasSeen (or_else o (final_result p)) (seen_prepare p x)
 prepare_first none no_prepare x h = h
 prepare_first none (tentative q) x h = h
-prepare_first none (final q) x (c, t) = (rw c refl, rw c refl)
+prepare_first none (final q) x h = rw h refl
 prepare_first (some a) no_prepare x h = h
 prepare_first (some a) (tentative q) x h = h
-prepare_first (some a) (final q) x (c, t) = (rw (c, final_counts a) refl, rw (c, final_counts a, t) refl)
+prepare_first (some a) (final q) x h = rw h refl
 
 row_first : (o : Option Result) (r : Row) (x : State) → HasSeen o x → HasSeen (or_else o (final_result r.prepare)) (saw_row r x)
 row_first o r x h =
-    let (c, t) = prepare_first o r.prepare x h in
-    let (d, u, e, f) = outcome_same r.outcome (seen_prepare r.prepare x) in
-    rw (saw_row_lem r x) (d ∙ c, u ∙ t)
+    let (d, e, f) = outcome_same r.outcome (seen_prepare r.prepare x) in
+    rw (saw_row_lem r x) (d ∙ prepare_first o r.prepare x h)
 
 or_else_assoc : (a b c : Option Result) → or_else (or_else a b) c ≡ or_else a (or_else b c)
 or_else_assoc none b c = refl
@@ -192,16 +187,16 @@ prepare_unequal : (o : Option Result) (p : Prepare) (x : State) → HasSeen o x 
 unfolding both
 prepare_unequal none no_prepare x h = sym (either_none x.unequal)
 prepare_unequal none (tentative q) x h = sym (either_none x.unequal)
-prepare_unequal none (final q) x (c, t) = rw c refl
+prepare_unequal none (final q) x h = rw h refl
 prepare_unequal (some a) no_prepare x h = sym (either_none x.unequal)
 prepare_unequal (some a) (tentative q) x h = sym (either_none x.unequal)
-prepare_unequal (some a) (final q) x (c, t) = rw (c, t, final_counts a, final_codes a q) refl
+prepare_unequal (some a) (final q) x h = rw (h, final_codes a q) refl
 
 unequal_seen : (rs : List Row) (o : Option Result) (x : State) → HasSeen o x → (saw_rows x rs).unequal ≡ either x.unequal (unequal_to o rs)
 unfolding saw_rows unequal_to either
 unequal_seen [] o x h = sym (either_none x.unequal)
 unequal_seen (r ∷ rs) o x h =
-    let e : (saw_row r x).unequal ≡ either x.unequal (unequal_one o r.prepare) = ap (λ (y : State). y.unequal) (saw_row_lem r x) ∙ (outcome_same r.outcome (seen_prepare r.prepare x)).3 ∙ prepare_unequal o r.prepare x h in
+    let e : (saw_row r x).unequal ≡ either x.unequal (unequal_one o r.prepare) = ap (λ (y : State). y.unequal) (saw_row_lem r x) ∙ (outcome_same r.outcome (seen_prepare r.prepare x)).2 ∙ prepare_unequal o r.prepare x h in
     unequal_seen rs (or_else o (final_result r.prepare)) (saw_row r x) (row_first o r x h) ∙ rw e (either_assoc x.unequal (unequal_one o r.prepare) (unequal_to (or_else o (final_result r.prepare)) rs) ∙ ap (either x.unequal) (go o))
   where
     go : (o : Option Result) → either (unequal_one o r.prepare) (unequal_to (or_else o (final_result r.prepare)) rs) ≡ unequal_to o (r ∷ rs)
@@ -314,20 +309,20 @@ unequal_pair_lem (r ∷ rs) = go r.prepare refl (unequal_pair_lem rs)
 
 -- ---- all of it
 
-same_state : (x y : State) → x.prepare ≡ y.prepare → x.retry ≡ y.retry → x.held ≡ y.held → x.unequal ≡ y.unequal → x.commit ≡ y.commit → x.abort ≡ y.abort → x ≡ y
-same_state x y p t h u c a = go x.prepare x.retry x.held x.unequal x.commit x.abort p t h u c a
+same_state : (x y : State) → x.final_result ≡ y.final_result → x.held ≡ y.held → x.unequal ≡ y.unequal → x.commit ≡ y.commit → x.abort ≡ y.abort → x ≡ y
+same_state x y f h u c a = go x.final_result x.held x.unequal x.commit x.abort f h u c a
   where
-    go : (p₀ t₀ : ℕ) (h₀ u₀ c₀ a₀ : Bool) → p₀ ≡ y.prepare → t₀ ≡ y.retry → h₀ ≡ y.held → u₀ ≡ y.unequal → c₀ ≡ y.commit → a₀ ≡ y.abort → record { prepare = p₀; retry = t₀; held = h₀; unequal = u₀; commit = c₀; abort = a₀ } ≡ y
-    go p₀ t₀ h₀ u₀ c₀ a₀ p t h u c a = rw (p, t, h, u, c, a) refl
+    go : (f₀ : std.Option HeldResult) (h₀ u₀ c₀ a₀ : Bool) → f₀ ≡ y.final_result → h₀ ≡ y.held → u₀ ≡ y.unequal → c₀ ≡ y.commit → a₀ ≡ y.abort → record { final_result = f₀; held = h₀; unequal = u₀; commit = c₀; abort = a₀ } ≡ y
+    go f₀ h₀ u₀ c₀ a₀ f h u c a = rw (f, h, u, c, a) refl
 
 pub state_seen : (rs : List Row) → saw_rows none_seen rs ≡ state_of rs
 unfolding state_of either
 state_seen rs =
-    let (p, t) = finals_seen rs none none_seen (refl, refl) in
+    let f = finals_seen rs none none_seen refl in
     let (c, a) = outcomes_seen rs none_seen in
     let h = held_seen rs none_seen in
-    let u = unequal_seen rs none none_seen (refl, refl) ∙ unequal_pair_lem rs in
-    same_state (saw_rows none_seen rs) (state_of rs) p t h u c a
+    let u = unequal_seen rs none none_seen refl ∙ unequal_pair_lem rs in
+    same_state (saw_rows none_seen rs) (state_of rs) f h u c a
 
 -- ---- what is told by it
 

@@ -5,3 +5,4 @@ pub mod State
 pub mod Agreed
 pub mod Cursors
 pub mod Gathered
+pub mod Walk

@@ -12,9 +12,9 @@ ghost use Rattle.gather.specs.Inner.Gathered.{GatheredFrom, rows_in};
 
 use crate::held;
 use crate::held::Gathered;
+use image_run::walk::ImagesOf;
 use rows::row;
 use rows::row::RowFields;
-use table::header;
 
 // Whether a row was gathered, and has another body in its image than a given one has in its own. A body split otherwise into reads and writes is another.
 fn is_other<'a>(image: &'a [u8], row: RowFields, first: &'a [u8], given: RowFields) -> bool
@@ -24,10 +24,7 @@ fn is_other<'a>(image: &'a [u8], row: RowFields, first: &'a [u8], given: RowFiel
     if row.stamp == 0 {
         return false;
     }
-    if row.reads != given.reads {
-        return true;
-    }
-    if row.writes != given.writes {
+    if row.reads != given.reads || row.writes != given.writes {
         return true;
     }
     !seek::same_bytes(row::body_of(image, row), row::body_of(first, given))
@@ -38,15 +35,10 @@ fn some_other<'a>(run: &'a [u8], gathered: Gathered, first: &'a [u8], given: Row
     requires { Images valley run.now × (length (tables_of valley run.now) ≤ 4) × GatheredFrom run.now gathered × BodyInside first.now given }
     ensures { result ≡ any (other_in gathered.cursors.newest gathered.cursors.last (body_at first.now given.offset given.reads given.writes)) (tables_of valley run.now) }
 {
-    let mut k: usize = 0;
-    let mut at: usize = 0;
-    while at < run.len() {
-        let image = &run[at..];
-        if is_other(image, gathered.rows[k], first, given) {
+    for (image, row) in ImagesOf::run(run).zip(&gathered.rows) {
+        if is_other(image, *row, first, given) {
             return true;
         }
-        at += header::read(image).length as usize;
-        k += 1;
     }
     false
 }

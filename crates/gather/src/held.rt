@@ -11,11 +11,12 @@ ghost use Rattle.gather.specs.Inner.Cursors.{cursor_in, StandIn};
 ghost use Rattle.gather.specs.Inner.Gathered.{gathered_at, GatheredFrom, rows_in};
 
 use crate::stamps::Cursors;
+use image_run::walk::ImagesOf;
 use rows::row;
 use rows::row::RowFields;
 use table::header;
 
-// The row of a stamp in each table of a run, in their order, and the cursors behind that stamp. Where a table holds none or is not used stand zeros, which say nothing.
+// The row of a stamp in each table of a run, in their order, and the cursors behind that stamp. Where a table holds none or is not used stand zeros, which say nothing: no stamp is 0. An Option in each place would say no more, and every question would open it.
 #[derive(Clone, Copy)]
 pub struct Gathered {
     pub rows: [RowFields; 4],
@@ -68,10 +69,7 @@ fn place_behind(row: RowFields, index: usize) -> usize
     requires { index < 2 ^ 63 }
     ensures { result ≡ cond (eqb row.stamp 0) index (index + 1) }
 {
-    if row.stamp == 0 {
-        return index;
-    }
-    index + 1
+    if row.stamp == 0 { index } else { index + 1 }
 }
 
 // The rows of the next stamp, from all tables.
@@ -81,19 +79,12 @@ pub fn gather(run: &[u8], cursors: Cursors, stamp: u64) -> Gathered
     ensures { result ≡ gathered_at cursors.newest stamp (tables_of valley run.now) run.now }
 {
     let newest = cursors.newest;
-    let none = no_row();
-    let mut rows = [none; 4];
-    let mut places: [usize; 4] = [0; 4];
-    let mut k: usize = 0;
-    let mut at: usize = 0;
-    while at < run.len() {
-        let image = &run[at..];
-        let index = cursors.places[k];
-        let row = row_under(image, newest, index, stamp);
+    let mut rows = [no_row(); 4];
+    let mut places = [0; 4];
+    for (k, (image, index)) in ImagesOf::run(run).zip(&cursors.places).enumerate() {
+        let row = row_under(image, newest, *index, stamp);
         rows[k] = row;
-        places[k] = place_behind(row, index);
-        at += header::read(image).length as usize;
-        k += 1;
+        places[k] = place_behind(row, *index);
     }
     let behind = Cursors {
         newest,
@@ -111,15 +102,17 @@ pub fn first_of(run: &[u8], gathered: Gathered) -> First
     requires { Images valley run.now × (length (tables_of valley run.now) ≤ 4) × GatheredFrom run.now gathered × (0 < length (rows_in run.now gathered)) }
     ensures { (result.at ≤ length run.now) × (drop result.at run.now ≡ from_first gathered.cursors.newest gathered.cursors.last (tables_of valley run.now) run.now) × (result.row ≡ fields_for (drop result.at run.now) (place_in gathered.cursors.newest (table_at format_one (drop result.at run.now)) gathered.cursors.last)) }
 {
-    let mut k: usize = 0;
-    let mut at: usize = 0;
-    while at < run.len() {
-        let row = gathered.rows[k];
+    for (image, row) in ImagesOf::run(run).zip(&gathered.rows) {
         if row.stamp != 0 {
-            return First { at, row };
+            return First {
+                at: run.len() - image.len(),
+                row: *row,
+            };
         }
-        at += header::read(&run[at..]).length as usize;
-        k += 1;
     }
-    First { at, row: no_row() }
+    // One image holds the stamp, so the walk does not come to its end.
+    First {
+        at: run.len(),
+        row: no_row(),
+    }
 }

@@ -6,5 +6,7 @@
 pub mod agreed;
 pub mod bodies;
 pub mod held;
+pub mod results;
 pub mod stamps;
 pub mod state;
+pub mod walk;

@@ -4,13 +4,12 @@ ghost use Rattle.gather.specs.Inner.Gathered.{fields_from};
 ghost use Rattle.gather.specs.Inner.State.{none_seen, saw_fields, saw_final, saw_prepare, saw_outcome, contradicts, outcome_held};
 
 use crate::held::Gathered;
-use rows::row::RowFields;
+use crate::results::HeldResult;
 
-// The first final result, with its retry stamp, or 0; whether a prepare byte is held at all; whether another final result is held; whether a commit is, and whether an abort is.
+// The first final result, with the prepare byte as it is held; whether a prepare byte is held at all; whether another final result is held; whether a commit is, and whether an abort is.
 #[derive(Clone, Copy)]
 pub struct State {
-    pub prepare: u8,
-    pub retry: u64,
+    pub final_result: Option<HeldResult>,
     pub held: bool,
     pub unequal: bool,
     pub commit: bool,
@@ -18,26 +17,19 @@ pub struct State {
 }
 
 // One more final result: the first is kept, and another one is told.
-fn saw_final(mut state: State, prepare: u8, retry: u64) -> State
-    ensures { result ≡ saw_final prepare retry state }
+#[tactic(auto, unfolding(rules::specs::Tests::both, rules::specs::Tests::either))]
+fn saw_final(mut state: State, held: HeldResult) -> State
+    ensures { result ≡ saw_final held state }
 {
-    if state.prepare == 0 {
-        state.prepare = prepare;
-        state.retry = retry;
-        return state;
-    }
-    if state.prepare != prepare {
-        state.unequal = true;
-        return state;
-    }
-    if state.retry != retry {
-        state.unequal = true;
-        return state;
+    match state.final_result {
+        None => state.final_result = Some(held),
+        Some(first) => state.unequal = state.unequal || first != held,
     }
     state
 }
 
-// One more prepare byte.
+// One more prepare byte. Above 4 it is that of a final result.
+#[tactic(auto, unfolding(crate::specs::Inner::State::saw_prepare))]
 fn saw_prepare(mut state: State, prepare: u8, retry: u64) -> State
     ensures { result ≡ saw_prepare prepare retry state }
 {
@@ -48,33 +40,24 @@ fn saw_prepare(mut state: State, prepare: u8, retry: u64) -> State
     if prepare < 5 {
         return state;
     }
-    saw_final(state, prepare, retry)
+    let held = HeldResult {
+        code: prepare,
+        retry,
+    };
+    saw_final(state, held)
 }
 
 // One more outcome byte.
+#[tactic(auto, unfolding(crate::specs::Inner::State::saw_outcome, rules::specs::Tests::either))]
 fn saw_outcome(mut state: State, outcome: u8) -> State
     ensures { result ≡ saw_outcome outcome state }
 {
-    if outcome == 0 {
-        return state;
+    match outcome {
+        0 => {}
+        1 | 3 => state.commit = true,
+        _ => state.abort = true,
     }
-    if outcome == 1 {
-        state.commit = true;
-        return state;
-    }
-    if outcome == 3 {
-        state.commit = true;
-        return state;
-    }
-    state.abort = true;
     state
-}
-
-// One more row, by its bytes.
-fn saw_row(state: State, row: RowFields) -> State
-    ensures { result ≡ saw_outcome row.outcome (saw_prepare row.prepare row.retry state) }
-{
-    saw_outcome(saw_prepare(state, row.prepare, row.retry), row.outcome)
 }
 
 // What the rows of a stamp hold together.
@@ -82,45 +65,35 @@ pub fn state_of(gathered: Gathered) -> State
     ensures { result ≡ saw_fields none_seen (fields_from gathered.rows 0 4) }
 {
     let mut state = State {
-        prepare: 0,
-        retry: 0,
+        final_result: None,
         held: false,
         unequal: false,
         commit: false,
         abort: false,
     };
-    let mut k: usize = 0;
-    while k < 4 {
-        state = saw_row(state, gathered.rows[k]);
-        k += 1;
+    for row in &gathered.rows {
+        state = saw_outcome(saw_prepare(state, row.prepare, row.retry), row.outcome);
     }
     state
 }
 
 impl State {
     // Two unequal finals, or opposite outcomes.
+    #[tactic(auto, unfolding(rules::specs::Tests::both, rules::specs::Tests::either))]
     pub fn contradicts(self) -> bool
         ensures { result ≡ contradicts self }
     {
-        if self.unequal {
-            return true;
-        }
-        if self.commit {
-            return self.abort;
-        }
-        false
+        self.unequal || self.commit && self.abort
     }
 
-    // Any commit or abort held becomes done.
+    // Any commit or abort held becomes done: as the byte that a row has of it.
     pub fn outcome(self) -> u8
         ensures { result ≡ outcome_held self }
     {
-        if self.commit {
-            return 3;
+        match (self.commit, self.abort) {
+            (true, _) => 3,
+            (false, true) => 4,
+            _ => 0,
         }
-        if self.abort {
-            return 4;
-        }
-        0
     }
 }

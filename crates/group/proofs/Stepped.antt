@@ -29,7 +29,7 @@ use Rattle.answer.proofs.AnswerCall.{answer_length}
 use Rattle.image_run.specs.Inner.WholeRuns.{laid_out}
 use Rattle.merge.specs.Calls as merge
 use Rattle.boxes.specs.Inner.OneBuffer.{fresh_first, buffer_of, with_buffer, tables_named, run_named, no_run_room, merge_boxes_number, merge_boxes_output, start_number, start_tables}
-use Rattle.boxes.proofs.LentTables.{ends_before, fresh_each, start_small, start_bad, start_done, buffer_same, buffer_other, length_with}
+use Rattle.boxes.proofs.LentTables.{ends_before, fresh_each, start_small, start_bad, start_fresh, buffer_same, buffer_other, length_with}
 use Rattle.history.specs.Survival.{◌∈◌, boxes_below, Group, fresh_group, Event.merges, put}
 use Rattle.history_cases.specs.Today as today
 use Rattle.history_cases.specs.Today.{step}
@@ -154,6 +154,6 @@ module _ (M : Model) (sound : Sound format_one M) (least : 24 ≤ M.least_buffer
   start_follows e = go (cases (ltb (length tables) (M.least_buffer * n))) (cases (is_group n))
     where
       go : (ltb (length tables) (M.least_buffer * n) ≡ true) ⊎ (ltb (length tables) (M.least_buffer * n) ≡ false) → (is_group n ≡ true) ⊎ (is_group n ≡ false) → (is_group n ≡ true) × HoldsLent M (fresh_group n) (start_tables M tables n)
-      go (inl t) g = let d : ◌≡◌ {A = ℕ} 1 0 = (start_small M tables n (ltb-true _ _ t)).0 ∙ e in absurd (omega arith)
-      go (inr t) (inr g) = let d : ◌≡◌ {A = ℕ} 3 0 = (start_bad M tables n (ltb-false _ _ t) g).0 ∙ e in absurd (omega arith)
-      go (inr t) (inl g) = let fits = ltb-false _ _ t in (g, rw (← (start_done M tables n fits g).1) (started g fits))
+      go (inl t) g = let d : ◌≡◌ {A = ℕ} 1 0 = sym (start_small M tables n (ltb-true _ _ t)) ∙ e in absurd (omega arith)
+      go (inr t) (inr g) = let d : ◌≡◌ {A = ℕ} 3 0 = sym (start_bad M tables n (ltb-false _ _ t) g) ∙ e in absurd (omega arith)
+      go (inr t) (inl g) = let fits = ltb-false _ _ t in (g, rw (start_fresh M tables n fits g) (started g fits))

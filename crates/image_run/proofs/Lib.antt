@@ -1,3 +1,5 @@
+pub mod NextImages
 pub mod RunTurns
+pub mod TablesWalked
 pub mod Walks
 pub mod Wrongs

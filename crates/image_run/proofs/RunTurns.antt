@@ -83,6 +83,14 @@ pub images_are : (M : Model) (s : List ℕ) (Ts : List Table) → images M s ≡
 unfolding tables_of
 images_are M s Ts h = let e : or_none (images M s) ≡ Ts = ap or_none h in (h ∙ ap some (sym e), e)
 
+-- bytes that were seen to be images
+pub images_told : (M : Model) (s : List ℕ) → is_some (images M s) ≡ true → Images M s
+images_told M s h = go (images M s) refl h
+  where
+    go : (o : Option (List Table)) → images M s ≡ o → is_some o ≡ true → Images M s
+    go none e t = impossible t refl
+    go (some Ts) e t = (images_are M s Ts e).0
+
 -- ---- one turn of a walk over a run
 
 pub record Turn (M : Model) (s : List ℕ) (at : ℕ) : Type 0 where

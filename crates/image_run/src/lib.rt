@@ -4,5 +4,6 @@
 #![tactic(auto)]
 
 pub mod newest;
+pub mod walk;
 pub mod whole;
 pub mod wrong;

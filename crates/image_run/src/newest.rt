@@ -4,6 +4,7 @@ ghost use Rattle.rules.specs.Tests.{greatest};
 ghost use Rattle.rules.specs.Tables.{valley};
 ghost use Rattle.image_run.specs.Inner.WholeRuns.{tables_of, Images};
 
+use crate::walk::ImagesOf;
 use table::header;
 
 // The greatest last normal view of the tables of a run.
@@ -11,14 +12,5 @@ pub fn newest_view(run: &[u8]) -> u32
     requires { Images valley run.now }
     ensures { result ≡ greatest (λ T. T.view) (tables_of valley run.now) }
 {
-    let mut newest: u32 = 0;
-    let mut at: usize = 0;
-    while at < run.len() {
-        let h = header::read(&run[at..]);
-        if newest < h.view {
-            newest = h.view;
-        }
-        at += h.length as usize;
-    }
-    newest
+    ImagesOf::run(run).fold(0, |newest: u32, image| newest.max(header::read(image).view))
 }

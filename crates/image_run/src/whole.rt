@@ -5,19 +5,18 @@ ghost use Rattle.table.specs.Inner.Models.{model_of};
 ghost use Rattle.image_run.specs.Runs.{run_tables};
 
 use table::image;
-use table::image::Found;
 use table::model::Model;
 
-// Each image is looked for where the one before ended, and the last ends the run.
+// Each image is looked for where the one before ended, and the last ends the run. The walk over whole images (`walk`) cannot be taken before that.
 pub fn is_whole(run: &[u8], model: Model) -> bool
     ensures { result ≡ is_some (run_tables (model_of model) run.now) }
 {
-    let mut at: usize = 0;
-    while at < run.len() {
-        let Found::Image { length } = image::find(&run[at..], model) else {
+    let mut rest = run;
+    while !rest.is_empty() {
+        let Some(length) = image::find(rest, model) else {
             return false;
         };
-        at += length;
+        rest = &rest[length..];
     }
     0 < run.len()
 }

@@ -5,34 +5,24 @@ ghost use Rattle.rules.specs.Tables.{valley};
 ghost use Rattle.rules.specs.Merge.{are_wrong};
 ghost use Rattle.image_run.specs.Inner.WholeRuns.{tables_of, Images, unfit_as, unfit};
 
+use crate::walk::ImagesOf;
 use table::header;
 use table::header::Header;
 
 // How many images a run has.
-fn images(run: &[u8]) -> usize
+fn image_count(run: &[u8]) -> usize
     requires { Images valley run.now }
     ensures { result ≡ length (tables_of valley run.now) }
 {
-    let mut n: usize = 0;
-    let mut at: usize = 0;
-    while at < run.len() {
-        at += header::read(&run[at..]).length as usize;
-        n += 1;
-    }
-    n
+    ImagesOf::run(run).count()
 }
 
 // Whether a table is of another group than one of n, isn't changing, or promised another view.
-fn unfit(h: Header, n: u8, view: u32) -> bool
+#[tactic(auto, unfolding(rules::specs::Tests::either))]
+fn is_unfit(h: Header, n: u8, view: u32) -> bool
     ensures { result ≡ unfit_as n view h.n h.mode h.promised }
 {
-    if h.n != n {
-        return true;
-    }
-    if h.mode == 0 {
-        return true;
-    }
-    h.promised != view
+    h.n != n || h.mode == 0 || h.promised != view
 }
 
 // Whether one of them is.
@@ -40,15 +30,7 @@ fn some_unfit(run: &[u8], n: u8, view: u32) -> bool
     requires { Images valley run.now }
     ensures { result ≡ any (unfit n view) (tables_of valley run.now) }
 {
-    let mut at: usize = 0;
-    while at < run.len() {
-        let h = header::read(&run[at..]);
-        if unfit(h, n, view) {
-            return true;
-        }
-        at += h.length as usize;
-    }
-    false
+    ImagesOf::run(run).any(|image| is_unfit(header::read(image), n, view))
 }
 
 // Whether a box is among them.
@@ -56,27 +38,19 @@ fn has_box(run: &[u8], boxnumber: u8) -> bool
     requires { Images valley run.now }
     ensures { result ≡ any (λ T. eqb T.box boxnumber) (tables_of valley run.now) }
 {
-    let mut at: usize = 0;
-    while at < run.len() {
-        let h = header::read(&run[at..]);
-        if h.boxnumber == boxnumber {
-            return true;
-        }
-        at += h.length as usize;
-    }
-    false
+    ImagesOf::run(run).any(|image| header::read(image).boxnumber == boxnumber)
 }
 
-// Whether a box is among them twice: among those behind one of its own.
+// Whether a box is among them twice: among those behind one of its own. A `for` would not let what is left of the walk be asked.
+#[tactic(auto, using(crate::proofs::NextImages::none_twice))]
 fn box_twice(run: &[u8]) -> bool
     requires { Images valley run.now }
     ensures { result ≡ twice (λ T. T.box) (tables_of valley run.now) }
 {
-    let mut at: usize = 0;
-    while at < run.len() {
-        let h = header::read(&run[at..]);
-        at += h.length as usize;
-        if has_box(&run[at..], h.boxnumber) {
+    let mut images = ImagesOf::run(run);
+    while let Some(image) = images.next() {
+        let h = header::read(image);
+        if has_box(images.rest, h.boxnumber) {
             return true;
         }
     }
@@ -84,16 +58,11 @@ fn box_twice(run: &[u8]) -> bool
 }
 
 // Whether the tables of a run are wrong for a merge for a view.
+#[tactic(auto, using(crate::proofs::Wrongs::wrong_as, crate::proofs::Wrongs::first_room, crate::proofs::Wrongs::group_some), unfolding(rules::specs::Tests::either))]
 pub fn are_wrong(run: &[u8], view: u32) -> bool
     requires { Images valley run.now × (0 < length run.now) }
     ensures { result ≡ are_wrong view (tables_of valley run.now) }
 {
     let n = header::read(run).n;
-    if images(run) != quorums::quorum(n) {
-        return true;
-    }
-    if some_unfit(run, n, view) {
-        return true;
-    }
-    box_twice(run)
+    image_count(run) != quorums::quorum(n) || some_unfit(run, n, view) || box_twice(run)
 }

@@ -2,7 +2,7 @@
 use mathlib.Core.Path.{◌≡◌, refl, sym, ap, ◌∙◌}
 use mathlib.Core.Bool.{true, false}
 use mathlib.Core.List.{List}
-use Prim.Native.Nat.{ℕ, ◌+◌, ◌*◌, ◌%◌, ◌≤◌}
+use Prim.Native.Nat.{ℕ, ◌+◌, ◌*◌, ◌%◌, ◌≤◌, ◌<◌, ◌^◌}
 use native.Mathlib.Omega.{arith}
 use lib.ListN.{length, drop}
 use Rattle.wire.specs.Parts.{replaced}
@@ -10,13 +10,14 @@ use Rattle.wire.specs.Inner.ByteLists.{AllBytes}
 use Rattle.wire.proofs.Parts.{replaced_start, replaced_over}
 use Rattle.rules.specs.Tests.{every}
 use Rattle.rules.specs.Groups.{f_of, agreement_count}
-use Rattle.rules.specs.Tables.{Row, Table, normal_mode, rising}
+use Rattle.rules.specs.Tables.{Row, Table, valley, normal_mode, rising}
 use Rattle.rules.specs.Messages.{with_rows}
 use Rattle.rules.specs.Check.{check}
 use Rattle.rules.specs.Merge.{used, stamps, group_of, unchecked_rows, merged_rows, merged_table}
 use Rattle.rows.specs.Bytes.{bodies_length}
 use Rattle.rows.specs.Read.{begins}
 use Rattle.rows.proofs.Begins.{begins_with, begins_stands}
+use Rattle.table.specs.declared.header.Header.{Header}
 use Rattle.table.specs.Headers.{header_at, header_bytes}
 use Rattle.table.specs.Images.{format_one, image_length, header_of, image}
 use Rattle.table.specs.Parse.{table_at}
@@ -25,11 +26,16 @@ use Rattle.edit.specs.Inner.Holding.{Holds}
 use Rattle.edit.specs.Edited.{edited}
 use Rattle.edit.proofs.Holding.{one_starts, holds_rows}
 use Rattle.edit.proofs.EditedBuffers.{edited_grown}
-use Rattle.gather.proofs.NextStamps.{AllRegular, stamps_stamped, stamps_from_one}
+use Rattle.image_run.specs.Inner.WholeRuns.{tables_of, Images}
+use Rattle.image_run.proofs.Wrongs.{group_read, group_some}
+use Rattle.gather.specs.Inner.UsedTables.{used_of}
+use Rattle.gather.proofs.Gathered.{all_regular}
+use Rattle.gather.proofs.NextStamps.{AllRegular, used_regular, stamps_stamped, stamps_from_one}
 use Rattle.settle.specs.Inner.Turns.{has_stamp, checked_rows}
 use Rattle.settle.proofs.ChecksInTurn.{Kept, kept_image, checked_keep, merged_in_turn, unchecked_rising, unchecked_stamped, unchecked_length}
 use Rattle.merge.specs.Inner.Written.{laid_down, MarkAgreed, start_header}
 use Rattle.merge.proofs.RowsLaid.{laid_image}
+use Rattle.merge.proofs.RowsWritten.{bodies_all}
 
 -- a table over the start of a buffer is what the buffer holds
 module _ (out s : List ℕ) (T : Table) (is : s ≡ replaced out 0 (image format_one T)) (bytes : AllBytes s) where
@@ -119,3 +125,46 @@ module _ (Us : List Table) (all : AllRegular Us) (agreement n v : ℕ) (out firs
 pub merged_is : (v : ℕ) (Ts : List Table) (n : ℕ) → n ≡ group_of Ts → starting n v (merged_rows check (agreement_count (f_of n)) (used Ts)) ≡ merged_table check v Ts
 unfolding merged_table
 merged_is v Ts n e = rw e refl
+
+-- ---- the same by what each step of the code promises
+
+-- a run of images and a buffer with room for the merge of those that are used
+module _ (run out : List ℕ) (images : Images valley run) (some-bytes : 0 < length run) (newest v rows : ℕ) (used-are : used_of newest (tables_of valley run) ≡ used (tables_of valley run)) (told : rows ≡ length (stamps (used (tables_of valley run)))) (few : rows ≤ 512) where
+  regular : AllRegular (used_of newest (tables_of valley run))
+  regular = used_regular _ _ (all_regular run images)
+
+  pub counted : rows ≡ length (stamps (used_of newest (tables_of valley run)))
+  counted = rw used-are told
+
+  few_stamps : length (stamps (used_of newest (tables_of valley run))) ≤ 512
+  few_stamps = rw counted at few
+
+  -- its header, and the agreement count of its group
+  module _ (head : Header) (head-is : head ≡ header_at run) (agreement : ℕ) where
+    pub in_group : 0 < head.n
+    in_group = rw head-is (group_some run some-bytes images)
+
+    -- the rows as they were written
+    module _ (end : ℕ) (end-is : end ≡ 24 + 24 * rows + bodies_length (unchecked_rows agreement (used_of newest (tables_of valley run)))) where
+      pub end_fits : end < 2 ^ 32
+      end_fits = let b = bodies_all agreement _ regular in let c = counted in omega arith
+
+      -- with the header of the merged table before them
+      module _ (room : 49176 ≤ length out) (written : List ℕ) (laid : written ≡ laid_down out (24 + 24 * rows) (unchecked_rows agreement (used_of newest (tables_of valley run)))) (h : Header) (h-is : h ≡ start_header head.n v rows end) (first : List ℕ) (first-is : first ≡ replaced written 0 (header_bytes h)) (bytes : AllBytes first) where
+        first_laid : first ≡ replaced out 0 (image format_one (starting head.n v (unchecked_rows agreement (used_of newest (tables_of valley run)))))
+        first_laid = first-is ∙ rw h-is (header_laid (used_of newest (tables_of valley run)) agreement head.n v rows end out written (omega arith) counted laid end-is)
+
+        pub ready_for_agreed : Ready first
+        ready_for_agreed = first_ready _ regular agreement head.n v out first few_stamps first_laid bytes
+
+        -- the agreed ones checked
+        module _ (marks second : List ℕ) (second-is : second ≡ edited format_one (λ T. with_rows T (checked_rows false marks T.rows)) first) (bytes₂ : AllBytes second) where
+          pub ready_for_open : Ready second
+          ready_for_open = second_ready _ regular agreement head.n v out first few_stamps first_laid bytes marks second second-is bytes₂
+
+          -- and the open ones
+          pub merged_written : agreement ≡ agreement_count (f_of head.n) → MarkAgreed marks agreement (used_of newest (tables_of valley run)) → (last : List ℕ) → last ≡ edited format_one (λ T. with_rows T (checked_rows true marks T.rows)) second → last ≡ replaced out 0 (image format_one (merged_table check v (tables_of valley run)))
+          merged_written agreed-is marked last last-is' =
+              let group : head.n ≡ group_of (tables_of valley run) = ap (λ (h : Header). h.n) head-is ∙ sym (group_read run some-bytes images) in
+              let merged : starting head.n v (merged_rows check agreement (used_of newest (tables_of valley run))) ≡ merged_table check v (tables_of valley run) = rw (agreed-is, used-are) (merged_is v (tables_of valley run) head.n group) in
+              last_is _ regular agreement head.n v out first few_stamps first_laid bytes marks second second-is bytes₂ marked last last-is' ∙ ap (λ T. replaced out 0 (image format_one T)) merged

@@ -3,13 +3,13 @@ use mathlib.Core.Path.{◌≡◌, refl, sym, ap, ◌∙◌}
 use mathlib.Core.Bool.{true}
 use mathlib.Core.List.Memᴰ
 use mathlib.Core.List.{List, [], ◌∷◌, ◌++◌, map}
-use Prim.Native.Nat.{ℕ, ◌+◌, ◌*◌, ◌≤◌}
+use Prim.Native.Nat.{ℕ, ◌+◌, ◌*◌, ◌≤◌, ◌<◌}
 use native.Mathlib.Omega.{arith}
-use lib.ListN.{length, length-map}
+use lib.ListN.{length, drop, length-map}
 use Rattle.wire.specs.Parts.{replaced}
 use Rattle.wire.specs.Inner.ByteLists.{AllBytes}
-use Rattle.rules.specs.Tables.{Row, Table, row_by_rule}
-use Rattle.rules.specs.Merge.{rows_of, stamps, body_of, standing, merged_outcome, unchecked_prepare, unchecked_row, unchecked_rows}
+use Rattle.rules.specs.Tables.{Row, Table, valley, row_by_rule}
+use Rattle.rules.specs.Merge.{rows_of, stamps, agreed_of, body_of, standing, merged_outcome, unchecked_prepare, unchecked_row, unchecked_rows}
 use Rattle.rules.proofs.Lists.{◌∈◌, every_one}
 use Rattle.rules.proofs.Stamps.{rows_from}
 use Rattle.rules.proofs.Merge.{some_row}
@@ -19,19 +19,32 @@ use Rattle.rows.specs.Bytes.{body_bytes, length_of, bodies_length, row_bytes}
 use Rattle.rows.specs.Inner.ChangedFields.{with_prepare_byte, with_outcome_byte}
 use Rattle.rows.specs.Fields.{fields_of, fields_bytes, retry_by_code, prepare_numbered, outcome_numbered}
 use Rattle.rows.specs.Read.{row_of}
-use Rattle.rows.specs.Inner.Rows.{body_part}
+use Rattle.rows.specs.Inner.Rows.{BodyInside, body_part}
 use Rattle.rows.proofs.Bodies.{length_body, body_size, body_part_lem}
 use Rattle.rows.proofs.FieldsRead.{fields_of_row}
 use Rattle.table.specs.Images.{format_one}
 use Rattle.table.specs.Parse.{table_at}
-use Rattle.gather.specs.Inner.UsedTables.{used_of, place_in, fields_for}
+use Rattle.gather.specs.Inner.UsedTables.{used_of, place_in, fields_for, from_first}
 use Rattle.gather.proofs.NextStamps.{AllRegular, used_regular}
-use Rattle.gather.proofs.UsedRows.{FirstHeld}
+use Rattle.gather.proofs.UsedRows.{FirstHeld, first_held}
 use Rattle.gather.proofs.FirstImages.{first_body, first_stamp, first_row}
 use Rattle.decide.specs.declared.unchecked.Unchecked.{Unchecked}
 use Rattle.merge.specs.Inner.Written.{row_laid}
-use Rattle.decide.specs.Inner.Unsettled.{unchecked_as}
-use Rattle.decide.proofs.UncheckedBytes.{unchecked_codes, unchecked_numbered}
+use Rattle.std.specs.Prelude as std
+use Rattle.std.specs.Option.{ForSome}
+use Rattle.rules.specs.Tests.{is_some}
+use Rattle.gather.specs.declared.results.HeldResult.{HeldResult}
+use Rattle.image_run.specs.Inner.WholeRuns.{tables_of, Images}
+use Rattle.image_run.proofs.RunTurns.{rest_of}
+use Rattle.gather.specs.declared.held.Gathered.{Gathered}
+use Rattle.gather.specs.declared.state.State.{State}
+use Rattle.gather.specs.Inner.State.{none_seen, saw_fields}
+use Rattle.gather.specs.Inner.Agreed.{agreed_among, agreed_as}
+use Rattle.gather.specs.Inner.Gathered.{GatheredFrom, rows_in, fields_from}
+use Rattle.gather.proofs.RowsTold.{state_gathered, agreed_gathered}
+use Rattle.gather.proofs.Gathered.{part_at, all_regular}
+use Rattle.decide.specs.Inner.Unsettled.{unchecked_as, unchecked_from}
+use Rattle.decide.proofs.UncheckedBytes.{unchecked_codes, unchecked_numbered, agreed_some, agreed_code, unchecked_from_lem}
 
 -- ---- the rows of these stamps
 
@@ -152,3 +165,42 @@ module _ (newest stamp : ℕ) (Ts : List Table) (s t : List ℕ) (regular : AllR
   -- both written
   pub stamp_laid : (out : List ℕ) (index due : ℕ) (row : RowFields) (body : List ℕ) → row ≡ fields_due f u due → body ≡ body_part first f → replaced (replaced out (24 + 24 * index) (fields_bytes row)) due body ≡ row_laid out index due the_row
   stamp_laid out index due row body e b = rw (e, b, row_written due, body_written) refl
+
+-- ---- an agreed result has a tentative result's prepare byte
+
+pub agreed_tentative : (run : List ℕ) → AllBytes run → Images valley run → length (tables_of valley run) ≤ 4 → (g : Gathered) → GatheredFrom run g → (agreement : ℕ) (agreed : std.Option HeldResult) → agreed ≡ agreed_among agreement (fields_from g.rows 0 4) (fields_from g.rows 0 4) → ForSome agreed (λ held. held.code ≤ 4)
+agreed_tentative run bytes images few g gathered agreement agreed agreed-is = rw (agreed-is ∙ agreed_gathered run bytes images few g gathered agreement) (agreed_code (agreed_of agreement (rows_in run g)))
+
+-- ---- what was written, by what each step of the code promises: the row and its place are those of the first image that holds the stamp
+
+module _ (run : List ℕ) (bytes : AllBytes run) (images : Images valley run) (few : length (tables_of valley run) ≤ 4) (g : Gathered) (gathered : GatheredFrom run g) (some-row : 0 < length (rows_in run g)) (at : ℕ) (f : RowFields) (first-is : drop at run ≡ from_first g.cursors.newest g.cursors.last (tables_of valley run) run) (row-is : f ≡ fields_for (drop at run) (place_in g.cursors.newest (table_at format_one (drop at run)) g.cursors.last)) where
+  held-first : FirstHeld g.cursors.newest g.cursors.last (tables_of valley run) run (from_first g.cursors.newest g.cursors.last (tables_of valley run) run)
+  held-first = first_held _ _ _ _ bytes images some-row
+
+  part-is : part_at run at ≡ from_first g.cursors.newest g.cursors.last (tables_of valley run) run
+  part-is = rest_of run at ∙ first-is
+
+  row-read : f ≡ fields_for (part_at run at) (place_in g.cursors.newest (table_at format_one (part_at run at)) g.cursors.last)
+  row-read = rw (rest_of run at) row-is
+
+  pub body_inside : BodyInside (part_at run at) f
+  body_inside = first_body _ _ _ _ _ held-first _ part-is _ row-read
+
+  -- with what the rows of the stamp say together
+  module _ (agreement : ℕ) (agreed : std.Option HeldResult) (agreed-is : agreed ≡ agreed_among agreement (fields_from g.rows 0 4) (fields_from g.rows 0 4)) where
+    agreed-told : agreed ≡ agreed_as (agreed_of agreement (rows_in run g))
+    agreed-told = agreed-is ∙ agreed_gathered run bytes images few g gathered agreement
+
+    pub whether_agreed : std.is_some agreed ≡ is_some (agreed_of agreement (rows_in run g))
+    whether_agreed = rw agreed-told (agreed_some (agreed_of agreement (rows_in run g)))
+
+    module _ (x : State) (x-is : x ≡ saw_fields none_seen (fields_from g.rows 0 4)) (u : Unchecked) (u-is : u ≡ unchecked_from x agreed) where
+      unchecked-is : u ≡ unchecked_as agreement (rows_in run g)
+      unchecked-is = u-is ∙ rw (x-is ∙ state_gathered run bytes images few g gathered, agreed-told) (unchecked_from_lem agreement (rows_in run g))
+
+      module _ (body : List ℕ) (body-is : body ≡ body_part (part_at run at) f) where
+        pub body_as_long : length body ≡ length_of (unchecked_row agreement g.cursors.last (rows_in run g)).body
+        body_as_long = ap length body-is ∙ body_long _ _ _ _ _ (all_regular run images) held-first _ part-is _ row-read agreement u unchecked-is
+
+        pub row_and_body : (out : List ℕ) (index due : ℕ) → replaced (replaced out (24 + 24 * index) (fields_bytes (fields_due f u due))) due body ≡ row_laid out index due (unchecked_row agreement g.cursors.last (rows_in run g))
+        row_and_body out index due = stamp_laid _ _ _ _ _ (all_regular run images) held-first _ part-is _ row-read agreement u unchecked-is out index due _ body refl body-is

@@ -3,28 +3,38 @@ use mathlib.Core.Path.{◌≡◌, refl, sym, ap, ◌∙◌}
 use mathlib.Core.Bool.{Bool, true, false}
 use mathlib.Core.Logic.{◌⊎◌, inl, inr}
 use mathlib.Core.List.{List, [], ◌∷◌, ◌++◌}
-use Prim.Native.Nat.{ℕ, suc, ◌+◌, ◌*◌, ◌≤◌, ◌<◌, ◌^◌}
+use Prim.Native.Nat.{ℕ, ◌+◌, ◌*◌, ◌≤◌, ◌<◌, ◌^◌}
 use native.Mathlib.Omega.{arith}
 use lib.Dec.{eqb, ltb}
 use lib.ListN.{length, get_or, replicate, length-append, get_or-append}
 use lib.Seq.{get_or-append_seam}
 use borrow.Author.Tests.{eqb-false}
+use Rattle.std.specs.Prelude.{Some, None}
 use Rattle.wire.specs.Inner.ByteLists.{AllBytes}
-use Rattle.rules.specs.Tests.{kept, those}
-use Rattle.rules.specs.Tables.{Row, Table}
-use Rattle.rules.specs.Merge.{rows_of, stamps, unchecked_row, unchecked_rows}
+use Rattle.rules.specs.Tests.{is_some}
+use Rattle.rules.specs.Tables.{Row, Table, valley}
+use Rattle.rules.specs.Merge.{rows_of, stamps, agreed_of, unchecked_row, unchecked_rows}
 use Rattle.rules.proofs.Logic.{same?}
 use Rattle.rules.proofs.Lists.{◌∈◌, those_of}
 use Rattle.rules.proofs.Stamps.{RisingFrom}
 use Rattle.rules.proofs.Votes.{those-length}
 use Rattle.rows.specs.Bytes.{length_of, bodies_length}
 use Rattle.edit.proofs.RowsJoined.{bodies_length_joined}
-use Rattle.gather.specs.Inner.Stamps.{next_after}
-use Rattle.gather.proofs.NextStamps.{AllRegular, Stamped, stamps_stamped, stamps_from_one}
+use Rattle.image_run.specs.Inner.WholeRuns.{tables_of, Images}
+use Rattle.gather.specs.Inner.Stamps.{next_after, stamp_or_none}
+use Rattle.gather.specs.declared.held.Gathered.{Gathered}
+use Rattle.gather.specs.declared.walk.StampsOf.{StampsOf}
+use Rattle.gather.specs.Inner.UsedTables.{used_of}
+use Rattle.gather.specs.Inner.Gathered.{GatheredFrom, rows_in}
+use Rattle.gather.specs.Inner.Walk.{GivesStamp}
+use Rattle.gather.proofs.NextStamps.{AllRegular, Stamped, used_regular, stamps_stamped, stamps_from_one}
+use Rattle.gather.proofs.Gathered.{all_regular}
+use Rattle.gather.proofs.StampsWalked.{Walking, walk_begins, step_next, step_gathered, step_rows, step_walks, walk_ends}
+use Rattle.decide.proofs.SurveySeen.{stamp_held}
 use Rattle.gather.proofs.StampsInTurn.{below, below_all, below_first, below_next, next_in}
 use Rattle.settle.specs.Inner.Marks.{is_marked, marked}
 use Rattle.settle.proofs.MarkedRows.{none_marked, none_bytes, mark_same, mark_other, marked_bytes}
-use Rattle.merge.specs.Inner.Written.{laid_down, row_laid}
+use Rattle.merge.specs.Inner.Written.{laid_down, row_laid, MarkAgreed}
 use Rattle.merge.proofs.RowsWritten.{rows_for, rows_for_all, rows_for_last, rows_for_length, bodies_small}
 use Rattle.merge.proofs.RowsLaid.{laid_none, laid_more}
 
@@ -176,3 +186,85 @@ module _ (agreed : ℕ → Bool) (Ts : List Table) (all : AllRegular Ts) where
 
     pub unmarked_next : agreed stamp ≡ false → MarkedTo agreed (stamps Ts) next marks
     unmarked_next a = marked_so marks (m.bytes, m.long) (m.free i (omega (arith, at-end)) ∙ sym a) (λ j ne. refl)
+
+-- ---- turn after turn, by what each step of the code promises
+
+-- whether the result of a stamp is agreed
+abbrev pub agreed_in : ℕ → List Table → ℕ → Bool
+agreed_in agreement Ts s = is_some (agreed_of agreement (rows_of Ts s))
+
+module _ (run out : List ℕ) (newest agreement rows : ℕ) where
+  -- between two steps of the walk: the stamps below the next one were passed, and the marks say which of them are agreed
+  pub record Writing (left : StampsOf) (now : List ℕ) (due i : ℕ) (marks : List ℕ) : Type 0 where
+    pub same-run : left.run.now ≡ run
+    pub walk : Walking run newest left.cursors
+    pub passed : Passed agreement (used_of newest (tables_of valley run)) out (24 + 24 * rows) (next_after left.cursors.last (stamps (used_of newest (tables_of valley run)))) now due i
+    pub marks-are : MarkedTo (agreed_in agreement (used_of newest (tables_of valley run))) (stamps (used_of newest (tables_of valley run))) (next_after left.cursors.last (stamps (used_of newest (tables_of valley run)))) marks
+
+  module _ (images : Images valley run) (counted : rows ≡ length (stamps (used_of newest (tables_of valley run)))) where
+    regular : AllRegular (used_of newest (tables_of valley run))
+    regular = used_regular newest (tables_of valley run) (all_regular run images)
+
+    behind-rows : 24 + 24 * rows ≡ 24 + 24 * length (stamps (used_of newest (tables_of valley run)))
+    behind-rows = ap (λ k. 24 + 24 * k) counted
+
+    pub writing_begins : (left : StampsOf) → left.run.now ≡ run → left.cursors ≡ record { newest = newest; last = 0; places = replicate 4 0 } → Writing left out (24 + 24 * rows) 0 (replicate 64 0)
+    writing_begins left same is =
+        let (walk, last) = walk_begins run newest left.cursors is in
+        record { same-run = same; walk = walk; passed = none_passed agreement _ regular out _ behind-rows _ (rw last refl); marks-are = none_marked_yet _ _ regular _ (rw last refl) }
+
+    module _ (left : StampsOf) (now : List ℕ) (due i : ℕ) (marks : List ℕ) (w : Writing left now due i marks) where
+      pub writing_ends : None ≡ stamp_or_none (next_after left.cursors.last (stamps (used_of left.cursors.newest (tables_of valley left.run.now)))) → (due ≡ 24 + 24 * rows + bodies_length (unchecked_rows agreement (used_of newest (tables_of valley run)))) × MarkAgreed marks agreement (used_of newest (tables_of valley run)) × (now ≡ laid_down out (24 + 24 * rows) (unchecked_rows agreement (used_of newest (tables_of valley run))))
+      writing_ends told =
+          let over = walk_ends run newest left.cursors w.walk (rw w.same-run at told) in
+          let (is, ends) = all_passed agreement _ regular out _ behind-rows _ now due i w.passed over in
+          (ends, all_marked _ _ regular _ marks w.marks-are over, is)
+
+      -- a step, with the rows of the next stamp gathered
+      module _ (g : Gathered) (after : StampsOf) (step : (after.run.now ≡ left.run.now) × GivesStamp left.run.now left.cursors (Some g) after.cursors) where
+        same-step : GivesStamp run left.cursors (Some g) after.cursors
+        same-step = rw w.same-run at step.1
+
+        next : (g.cursors.last ≡ next_after left.cursors.last (stamps (used_of newest (tables_of valley run)))) × (g.cursors.last < 2 ^ 48)
+        next = step_next run newest left.cursors w.walk g same-step.0 same-step.1
+
+        rows-are : rows_in run g ≡ rows_of (used_of newest (tables_of valley run)) g.cursors.last
+        rows-are = step_rows run newest left.cursors w.walk g same-step.0 same-step.1
+
+        passed-here : Passed agreement (used_of newest (tables_of valley run)) out (24 + 24 * rows) g.cursors.last now due i
+        passed-here = rw (← next.0) at w.passed
+
+        marks-here : MarkedTo (agreed_in agreement (used_of newest (tables_of valley run))) (stamps (used_of newest (tables_of valley run))) g.cursors.last marks
+        marks-here = rw (← next.0) at w.marks-are
+
+        there : g.cursors.last ∈ stamps (used_of newest (tables_of valley run))
+        there = passed-here.one next.1
+
+        abbrev written_row : Row
+        written_row = unchecked_row agreement g.cursors.last (rows_in run g)
+
+        pub writing_held : GatheredFrom run g × (0 < length (rows_in run g))
+        writing_held = (step_gathered run newest left.cursors w.walk g same-step.0 same-step.1, rw rows-are (stamp_held _ regular _ there))
+
+        pub writing_free : is_marked marks i ≡ false
+        writing_free = let n = passed-here.count in marks-here.free i (omega (arith, n))
+
+        module _ (few : rows ≤ 512) (room : 49176 ≤ length out) where
+          pub writing_room : (i < 512) × (24 + 24 * i + 24 ≤ 24 + 24 * rows) × (due + length_of written_row.body ≤ 49176)
+          writing_room = rw rows-are (turn_room agreement _ regular out _ behind-rows _ now due i passed-here there (rw counted at few) room)
+
+          -- behind it: the row is laid in the buffer, and marked if its result is agreed
+          pub writing_next : (index count : ℕ) → (index ≡ i) × (count ≡ i + 1) → (agreed : Bool) → agreed ≡ is_some (agreed_of agreement (rows_in run g)) → (later : List ℕ) → later ≡ row_laid now index due written_row → (then : ℕ) → then ≡ due + length_of written_row.body → (others : List ℕ) → ((agreed ≡ true) × (others ≡ marked marks index)) ⊎ ((agreed ≡ false) × (others ≡ marks)) → Writing after later then count others
+          writing_next index count (index-is, count-is) agreed told later laid then ends others which =
+              let same : agreed ≡ agreed_in agreement (used_of newest (tables_of valley run)) g.cursors.last = told ∙ rw rows-are refl in
+              let here = passed-here.count in
+              rw count-is (record {
+                same-run = step.0 ∙ w.same-run;
+                walk = rw same-step.2 (step_walks run newest left.cursors w.walk g same-step.0 same-step.1);
+                passed = rw same-step.2 (turn_passed agreement _ regular out _ behind-rows _ now due i passed-here there (rw counted at few) room _ later then refl (rw (index-is, rows-are) at laid) (rw rows-are at ends));
+                marks-are = rw same-step.2 (go same here writing_room.0 (rw index-is at which));
+              })
+            where
+              go : agreed ≡ agreed_in agreement (used_of newest (tables_of valley run)) g.cursors.last → i ≡ length (below g.cursors.last (stamps (used_of newest (tables_of valley run)))) → i < 512 → ((agreed ≡ true) × (others ≡ marked marks i)) ⊎ ((agreed ≡ false) × (others ≡ marks)) → MarkedTo (agreed_in agreement (used_of newest (tables_of valley run))) (stamps (used_of newest (tables_of valley run))) (next_after g.cursors.last (stamps (used_of newest (tables_of valley run)))) others
+              go same count here (inl (a, e)) = rw e (marked_next _ _ regular _ there marks marks-here i count _ refl here (sym same ∙ a))
+              go same count here (inr (a, e)) = rw e (unmarked_next _ _ regular _ there marks marks-here i count _ refl (sym same ∙ a))

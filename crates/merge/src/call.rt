@@ -1,9 +1,10 @@
-// The merge: the public call, which ends with a number of 01's list.
+// The merge: the public call, which is done or refused by one of 01's list.
 ghost use Rattle.std.specs.Prelude.{◌≡◌, ◌≤◌, ◌<◌, length};
 ghost use Rattle.wire.specs.Parts.{replaced};
 ghost use Rattle.rules.specs.Tables.{valley};
 ghost use Rattle.rules.specs.Check.{check};
 ghost use Rattle.rules.specs.Merge.{used, stamps, merged_table};
+ghost use Rattle.numbers.specs.Inner.Ended.{ended_with};
 ghost use Rattle.table.specs.Images.{format_one, image};
 ghost use Rattle.image_run.specs.Inner.WholeRuns.{tables_of, Images};
 ghost use Rattle.gather.specs.Inner.UsedTables.{used_of};
@@ -13,21 +14,26 @@ ghost use Rattle.merge.specs.Inner.Written.{start_header};
 use crate::write;
 use decide::survey;
 use image_run::{newest, whole, wrong};
+use numbers::Refusal;
+use settle::Turn;
 use table::header;
 use table::header::Header;
 use table::model::Model;
 
 // The header of a table of so many rows that starts a view: a fresh one of the box of that view, with view, promise and rows changed, and with start rows equal to rows.
+#[tactic(auto, unfolding(rules::specs::Tables::fresh_table))]
 fn start_header(n: u8, view: u32, rows: u32, length: u32) -> Header
     requires { 0 < n }
     ensures { result ≡ start_header n view rows length }
 {
-    let mut h = Header::fresh(n, (view % (n as u32)) as u8)
-        .with_view(view)
-        .with_promised(view)
-        .with_rows(rows, length);
-    h.start = rows;
-    h
+    let fresh = Header::fresh(n, (view % u32::from(n)) as u8);
+    Header {
+        start: rows,
+        ..fresh
+            .with_view(view)
+            .with_promised(view)
+            .with_rows(rows, length)
+    }
 }
 
 // Writes the merged table of a run that is not refused: rows as they are before any check, and the header; then the agreed ones that wait are checked, then the open ones.
@@ -41,30 +47,28 @@ fn write_merged(out: &mut [u8], run: &[u8], view: u32, newest: u32, rows: usize)
     let written = write::write_rows(out, run, newest, agreement, rows);
     header::write(out, start_header(n, view, rows as u32, written.end as u32));
     let marks = written.marks;
-    settle::check_rows(out, &marks, false);
-    settle::check_rows(out, &marks, true);
+    settle::check_rows(out, &marks, Turn::Agreed);
+    settle::check_rows(out, &marks, Turn::Open);
 }
 
 // The merge for a view of the images laid end to end in a run, written at the start of an output buffer.
-pub fn merge(run: &[u8], view: u32, out: &mut [u8]) -> u8
-    ensures value { result ≡ call_number valley run.now view out.old }
+pub fn merge(run: &[u8], view: u32, out: &mut [u8]) -> Result<(), Refusal>
+    ensures value { ended_with result ≡ call_number valley run.now view out.old }
     ensures out_after { out.new ≡ call_output valley run.now view out.old }
 {
     let model = Model::valley();
     if out.len() < model.least {
-        return 1;
+        return Err(Refusal::SmallBuffer);
     }
     if !whole::is_whole(run, model) {
-        return 2;
+        return Err(Refusal::BadTable);
     }
     if wrong::are_wrong(run, view) {
-        return 11;
+        return Err(Refusal::WrongTables);
     }
     let newest = newest::newest_view(run);
     let seen = survey::survey_stamps(run, newest);
-    let number = seen.number(model.limit);
-    if number == 0 {
-        write_merged(out, run, view, newest, seen.stamps);
-    }
-    number
+    seen.allows_merge(model.limit)?;
+    write_merged(out, run, view, newest, seen.stamps);
+    Ok(())
 }

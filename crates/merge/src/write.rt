@@ -13,8 +13,8 @@ ghost use Rattle.merge.specs.Inner.Written.{laid_down, row_laid, MarkAgreed};
 
 use decide::unchecked;
 use gather::held::Gathered;
-use gather::stamps::Cursors;
-use gather::{agreed, held, stamps, state};
+use gather::walk::StampsOf;
+use gather::{agreed, held, state};
 use rows::row;
 use rows::row::RowFields;
 use settle::marks;
@@ -34,7 +34,7 @@ pub struct WrittenRows {
     pub marks: [u8; 64],
 }
 
-// Writes the row of a stamp that is held at an index, and its body where it is due: that of the first used table that holds it, since all hold it with this one.
+// Writes the row of a stamp that is held at an index, and its body where it is due: that of the first used table that holds it, since all hold it with this one. Its arguments are what the one loop below has in hand, which no other function takes.
 fn write_stamp(
     out: &mut [u8],
     index: usize,
@@ -67,7 +67,7 @@ fn write_stamp(
     wire::copy_part(body, out, due);
     WrittenStamp {
         due: due + body.len(),
-        agreed: agreed.code != 0,
+        agreed: agreed.is_some(),
     }
 }
 
@@ -85,19 +85,12 @@ pub fn write_rows(
 {
     let mut marks: [u8; 64] = [0; 64];
     let mut end = header::LENGTH + row::LENGTH * rows;
-    let mut i: usize = 0;
-    let mut cursors = Cursors::start(newest);
-    let mut stamp = stamps::next_stamp(run, cursors);
-    while stamp < stamps::NO_STAMP {
-        let gathered = held::gather(run, cursors, stamp);
+    for (i, gathered) in StampsOf::used(run, newest).enumerate() {
         let written = write_stamp(out, i, end, run, gathered, agreement);
         end = written.due;
         if written.agreed {
             marks::mark(&mut marks, i);
         }
-        i += 1;
-        cursors = gathered.cursors;
-        stamp = stamps::next_stamp(run, cursors);
     }
     WrittenRows { end, marks }
 }

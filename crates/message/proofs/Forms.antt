@@ -69,7 +69,7 @@ counts_stand s at a h =
 
 -- ---- codes
 
-verdict_read : (v : Verdict) → (verdict_numbered (verdict_code v) ≡ v) × (verdict_by_code (verdict_code v) ≡ true)
+pub verdict_read : (v : Verdict) → (verdict_numbered (verdict_code v) ≡ v) × (verdict_by_code (verdict_code v) ≡ true)
 unfolding verdict_numbered verdict_by_code both
 verdict_read commit = (refl, refl)
 verdict_read abort = (refl, refl)

@@ -73,7 +73,7 @@ row_settled s f = ap₂ both (prepare_settled f.prepare f.retry) (outcome_settle
 
 -- ---- rows, i of them passed
 
-pub settled_turn : (s : List ℕ) (begin n i : ℕ) → i < n →
+settled_turn : (s : List ℕ) (begin n i : ℕ) → i < n →
     let f = fields_at s (begin + 24 * i) in
     every settled (rows_at s (begin + 24 * i) (n - i))
     ≡ both (both (either (eqb f.prepare 0) (leb 5 f.prepare)) (either (eqb f.outcome 0) (leb 3 f.outcome))) (every settled (rows_at s (begin + 24 * (i + 1)) (n - (i + 1))))
@@ -82,6 +82,17 @@ settled_turn s begin n i h =
     let e : n - i ≡ suc (n - (i + 1)) = omega arith in
     let p : begin + 24 * (i + 1) ≡ begin + 24 * i + 24 = omega arith in
     rw (e, p, row_settled)
+
+module _ (s : List ℕ) (begin n i : ℕ) (f : RowFields) (ok : Bool) where
+  -- a settled row leaves the answer to those behind it
+  pub settled_next : i < n → f ≡ fields_at s (begin + 24 * i) → ok ≡ both (either (eqb f.prepare 0) (leb 5 f.prepare)) (either (eqb f.outcome 0) (leb 3 f.outcome)) → ok ≡ true → every settled (rows_at s (begin + 24 * i) (n - i)) ≡ every settled (rows_at s (begin + 24 * (i + 1)) (n - (i + 1)))
+  unfolding both
+  settled_next h e t k = settled_turn s begin n i h ∙ rw (← e, ← t, k)
+
+  -- and another row is the answer
+  pub unsettled : i < n → f ≡ fields_at s (begin + 24 * i) → ok ≡ both (either (eqb f.prepare 0) (leb 5 f.prepare)) (either (eqb f.outcome 0) (leb 3 f.outcome)) → ok ≡ false → every settled (rows_at s (begin + 24 * i) (n - i)) ≡ false
+  unfolding both
+  unsettled h e t k = settled_turn s begin n i h ∙ rw (← e, ← t, k)
 
 pub settled_end : (s : List ℕ) (at n : ℕ) → n ≡ 0 → every settled (rows_at s at n) ≡ true
 unfolding every rows_at

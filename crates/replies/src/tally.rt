@@ -1,9 +1,9 @@
 // What a count keeps of the replies gone through: a few numbers, and no reply.
 //
-// Every field of it is a whole word, since the compiler copies the bytes between smaller ones too.
-ghost use Rattle.std.specs.Prelude.{◌≡◌, ◌<◌, ◌^◌, min, max};
+// Every field of it is a whole word, since the compiler copies the bytes between smaller ones too, and a count of seven replies took three to four times the instructions with them. So what is not there yet is 0 in its field, and no `Option`.
+ghost use Rattle.std.specs.Prelude.{◌≡◌, ◌<◌, ◌+◌, ◌%◌, ◌^◌};
 ghost use Rattle.message.specs.Messages.{result_by_code};
-ghost use Rattle.replies.specs.Inner.Tallies.{packed, in_range, more_if, no_tally, spoilt, first_by, is_said, agreed_by, with_other, has_view, with_finality, with_result, with_reply};
+ghost use Rattle.replies.specs.Inner.Tallies.{packed, more_if, no_range, in_range, no_tally, spoilt, first_by, is_said, agreed_by, with_other, has_view, with_finality, with_result, with_reply};
 
 use crate::held::Reply;
 use rows::row;
@@ -46,35 +46,21 @@ pub struct Tally {
 pub fn pack(code: u64, retry: u64) -> u64
     ensures { result ≡ packed code retry }
 {
-    8 * (retry % 2305843009213693952) + code % 8
+    8 * (retry % 0x2000_0000_0000_0000) + code % 8
 }
 
-fn lesser(a: u64, b: u64) -> u64
-    ensures { result ≡ min a b }
+// One more of at most seven. A number above 255 is nobody's here, so that nothing is asked of it.
+fn one_more(number: u64) -> u64
+    ensures { result ≡ number % 256 + 1 }
 {
-    if a < b {
-        return a;
-    }
-    b
+    number % 256 + 1
 }
 
-pub fn greater(a: u64, b: u64) -> u64
-    ensures { result ≡ max a b }
-{
-    if a < b {
-        return b;
-    }
-    a
-}
-
-// One more of at most seven, if so. A number above 255 is nobody's here, so that nothing is asked of it.
+// One more, if so.
 fn more_if(number: u64, yes: bool) -> u64
     ensures { result ≡ more_if yes number }
 {
-    if yes {
-        return number % 256 + 1;
-    }
-    number
+    if yes { one_more(number) } else { number }
 }
 
 // 2 to the k: the bit of box k, and what all bits below it are below.
@@ -85,29 +71,36 @@ pub fn power(k: u8) -> u64
     1 << k
 }
 
-// A code of a result with its retry stamp by the rows' rule. Only RETRY has a stamp, so its code is asked first.
+// A code of a result with its retry stamp by the rows' rule: only RETRY has a stamp.
+#[tactic(auto, unfolding(message::specs::Messages::result_by_code, rows::specs::Fields::retry_by_code, rules::specs::Tests::both, rules::specs::Tests::either))]
 fn result_valid(reply: Reply) -> bool
     ensures { result ≡ result_by_code reply.result reply.retry }
 {
     if reply.result == 4 {
-        return row::stamp_valid(reply.retry);
+        row::stamp_valid(reply.retry)
+    } else {
+        reply.retry == 0 && 0 < reply.result && reply.result < 4
     }
-    if 4 < reply.result {
-        return false;
-    }
-    if reply.retry != 0 {
-        return false;
-    }
-    reply.result != 0
 }
 
 impl Range {
-    fn with(self, res: u64) -> Range
-        ensures { result ≡ in_range self res }
+    // Of no results at all.
+    fn none() -> Range
+        ensures { result ≡ no_range }
     {
         Range {
-            least: lesser(res, self.least),
-            greatest: greater(res, self.greatest),
+            least: u64::MAX,
+            greatest: 0,
+        }
+    }
+
+    fn with(self, reply: Reply) -> Range
+        ensures { result ≡ in_range self (packed reply.result reply.retry) }
+    {
+        let packed = pack(u64::from(reply.result), reply.retry);
+        Range {
+            least: packed.min(self.least),
+            greatest: packed.max(self.greatest),
         }
     }
 }
@@ -117,55 +110,47 @@ impl First {
         ensures { result ≡ first_by reply }
     {
         First {
-            code: reply.result as u64,
+            code: u64::from(reply.result),
             retry: reply.retry,
             agreeing: 1,
         }
     }
 
     // Whether a reply has the same result. Before the first reply nobody has it.
+    #[tactic(auto, unfolding(crate::specs::Inner::Tallies::is_said, rules::specs::Tests::both))]
     fn is_said(self, reply: Reply) -> bool
         ensures { result ≡ is_said self reply }
     {
-        if reply.retry != self.retry {
-            return false;
-        }
-        if reply.result as u64 != self.code {
-            return false;
-        }
-        self.agreeing != 0
+        reply.retry == self.retry && u64::from(reply.result) == self.code && self.agreeing != 0
     }
 
     fn agreed(self) -> First
         ensures { result ≡ agreed_by self }
     {
         First {
-            code: self.code,
-            retry: self.retry,
-            agreeing: self.agreeing % 256 + 1,
+            agreeing: one_more(self.agreeing),
+            ..self
         }
     }
 }
 
 impl Others {
+    // RETRY is asked first, and the two others without a branch: of seven that differ most are RETRY.
     fn with(self, reply: Reply) -> Others
         ensures { result ≡ with_other self reply }
     {
-        let number = self.number % 256 + 1;
-        let results = self.results.with(pack(reply.result as u64, reply.retry));
+        let others = Others {
+            number: one_more(self.number),
+            results: self.results.with(reply),
+            ..self
+        };
         if reply.result == 4 {
-            return Others {
-                number,
-                oks: self.oks,
-                aborts: self.aborts,
-                results,
-            };
+            return others;
         }
         Others {
-            number,
             oks: more_if(self.oks, reply.result == 1),
             aborts: more_if(self.aborts, reply.result == 2),
-            results,
+            ..others
         }
     }
 }
@@ -186,47 +171,39 @@ impl Tally {
                 number: 0,
                 oks: 0,
                 aborts: 0,
-                results: Range {
-                    least: 18446744073709551615,
-                    greatest: 0,
-                },
+                results: Range::none(),
             },
-            finals: Range {
-                least: 18446744073709551615,
-                greatest: 0,
-            },
+            finals: Range::none(),
         }
     }
 
     // Something was bad. All boxes are seen then, so that whatever follows is bad too.
-    fn spoil(mut self) -> Tally
+    fn spoil(self) -> Tally
         ensures { result ≡ spoilt self }
     {
-        self.seen = 255;
-        self
+        Tally { seen: 255, ..self }
     }
 
     // Whether a view is that of the replies before, if there was one. For all replies but the first one comparison is enough.
+    #[tactic(auto, unfolding(crate::specs::Inner::Tallies::has_view))]
     fn has_view(self, view: u64) -> bool
         ensures { result ≡ has_view self view }
     {
-        if view == self.view {
-            return true;
-        }
-        self.seen == 0
+        view == self.view || self.seen == 0
     }
 
+    #[tactic(auto, unfolding(crate::specs::Inner::Tallies::with_finality))]
     fn with_finality(mut self, reply: Reply) -> Tally
         ensures { result ≡ with_finality self reply }
     {
         if reply.finality == 1 {
-            self.finals = self.finals.with(pack(reply.result as u64, reply.retry));
-            return self;
+            self.finals = self.finals.with(reply);
         }
         self
     }
 
-    // With the first reply's result it is by the rules, and is one more that agrees.
+    // With the first reply's result it is by the rules, and is one more that agrees. Each field is changed in its place, since a tally that is built anew in each branch took more instructions.
+    #[tactic(auto, using(crate::proofs::Steps::one_agrees, crate::proofs::Steps::one_begins, crate::proofs::Steps::one_differs, crate::proofs::Steps::bad_result_lem))]
     fn with_result(mut self, reply: Reply) -> Tally
         ensures { result ≡ with_result self reply }
     {
@@ -234,15 +211,15 @@ impl Tally {
             self.first = self.first.agreed();
             return self;
         }
-        if result_valid(reply) {
-            if self.first.agreeing == 0 {
-                self.first = First::of(reply);
-                return self;
-            }
-            self.others = self.others.with(reply);
-            return self;
+        if !result_valid(reply) {
+            return self.spoil();
         }
-        self.spoil()
+        if self.first.agreeing == 0 {
+            self.first = First::of(reply);
+        } else {
+            self.others = self.others.with(reply);
+        }
+        self
     }
 
     // One reply more. "Final or not" is 1 or 0.
@@ -250,21 +227,16 @@ impl Tally {
     pub fn with(mut self, reply: Reply) -> Tally
         ensures { result ≡ with_reply self reply }
     {
-        let seen = self.seen;
-        if 7 <= reply.boxnumber {
+        let view = u64::from(reply.view);
+        if 7 <= reply.boxnumber
+            || (self.seen >> reply.boxnumber) % 2 == 1
+            || 1 < reply.finality
+            || !self.has_view(view)
+        {
             return self.spoil();
         }
-        if (seen >> reply.boxnumber) % 2 == 1 {
-            return self.spoil();
-        }
-        if 1 < reply.finality {
-            return self.spoil();
-        }
-        if self.has_view(reply.view as u64) {
-            self.seen = seen | power(reply.boxnumber);
-            self.view = reply.view as u64;
-            return self.with_finality(reply).with_result(reply);
-        }
-        self.spoil()
+        self.seen |= power(reply.boxnumber);
+        self.view = view;
+        self.with_finality(reply).with_result(reply)
     }
 }

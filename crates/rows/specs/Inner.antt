@@ -3,3 +3,4 @@ pub mod ChangedFields
 pub mod FieldTests
 pub mod Rows
 pub mod Places
+pub mod Results

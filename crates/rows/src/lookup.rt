@@ -8,24 +8,46 @@ ghost use Rattle.rows.specs.Inner.Places.{place_of, FoundInside, body_found};
 
 use crate::row;
 
-// The index of the stamp's row, or the one that its row would have.
+// The index of the stamp's row, or the one that its row would have. It has the shape of a Result, but neither of the two is an error: a row is added at the one and changed at the other.
 #[derive(Clone, Copy)]
 pub enum Place {
     Held { row: usize },
     Absent { row: usize },
 }
 
-// What a search gives: where the stamp stands, and how many rows were compared to find that.
-#[derive(Clone, Copy)]
-pub struct Sought {
-    pub place: Place,
+// What was found, and how many rows were compared to find it.
+#[derive(Clone, Copy, Debug, PartialEq, Eq)]
+pub struct Compared<T> {
+    pub found: T,
     pub compared: usize,
 }
 
-// Rows stand in the order of their stamps, so of those that are left the one in the middle has the stamp, or tells on which side of it the search goes on.
-pub fn find(image: &[u8], begin: usize, rows: usize, stamp: u64) -> Sought
+impl<T> Compared<T> {
+    // What is said without a search: no row was compared.
+    pub fn without_search(found: T) -> Compared<T>
+        ensures { (result.found ≡ found) × (result.compared ≡ 0) }
+    {
+        Compared { found, compared: 0 }
+    }
+}
+
+impl<T: Copy> Compared<T> {
+    // What is told by the same search in place of what it found.
+    pub fn with<U>(self, found: U) -> Compared<U>
+        ensures { (result.found ≡ found) × (result.compared ≡ self.compared) }
+    {
+        Compared {
+            found,
+            compared: self.compared,
+        }
+    }
+}
+
+// Rows stand in the order of their stamps, so of those that are left the one in the middle has the stamp, or tells on which side of it the search goes on. It stays a loop by hand: the rows compared are those of the written definition of halving (`steps`), and a library's search promises no count.
+#[tactic(auto, using(crate::proofs::Sought::place_sought, crate::proofs::Halving::turn_none, crate::proofs::Halving::few_steps))]
+pub fn find(image: &[u8], begin: usize, rows: usize, stamp: u64) -> Compared<Place>
     requires { (begin + row_length * rows ≤ length image.now) × (rising 0 (rows_at image.now begin rows) ≡ true) }
-    ensures { (result.place ≡ place_of (rows_at image.now begin rows) stamp) × (result.compared ≡ steps (rows_at image.now begin rows) stamp) }
+    ensures { (result.found ≡ place_of (rows_at image.now begin rows) stamp) × (result.compared ≡ steps (rows_at image.now begin rows) stamp) }
 {
     let mut low: usize = 0;
     let mut high = rows;
@@ -35,8 +57,8 @@ pub fn find(image: &[u8], begin: usize, rows: usize, stamp: u64) -> Sought
         let here = row::row_at(image, begin, middle).stamp;
         compared += 1;
         if here == stamp {
-            return Sought {
-                place: Place::Held { row: middle },
+            return Compared {
+                found: Place::Held { row: middle },
                 compared,
             };
         }
@@ -46,8 +68,8 @@ pub fn find(image: &[u8], begin: usize, rows: usize, stamp: u64) -> Sought
             high = middle;
         }
     }
-    Sought {
-        place: Place::Absent { row: low },
+    Compared {
+        found: Place::Absent { row: low },
         compared,
     }
 }

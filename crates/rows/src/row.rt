@@ -14,7 +14,7 @@ use crate::{body, reader};
 // The bytes of a row's fields.
 pub const LENGTH: usize = 24;
 
-// The fields of a row, in the order in which they stand.
+// The fields of a row, in the order in which they stand. The two codes stay bytes, and the retry stamp beside them, since a row is read before anything is known of it.
 #[derive(Clone, Copy)]
 pub struct RowFields {
     pub stamp: u64,
@@ -46,6 +46,7 @@ impl RowFields {
 }
 
 // The fields of the row at an index of an image whose rows begin there: the reader's work, in a plain slice.
+#[tactic(auto, unfolding(crate::specs::Fields::fields_at))]
 pub fn fields_at(image: &[u8], begin: usize, index: usize) -> RowFields
     requires { begin + row_length * index + row_length ≤ length image.now }
     ensures { result ≡ fields_at image.now (begin + row_length * index) }
@@ -71,6 +72,7 @@ pub fn row_at(image: &[u8], begin: usize, index: usize) -> RowFields
 }
 
 // Writes the row at an index of an image whose rows begin there. Whoever writes a whole row writes it here.
+#[tactic(auto, using(crate::proofs::RowSteps::row_steps))]
 pub fn write_row(image: &mut [u8], begin: usize, index: usize, row: RowFields)
     requires { begin + row_length * index + row_length ≤ length image.old }
     ensures { image.new ≡ replaced image.old (begin + row_length * index) (fields_bytes row) }
@@ -93,10 +95,11 @@ pub fn write_row(image: &mut [u8], begin: usize, index: usize, row: RowFields)
 pub fn body_length(reads: u8, writes: u8) -> usize
     ensures { (result ≡ body_length reads writes) × (result ≤ 4590) }
 {
-    9 * (reads as usize + writes as usize)
+    9 * (usize::from(reads) + usize::from(writes))
 }
 
 // A row's body: the part of the lent image where it lies.
+#[tactic(auto, unfolding(crate::specs::Inner::Rows::body_part))]
 pub fn body_of(image: &[u8], row: RowFields) -> &[u8]
     requires { BodyInside image.now row }
     ensures { result.now ≡ body_part image.now row }
@@ -123,6 +126,7 @@ pub fn body_at(image: &[u8], begin: usize, index: usize) -> &[u8]
 }
 
 // A stamp is 1 to 2^48-1.
+#[tactic(auto, using(rules::proofs::Chains::tests), unfolding(rules::specs::Stamps::is_stamp, rules::specs::Tests::both))]
 pub fn stamp_valid(stamp: u64) -> bool
     ensures { result ≡ is_stamp stamp }
 {
@@ -130,32 +134,26 @@ pub fn stamp_valid(stamp: u64) -> bool
 }
 
 // Prepare is 0 to 8, outcome 0 to 4, and not both are zero.
+#[tactic(auto, using(rules::proofs::Chains::tests), unfolding(crate::specs::Inner::FieldTests::codes_by_rule, rules::specs::Tests::both))]
 pub fn codes_valid(prepare: u8, outcome: u8) -> bool
     ensures { result ≡ codes_by_rule prepare outcome }
 {
-    if 8 < prepare {
-        return false;
-    }
-    if 4 < outcome {
-        return false;
-    }
-    0 < prepare + outcome
+    prepare <= 8 && outcome <= 4 && 0 < prepare + outcome
 }
 
 // The retry stamp is a stamp for RETRY, tentative or final, and 0 otherwise.
+#[tactic(auto, using(rules::proofs::Chains::tests), unfolding(crate::specs::Fields::retry_by_code, rules::specs::Tests::either))]
 pub fn retry_valid(prepare: u8, retry: u64) -> bool
     ensures { result ≡ retry_by_code prepare retry }
 {
-    if prepare == 4 {
-        return stamp_valid(retry);
+    match prepare {
+        4 | 8 => stamp_valid(retry),
+        _ => retry == 0,
     }
-    if prepare == 8 {
-        return stamp_valid(retry);
-    }
-    retry == 0
 }
 
 // Whether a row's body ends by `end`.
+#[tactic(auto, using(rules::proofs::Chains::tests))]
 pub fn body_inside(row: RowFields, end: usize) -> bool
     ensures { result ≡ leb (row.offset + body_length row.reads row.writes) end }
 {
@@ -170,60 +168,46 @@ pub fn stamp_rises(last: u64, stamp: u64) -> bool
 }
 
 // A stamp, and counts of a body.
+#[tactic(auto, using(rules::proofs::Chains::chain))]
 fn stamp_and_counts_valid(row: RowFields) -> bool
     ensures { result ≡ both (is_stamp row.stamp) (counts_by_rule row.reads row.writes) }
 {
-    if stamp_valid(row.stamp) {
-        return body::counts_valid(row.reads, row.writes);
-    }
-    false
+    stamp_valid(row.stamp) && body::counts_valid(row.reads, row.writes)
 }
 
 // A state that is plainly good, as most are: a prepare other than RETRY, tentative or final, with any outcome, and no retry stamp.
+// As one expression it was tried, and a walk took two instructions more for each row.
+#[tactic(auto, using(rules::proofs::Chains::tests), unfolding(crate::specs::Inner::FieldTests::state_plain, rules::specs::Tests::both))]
 fn state_plain(row: RowFields) -> bool
     ensures { result ≡ state_plain row.prepare row.retry row.outcome }
 {
-    if row.prepare % 4 == 0 {
-        return false;
-    }
-    if row.retry != 0 {
-        return false;
-    }
-    if 7 < row.prepare {
+    if row.prepare % 4 == 0 || row.retry != 0 || 7 < row.prepare {
         return false;
     }
     row.outcome <= 4
 }
 
 // The two bytes, and the retry stamp that goes with them. A state that is not plainly good goes through its tests in order.
+#[tactic(auto, using(rules::proofs::Chains::chain, crate::proofs::Codes::plain_state))]
 fn state_valid(row: RowFields) -> bool
     ensures { result ≡ both (codes_by_rule row.prepare row.outcome) (retry_by_code row.prepare row.retry) }
 {
-    if state_plain(row) {
-        return true;
-    }
-    if codes_valid(row.prepare, row.outcome) {
-        return retry_valid(row.prepare, row.retry);
-    }
-    false
+    state_plain(row)
+        || (codes_valid(row.prepare, row.outcome) && retry_valid(row.prepare, row.retry))
 }
 
 // All that a row's own fields tell.
+#[tactic(auto, using(rules::proofs::Chains::chain), unfolding(crate::specs::Inner::FieldTests::fields_by_rule))]
 pub fn fields_valid(row: RowFields) -> bool
     ensures { result ≡ fields_by_rule row }
 {
-    if stamp_and_counts_valid(row) {
-        return state_valid(row);
-    }
-    false
+    stamp_and_counts_valid(row) && state_valid(row)
 }
 
 // Whether a row stands in its place: its body where the one before ended, its stamp above the one before.
+#[tactic(auto, using(rules::proofs::Chains::chain), unfolding(crate::specs::Inner::Rows::place_by_rule, rules::specs::Tests::both))]
 pub fn place_valid(row: RowFields, last: u64, due: usize) -> bool
     ensures { result ≡ place_by_rule row last due }
 {
-    if row.offset as usize == due {
-        return stamp_rises(last, row.stamp);
-    }
-    false
+    row.offset as usize == due && stamp_rises(last, row.stamp)
 }

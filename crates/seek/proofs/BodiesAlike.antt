@@ -1,16 +1,13 @@
 -- Two bodies of the same counts are the same exactly if their bytes are.
-use mathlib.Core.Path.{◌≡◌, sym, ap, ◌∙◌}
-use mathlib.Core.Bool.{true, false}
+use mathlib.Core.Path.{◌≡◌, refl, sym, ap, ◌∙◌}
+use mathlib.Core.Bool.{Bool, true, false}
 use mathlib.Core.List.{List, [], append-nil}
 use mathlib.Core.Logic.{◌⊎◌, inl, inr}
-use Prim.Native.Nat.{ℕ, ◌+◌, ◌<◌}
-use native.Mathlib.Numerals.{add-one}
+use Prim.Native.Nat.{ℕ}
 use native.Mathlib.Omega.{arith}
-use lib.Dec.{eqb}
-use lib.ListN.{length, drop, get_or, drop_of_length-le}
-use lib.Seq.{drop-cons}
+use lib.ListN.{length, drop, drop_of_length-le}
+use Rattle.std.specs.Bool.{Decides}
 use Rattle.wire.specs.Inner.ByteLists.{AllBytes}
-use Rattle.rules.specs.Tests.{both}
 use Rattle.rules.specs.Stamps.{Body, same_body}
 use Rattle.rules.proofs.Logic.{cases, impossible}
 use Rattle.rules.proofs.Same.{same_body_lem, body_same}
@@ -22,15 +19,7 @@ use Rattle.rows.proofs.Begins.{begins_is, begins_with}
 use Rattle.rows.proofs.Bodies.{body_part_lem}
 use Rattle.rows.proofs.Turns.{body_of_part, length_body_part}
 
--- ---- bytes compared one by one
-
-pub begins_turn : (a b : List ℕ) (i : ℕ) → i < length a → i < length b → begins (drop i a) (drop i b) ≡ both (eqb (get_or a i 0) (get_or b i 0)) (begins (drop (i + 1) a) (drop (i + 1) b))
-unfolding begins
-begins_turn a b i p q = rw (drop-cons a i 0 p, drop-cons b i 0 q, add-one i)
-
-pub begins_none : (a b : List ℕ) (i : ℕ) → i ≡ length b → begins (drop i a) (drop i b) ≡ true
-unfolding begins
-begins_none a b i e = let none : drop i b ≡ [] = drop_of_length-le b {i = i} (omega arith) in rw none
+-- ---- bytes compared
 
 -- bytes of one length that begin with others are those
 begins_same : (a b : List ℕ) → length a ≡ length b → begins a b ≡ true → a ≡ b
@@ -38,6 +27,15 @@ begins_same a b e h = let none : drop (length b) a ≡ [] = drop_of_length-le a 
 
 pub same_begins : (a b : List ℕ) → a ≡ b → begins a b ≡ true
 same_begins a b e = rw e (rw (append-nil b) at (begins_with b []))
+
+-- so of one length each is equal to the other exactly if it begins with it
+pub equal_begins : (a b : List ℕ) (r : Bool) → Decides r (a ≡ b) → length a ≡ length b → r ≡ begins a b
+equal_begins a b true (same, told) l = sym (same_begins a b (same refl))
+equal_begins a b false (same, told) l = go (cases (begins a b))
+  where
+    go : (begins a b ≡ true) ⊎ (begins a b ≡ false) → false ≡ begins a b
+    go (inl h) = told (begins_same a b l h) ∙ sym h
+    go (inr h) = sym h
 
 -- ---- bodies
 

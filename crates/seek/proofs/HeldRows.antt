@@ -4,10 +4,12 @@ use mathlib.Core.Bool.{true, Bool}
 use mathlib.Core.List.{List, [], ◌∷◌, ◌++◌}
 use mathlib.Core.Option.{some}
 use Prim.Native.Nat.{ℕ, ◌+◌, ◌*◌, ◌≤◌, ◌<◌}
-use lib.ListN.{length}
+use lib.ListN.{length, get_or}
+use Rattle.std.proofs.Common.{Fits, w8}
 use Rattle.wire.specs.Inner.ByteLists.{AllBytes}
+use Rattle.wire.proofs.Numbers.{all_of}
 use Rattle.rules.specs.Tests.{every}
-use Rattle.rules.specs.Tables.{Row, Model, row_by_rule, prepare_code, prepare_retry, outcome_code}
+use Rattle.rules.specs.Tables.{Row, Model, valley, row_by_rule, prepare_code, prepare_retry, outcome_code}
 use Rattle.rules.specs.Messages.{held, changed}
 use Rattle.rules.proofs.Groups.{group_bounds}
 use Rattle.rules.proofs.Logic.{both_left, both_right}
@@ -28,7 +30,7 @@ use Rattle.table.specs.Parse.{table_at, BeginsWithImage}
 use Rattle.table.proofs.Images.{parse_by_rule, parse_reads}
 use Rattle.edit.specs.Inner.Holding.{Holds}
 use Rattle.edit.specs.Inner.Changes.{at_index}
-use Rattle.edit.proofs.Holding.{one_starts, holds_rows, holds_rows_at, holds_stands}
+use Rattle.edit.proofs.Holding.{one_starts, holds_least, holds_rows, holds_rows_at, holds_row_inside, holds_stands}
 use Rattle.edit.proofs.Indexes.{RowThere, row_there, changed_as}
 use Rattle.edit.proofs.EditedParts.{row_fields}
 
@@ -111,3 +113,29 @@ module _ (M : Model) (s : List ℕ) (stamp i : ℕ) (bytes : AllBytes s) (has_im
   -- and it is the row that the table then holds
   pub held_then : (by : Row → Row) → ((r : Row) → (by r).stamp ≡ r.stamp) → held (changed stamp by (table_at format_one s).rows) stamp ≡ some (by row_here)
   held_then by keeps = held-changed stamp by keeps (table_at format_one s).rows ∙ rw held_here refl
+
+-- what the code may ask of a row that a look-up found, and knows of the bytes that it reads there
+pub record RowHeld (s : List ℕ) (i : ℕ) : Type 0 where
+  pub holds : Holds format_one s
+  pub header : 24 ≤ length s
+  pub index : i < (header_at s).rows
+  pub inside : 24 + 24 * i + 24 ≤ length s
+  pub prepare : (fields_at s (24 + 24 * i)).prepare ≤ 8
+  pub outcome : (fields_at s (24 + 24 * i)).outcome ≤ 4
+  pub retry : retry_by_code (fields_at s (24 + 24 * i)).prepare (fields_at s (24 + 24 * i)).retry ≡ true
+
+pub row_held : (s : List ℕ) (stamp i : ℕ) → ((k : ℕ) → Fits w8 (get_or s k 0)) → BeginsWithImage valley s → place_of (table_at format_one s).rows stamp ≡ Held i → RowHeld s i
+row_held s stamp i fits has_image place =
+    let bytes : AllBytes s = all_of s (λ k. (fits k).fits) in
+    let holds : Holds format_one s = image_holds valley s has_image in
+    let index : i < (header_at s).rows = index_here valley s stamp i bytes has_image place in
+    let codes = codes_here valley s stamp i bytes has_image place in
+    record {
+      holds = holds;
+      header = holds_least format_one s one_starts holds;
+      index = index;
+      inside = holds_row_inside format_one s i one_starts holds index;
+      prepare = codes.0;
+      outcome = codes.1;
+      retry = codes.2;
+    }

@@ -1,15 +1,13 @@
 -- What a message finds, by what the header says and where its stamp stands.
 use mathlib.Core.Path.{◌≡◌, refl, sym, ap, ◌∙◌}
-use mathlib.Core.Bool.{Bool, true, false, not}
+use mathlib.Core.Bool.{Bool, true, false, not, cond}
 use mathlib.Core.List.{List}
 use mathlib.Core.Logic.{◌⊎◌, inl, inr}
 use mathlib.Core.Option.{none, some}
 use Prim.Native.Nat.{ℕ, ◌+◌, ◌-◌, ◌*◌, ◌/◌, ◌≤◌}
-use native.Mathlib.Nat.{div-le_self}
-use native.Mathlib.Omega.{arith}
 use lib.Dec.{eqb, ltb}
 use lib.ListN.{length}
-use borrow.Author.Tests.{eq-eqb, ne_eqb, eqb-true, le-ltb}
+use borrow.Author.Tests.{eq-eqb, eqb-true}
 use Rattle.wire.specs.Inner.ByteLists.{AllBytes}
 use Rattle.rules.specs.Groups.{f_of, quorum}
 use Rattle.rules.specs.Tables.{Row, Model, valley, rising}
@@ -37,12 +35,11 @@ use Rattle.table.specs.Parse.{table_at, BeginsWithImage}
 use Rattle.table.proofs.Images.{Sound, Parsed, parsed, valley_sound}
 use Rattle.edit.proofs.Holding.{one_starts, holds_rows, holds_rows_at, holds_row_inside}
 use Rattle.seek.specs.Inner.Limits.{limited}
-use Rattle.seek.specs.declared.Proposal.{Proposal}
-use Rattle.seek.specs.declared.Proposal.TheVariants as propose
-use Rattle.seek.specs.declared.Finding.{Finding}
-use Rattle.seek.specs.declared.Finding.TheVariants.{Refused}
+use Rattle.std.specs.Prelude.{Result, Ok, Err}
+use Rattle.numbers.specs.declared.Refusal.{Refusal}
+use Rattle.numbers.specs.declared.Refusal.TheVariants.{Changing, OtherBody, OtherView}
 use Rattle.seek.specs.Inner.Compared.{compared_to_finalise, compared_to_propose}
-use Rattle.seek.specs.Inner.Findings.{row_or_unknown, new_or_full, to_finalise, to_propose, RowInside, needed_body, NeededInside, other_counts}
+use Rattle.seek.specs.Inner.Findings.{in_view, row_or_unknown, new_or_full, to_finalise, to_propose, RowInside, needed_body, NeededInside, other_counts}
 use Rattle.seek.proofs.HeldRows.{held_here, index_here, image_holds}
 use Rattle.seek.proofs.BodiesAlike.{bodies_alike, same_begins}
 
@@ -57,21 +54,10 @@ not-true false n = refl
 -- ---- the header's words
 
 module _ (s : List ℕ) where
-  pub said_changing : (header_at s).mode ≡ 1 → is_changing (table_at format_one s) ≡ true
+  -- what a reader of the header tells of the mode is told of the table
+  pub mode_told : (h : Header) (told b : Bool) → h ≡ header_at s → told ≡ eqb h.mode 1 → told ≡ b → is_changing (table_at format_one s) ≡ b
   unfolding is_changing table_at
-  said_changing e = eq-eqb _ _ e
-
-  pub said_normal : ((header_at s).mode ≡ 1 → ⊥) → is_changing (table_at format_one s) ≡ false
-  unfolding is_changing table_at
-  said_normal n = ne_eqb _ _ n
-
-  pub said_other_view : (v : ℕ) → (v ≡ (header_at s).view → ⊥) → for_other_view (table_at format_one s) v ≡ true
-  unfolding for_other_view table_at
-  said_other_view v n = rw (ne_eqb _ _ n)
-
-  pub said_view : (v : ℕ) → v ≡ (header_at s).view → for_other_view (table_at format_one s) v ≡ false
-  unfolding for_other_view table_at
-  said_view v e = rw (eq-eqb _ _ e)
+  mode_told h told b e t same = sym (rw e at t) ∙ same
 
 -- ---- rows that can be walked
 
@@ -95,21 +81,31 @@ Sought s stamp place n = (place ≡ place_of (table_at format_one s).rows stamp)
 -- ---- messages 2 and 4
 
 -- what is found, and how many rows are compared for it
-abbrev pub Finalises : List ℕ → ℕ → ℕ → Finding → ℕ → Type 0
-Finalises s stamp v finding n = (finding ≡ to_finalise (table_at format_one s) stamp v) × (n ≡ compared_to_finalise (table_at format_one s) stamp v)
+abbrev pub Finalises : List ℕ → ℕ → ℕ → Result ℕ Refusal → ℕ → Type 0
+Finalises s stamp v found n = (found ≡ to_finalise (table_at format_one s) stamp v) × (n ≡ compared_to_finalise (table_at format_one s) stamp v)
 
-module _ (s : List ℕ) (stamp v : ℕ) where
-  pub finalise_changing : (header_at s).mode ≡ 1 → Finalises s stamp v (Refused 4) 0
-  unfolding to_finalise compared_to_finalise
-  finalise_changing e = rw (said_changing s e) (refl, refl)
+-- where a test or two come first: what they refuse is refused with no row compared, or nothing is refused by them
+refused_first : (a b : Bool) (r : Refusal) (sought : Result ℕ Refusal) (n : ℕ) → ◌≡◌ {A = Result (Unit {0}) Refusal} (Err r) (cond a (Err Changing) (cond b (Err OtherView) (Ok tt))) →
+    (Err r ≡ cond a (Err Changing) (cond b (Err OtherView) sought)) × (0 ≡ cond a 0 (cond b 0 n))
+refused_first true b r sought n e = let same : r ≡ Changing = cc in (ap Err same, refl)
+refused_first false true r sought n e = let same : r ≡ OtherView = cc in (ap Err same, refl)
+refused_first false false r sought n e = cc
 
-  pub finalise_other_view : ((header_at s).mode ≡ 1 → ⊥) → (v ≡ (header_at s).view → ⊥) → Finalises s stamp v (Refused 9) 0
-  unfolding to_finalise compared_to_finalise
-  finalise_other_view normal other = rw (said_normal s normal, said_other_view s v other) (refl, refl)
+neither_first : (a b : Bool) (done : Unit {0}) → Ok done ≡ cond a (Err Changing) (cond b (Err OtherView) (Ok tt)) → (a ≡ false) × (b ≡ false)
+neither_first true b done e = cc
+neither_first false true done e = cc
+neither_first false false done e = (refl, refl)
 
-  pub finalise_sought : ((header_at s).mode ≡ 1 → ⊥) → v ≡ (header_at s).view → (place : Place) (n : ℕ) → Sought s stamp place n → Finalises s stamp v (row_or_unknown place) n
-  unfolding to_finalise compared_to_finalise
-  finalise_sought normal same place n (e, f) = rw (said_normal s normal, said_view s v same) (ap row_or_unknown e, f)
+module _ (s : List ℕ) (stamp v : ℕ) (h : Header) (is : h ≡ header_at s) where
+  pub finalise_refused : (r : Refusal) → Err r ≡ in_view h v → Finalises s stamp v (Err r) 0
+  unfolding to_finalise compared_to_finalise is_changing for_other_view table_at
+  finalise_refused r e = refused_first _ _ r _ _ (rw is at e)
+
+  pub finalise_sought : (done : Unit {0}) → Ok done ≡ in_view h v → (place : Place) (n : ℕ) → Sought s stamp place n → Finalises s stamp v (row_or_unknown place) n
+  unfolding to_finalise compared_to_finalise is_changing for_other_view table_at
+  finalise_sought done t place n (e, f) =
+      let (normal, same) = neither_first _ _ done (rw is at t) in
+      rw (normal, same) (ap row_or_unknown e, f)
 
 -- ---- messages 1 and 3
 
@@ -118,33 +114,26 @@ pub room_is : (limit : ℕ) (h : Header) → ltb (h.rows - h.start) ((limit - h.
 unfolding keeps_room
 room_is limit h = refl
 
--- nothing was left, so there is no share
-pub no_room : (limit : ℕ) (h : Header) → limit ≤ h.start → false ≡ keeps_room limit (f_of h.n) h.start h.rows
-unfolding keeps_room
-no_room limit h l =
-    let d = div-le_self (limit - h.start) (f_of h.n + 1) in
-    sym (le-ltb (h.rows - h.start) ((limit - h.start) / (f_of h.n + 1)) (omega arith))
-
-abbrev pub Proposes : List ℕ → ℕ → ℕ → Body → Proposal → ℕ → Type 0
-Proposes s stamp limit x proposal n = (proposal ≡ to_propose (limited limit) (table_at format_one s) stamp x) × (n ≡ compared_to_propose (table_at format_one s) stamp)
+abbrev pub Proposes : List ℕ → ℕ → ℕ → Body → Result Place Refusal → ℕ → Type 0
+Proposes s stamp limit x found n = (found ≡ to_propose (limited limit) (table_at format_one s) stamp x) × (n ≡ compared_to_propose (table_at format_one s) stamp)
 
 module _ (s : List ℕ) (stamp limit : ℕ) (x : Body) where
-  pub propose_changing : (header_at s).mode ≡ 1 → Proposes s stamp limit x (propose.Against 4) 0
+  pub propose_changing : is_changing (table_at format_one s) ≡ true → Proposes s stamp limit x (Err Changing) 0
   unfolding to_propose compared_to_propose
-  propose_changing e = rw (said_changing s e) (refl, refl)
+  propose_changing e = rw e (refl, refl)
 
-  module _ (normal : (header_at s).mode ≡ 1 → ⊥) (place : Place) (n : ℕ) (found : Sought s stamp place n) where
+  module _ (normal : is_changing (table_at format_one s) ≡ false) (place : Place) (n : ℕ) (found : Sought s stamp place n) where
     compares : n ≡ compared_to_propose (table_at format_one s) stamp
     unfolding compared_to_propose
-    compares = rw (said_normal s normal) found.1
+    compares = rw (normal) found.1
 
-    pub propose_other : held_with_other_body (table_at format_one s) stamp x ≡ true → Proposes s stamp limit x (propose.Against 5) n
+    pub propose_other : held_with_other_body (table_at format_one s) stamp x ≡ true → Proposes s stamp limit x (Err OtherBody) n
     unfolding to_propose
-    propose_other other = (rw (said_normal s normal, other), compares)
+    propose_other other = (rw (normal, other), compares)
 
-    pub propose_held : (i : ℕ) (r : Row) → place ≡ Held i → held (table_at format_one s).rows stamp ≡ some r → held_with_other_body (table_at format_one s) stamp x ≡ false → Proposes s stamp limit x (propose.Held i) n
+    pub propose_held : (r : Row) → held (table_at format_one s).rows stamp ≡ some r → held_with_other_body (table_at format_one s) stamp x ≡ false → Proposes s stamp limit x (Ok place) n
     unfolding to_propose new_but_full both
-    propose_held i r here there same = (rw (said_normal s normal, same, there, sym found.0 ∙ here), compares)
+    propose_held r there same = (rw (normal, same, there) (ap Ok found.0), compares)
 
     module _ (i : ℕ) (nowhere : place ≡ Absent i) where
       absent : held (table_at format_one s).rows stamp ≡ none
@@ -166,8 +155,8 @@ module _ (s : List ℕ) (stamp limit : ℕ) (x : Body) where
           room = keeps_room limit (f_of (header_at s).n) (header_at s).start (header_at s).rows
 
           go : (room ≡ true) ⊎ (room ≡ false) → new_or_full room place ≡ to_propose (limited limit) (table_at format_one s) stamp x
-          go (inl h) = let e = sym room_told ∙ h in rw (said_normal s normal, not_other, absent, e, sym found.0 ∙ nowhere, h, nowhere)
-          go (inr h) = let e = sym room_told ∙ h in rw (said_normal s normal, not_other, absent, e, h, nowhere)
+          go (inl h) = let e = sym room_told ∙ h in rw (normal, not_other, absent, e, sym found.0 ∙ nowhere, h, nowhere)
+          go (inr h) = let e = sym room_told ∙ h in rw (normal, not_other, absent, e, h, nowhere)
 
 -- the row that is held has another body, or not
 module _ (s m : List ℕ) (i : ℕ) (g : RowFields) (bytes : AllBytes s) (given : AllBytes m) (has_image : BeginsWithImage valley s) (place : place_of (table_at format_one s).rows g.stamp ≡ Held i) (inside : BodyInside m g) where

@@ -1,7 +1,7 @@
-// The row that a message is about, or the number for which it is refused before a row's state is looked at.
+// The row that a message is about, or the reason for which it is refused before a row's state is looked at.
 #![tactic(auto)]
 
-ghost use Rattle.std.specs.Prelude.{◌≡◌, ◌≤◌, ◌<◌, length};
+ghost use Rattle.std.specs.Prelude.{◌≡◌, ◌≤◌, length};
 ghost use Rattle.rules.specs.Groups.{f_of};
 ghost use Rattle.rules.specs.Tables.{valley};
 ghost use Rattle.rules.specs.Circumstances.{keeps_room, held_with_other_body};
@@ -13,13 +13,12 @@ ghost use Rattle.table.specs.Headers.{header_at};
 ghost use Rattle.table.specs.Images.{format_one};
 ghost use Rattle.table.specs.Parse.{table_at, BeginsWithImage};
 ghost use Rattle.seek.specs.Inner.Limits.{limited};
-ghost use Rattle.seek.specs.Inner.Findings.{RowInside, needed_body, NeededInside, other_counts, new_or_full, to_finalise, to_propose};
-ghost use Rattle.seek.specs.declared.Finding.TheVariants.{Refused};
-ghost use Rattle.seek.specs.declared.Proposal.TheVariants.{Against};
+ghost use Rattle.seek.specs.Inner.Findings.{RowInside, needed_body, NeededInside, other_counts, in_view, new_or_full, to_finalise, to_propose};
 ghost use Rattle.seek.specs.Inner.Compared.{compared_to_finalise, compared_to_propose};
 
+use numbers::Refusal;
 use quorums;
-use rows::lookup::{Place, Sought};
+use rows::lookup::{Compared, Place};
 use rows::row::RowFields;
 use rows::{lookup, row};
 use table::header;
@@ -28,85 +27,42 @@ use table::header::Header;
 // A row with the greatest body: its fields, and eight accesses of 9 bytes.
 pub const GREATEST_ROW: usize = 96;
 
-// What is found for a message that finalises.
-#[derive(Clone, Copy)]
-pub enum Finding {
-    Known { index: usize },
-    Refused { number: u8 },
-}
-
-// What is found for a message that proposes: the stamp's row, or the index that its row would have.
-#[derive(Clone, Copy)]
-pub enum Proposal {
-    Held { index: usize },
-    New { index: usize },
-    Against { number: u8 },
-}
-
-// Either of them, with the rows that were compared to find it.
-#[derive(Clone, Copy)]
-pub struct FoundToFinalise {
-    pub finding: Finding,
-    pub compared: usize,
-}
-
-#[derive(Clone, Copy)]
-pub struct FoundToPropose {
-    pub proposal: Proposal,
-    pub compared: usize,
-}
-
-impl FoundToFinalise {
-    fn refused(number: u8, compared: usize) -> FoundToFinalise
-        ensures { (result.finding ≡ Refused number) × (result.compared ≡ compared) }
-    {
-        FoundToFinalise {
-            finding: Finding::Refused { number },
-            compared,
-        }
-    }
-}
-
-impl FoundToPropose {
-    fn refused(number: u8, compared: usize) -> FoundToPropose
-        ensures { (result.proposal ≡ Against number) × (result.compared ≡ compared) }
-    {
-        FoundToPropose {
-            proposal: Proposal::Against { number },
-            compared,
-        }
-    }
-}
-
 // Where the table that an image holds has a stamp. Whoever in the library seeks one does so here.
-pub fn find(image: &[u8], h: Header, stamp: u64) -> Sought
+pub fn find(image: &[u8], h: Header, stamp: u64) -> Compared<Place>
     requires { BeginsWithImage valley image.now × (h ≡ header_at image.now) }
-    ensures { (result.place ≡ place_of (table_at format_one image.now).rows stamp) × (result.compared ≡ steps (table_at format_one image.now).rows stamp) }
+    ensures { (result.found ≡ place_of (table_at format_one image.now).rows stamp) × (result.compared ≡ steps (table_at format_one image.now).rows stamp) }
 {
     lookup::find(image, header::LENGTH, h.rows as usize, stamp)
 }
 
-// Messages 2 and 4: the row of the stamp, in a box that is in that view. A refusal that comes before the search has compared nothing.
-pub fn row_to_finalise(table: &[u8], stamp: u64, view: u32) -> FoundToFinalise
-    requires { BeginsWithImage valley table.now }
-    ensures { (result.finding ≡ to_finalise (table_at format_one table.now) stamp view) × (result.compared ≡ compared_to_finalise (table_at format_one table.now) stamp view) }
+// Messages 2 and 4 are for a box that is in their view.
+fn in_view(h: Header, view: u32) -> Result<(), Refusal>
+    ensures { result ≡ in_view h view }
 {
-    let h = header::read(table);
-    if h.mode == 1 {
-        return FoundToFinalise::refused(4, 0);
+    if h.is_changing() {
+        return Err(Refusal::Changing);
     }
     if view != h.view {
-        return FoundToFinalise::refused(9, 0);
+        return Err(Refusal::OtherView);
+    }
+    Ok(())
+}
+
+// Messages 2 and 4: the row of the stamp, in a box that is in that view. A refusal that comes before the search has compared nothing.
+pub fn row_to_finalise(table: &[u8], stamp: u64, view: u32) -> Compared<Result<usize, Refusal>>
+    requires { BeginsWithImage valley table.now }
+    ensures { (result.found ≡ to_finalise (table_at format_one table.now) stamp view) × (result.compared ≡ compared_to_finalise (table_at format_one table.now) stamp view) }
+{
+    let h = header::read(table);
+    if let Err(refusal) = in_view(h, view) {
+        return Compared::without_search(Err(refusal));
     }
     let sought = find(table, h, stamp);
-    let place = sought.place;
+    let place = sought.found;
     let Place::Held { row: index } = place else {
-        return FoundToFinalise::refused(8, sought.compared);
+        return sought.with(Err(Refusal::Unknown));
     };
-    FoundToFinalise {
-        finding: Finding::Known { index },
-        compared: sought.compared,
-    }
+    sought.with(Ok(index))
 }
 
 // A body that is needed for an answer: the table's if the stamp is known, else the message's.
@@ -125,15 +81,7 @@ pub fn same_bytes(a: &[u8], b: &[u8]) -> bool
     requires { length a.now ≡ length b.now }
     ensures { result ≡ begins a.now b.now }
 {
-    let n = b.len();
-    let mut i: usize = 0;
-    while i < n {
-        if a[i] != b[i] {
-            return false;
-        }
-        i += 1;
-    }
-    true
+    a == b
 }
 
 // Whether the row of a stamp has other counts than a message. A body split otherwise into reads and writes is another.
@@ -145,10 +93,7 @@ fn other_counts(table: &[u8], place: Place, given: RowFields) -> bool
         return false;
     };
     let held = row::row_at(table, header::LENGTH, index);
-    if held.reads != given.reads {
-        return true;
-    }
-    held.writes != given.writes
+    held.reads != given.reads || held.writes != given.writes
 }
 
 // Whether a stamp is held with another body than a message has: what is needed for the answer is then not what the message says.
@@ -156,39 +101,35 @@ pub fn other_body<'a>(table: &'a [u8], message: &'a [u8], place: Place, given: R
     requires { BeginsWithImage valley table.now × (place ≡ place_of (table_at format_one table.now).rows given.stamp) × BodyInside message.now given }
     ensures { result ≡ held_with_other_body (table_at format_one table.now) given.stamp (body_at message.now given.offset given.reads given.writes) }
 {
-    if other_counts(table, place, given) {
-        return true;
-    }
-    !same_bytes(
-        needed_body(table, message, place, given),
-        row::body_of(message, given),
-    )
+    other_counts(table, place, given)
+        || !same_bytes(
+            needed_body(table, message, place, given),
+            row::body_of(message, given),
+        )
 }
 
 // Whether one more row has room: while fewer were added since the view began than a share of what was left then. There are f+1 shares, one for each table of a merge. This is asked here and nowhere else.
 fn has_room(h: Header, limit: u16) -> bool
-    requires { (0 < h.n) × (h.start ≤ h.rows) }
+    requires { h.start ≤ h.rows }
     ensures { result ≡ keeps_room limit (f_of h.n) h.start h.rows }
 {
-    if limit as u32 <= h.start {
-        return false;
-    }
-    let left = (limit as u32 - h.start) as usize;
+    let left = u32::from(limit).saturating_sub(h.start) as usize;
     ((h.rows - h.start) as usize) < left / quorums::quorum(h.n)
 }
 
 // A stamp that is not held: the place of its row, if there is room. It is asked only where no row is held, so the refusal for a held one is never reached.
-fn new_row(place: Place, h: Header, limit: u16) -> Proposal
-    requires { (0 < h.n) × (h.start ≤ h.rows) }
+fn new_row(place: Place, h: Header, limit: u16) -> Result<Place, Refusal>
+    requires { h.start ≤ h.rows }
     ensures { result ≡ new_or_full (keeps_room limit (f_of h.n) h.start h.rows) place }
 {
-    let Place::Absent { row: index } = place else {
-        return Proposal::Against { number: 7 };
+    let Place::Absent { row: _ } = place else {
+        return Err(Refusal::Full);
     };
     if has_room(h, limit) {
-        return Proposal::New { index };
+        Ok(place)
+    } else {
+        Err(Refusal::Full)
     }
-    Proposal::Against { number: 7 }
 }
 
 // Messages 1 and 3: the row of the stamp, if it is held with this body, or the place of a new one, if there is room. A refusal that comes before the search has compared nothing.
@@ -197,27 +138,21 @@ pub fn row_to_propose<'a>(
     message: &'a [u8],
     given: RowFields,
     limit: u16,
-) -> FoundToPropose
+) -> Compared<Result<Place, Refusal>>
     requires { BeginsWithImage valley table.now × BodyInside message.now given }
-    ensures { (result.proposal ≡ to_propose (limited limit) (table_at format_one table.now) given.stamp (body_at message.now given.offset given.reads given.writes)) × (result.compared ≡ compared_to_propose (table_at format_one table.now) given.stamp) }
+    ensures { (result.found ≡ to_propose (limited limit) (table_at format_one table.now) given.stamp (body_at message.now given.offset given.reads given.writes)) × (result.compared ≡ compared_to_propose (table_at format_one table.now) given.stamp) }
 {
     let h = header::read(table);
-    if h.mode == 1 {
-        return FoundToPropose::refused(4, 0);
+    if h.is_changing() {
+        return Compared::without_search(Err(Refusal::Changing));
     }
     let sought = find(table, h, given.stamp);
-    let place = sought.place;
-    let Place::Held { row: index } = place else {
-        return FoundToPropose {
-            proposal: new_row(place, h, limit),
-            compared: sought.compared,
-        };
+    let place = sought.found;
+    let Place::Held { row: _ } = place else {
+        return sought.with(new_row(place, h, limit));
     };
     if other_body(table, message, place, given) {
-        return FoundToPropose::refused(5, sought.compared);
+        return sought.with(Err(Refusal::OtherBody));
     }
-    FoundToPropose {
-        proposal: Proposal::Held { index },
-        compared: sought.compared,
-    }
+    sought.with(Ok(place))
 }

@@ -10,7 +10,7 @@ use borrow.Author.Tests.{eq-eqb, ne_eqb, lt-ltb}
 use Rattle.wire.specs.Inner.ByteLists.{AllBytes}
 use Rattle.rules.specs.Tests.{both, every}
 use Rattle.rules.specs.Stamps.{Body}
-use Rattle.rules.specs.Tables.{Prepare, Prepare.tentative, Prepare.final, Outcome.noted, Outcome.done, Row, Table, rising, prepare_code, outcome_code, something_held}
+use Rattle.rules.specs.Tables.{Prepare, Prepare.tentative, Prepare.final, Outcome.noted, Outcome.done, Row, Table, rising, prepare_code, outcome_code, something_held, result_code, result_retry}
 use Rattle.rules.specs.Messages.{with_prepare, with_rows}
 use Rattle.rules.specs.Check.{check}
 use Rattle.rules.specs.Merge.{is_settled}
@@ -19,8 +19,7 @@ use Rattle.rows.specs.declared.row.RowFields.{RowFields}
 use Rattle.rows.specs.Bytes.{bodies_length}
 use Rattle.rows.specs.Fields.{fields_at, fields_of, result_numbered, prepare_numbered, verdict_numbered, outcome_numbered, retry_by_code}
 use Rattle.rows.specs.Read.{body_at, row_of, rows_at}
-use Rattle.rows.specs.Inner.Rows.{BodyInside, RowsInside, body_part}
-use Rattle.rows.proofs.Turns.{body_of_part}
+use Rattle.rows.specs.Inner.Rows.{BodyInside, RowsInside}
 use Rattle.table.specs.Headers.{header_at}
 use Rattle.table.specs.Images.{format_one, image_length}
 use Rattle.table.specs.Parse.{table_at}
@@ -31,7 +30,6 @@ use Rattle.edit.proofs.Holding.{one_starts, holds_long, holds_stands, holds_rows
 use Rattle.edit.proofs.EditedBuffers.{edited_as, edited_same, edited_holds, edited_twice}
 use Rattle.edit.proofs.EditedParts.{row_fields}
 use Rattle.edit.proofs.RowsJoined.{bodies_length_joined}
-use Rattle.checks.specs.Inner.Given.{checked_as}
 use Rattle.settle.specs.Inner.Marks.{is_marked}
 use Rattle.settle.specs.Inner.Turns.{has_stamp, waits, checked_by, checked_rows}
 use Rattle.settle.proofs.ChecksInTurn.{RowIs, row_read, at_row, left, turn_start, turn_passed, turn_checked, turn_end, row_keep, left_keep, kept_image, check_result_codes}
@@ -103,26 +101,26 @@ module _ (is_open agreed : Bool) (s : List ℕ) (f : RowFields) where
 
 -- what the check says of the row at an index, as it is called
 abbrev said : List ℕ → RowFields → Body
-said s f = body_at (body_part s f) 0 f.reads f.writes
+said s f = (row_of s f).body
 
 module _ (s : List ℕ) (a : AllBytes s) (h : Holds format_one s) (i : ℕ) (l : i < (header_at s).rows) (stamped : every has_stamp (table_at format_one s).rows ≡ true) where
   abbrev fields : RowFields
   fields = fields_at s (24 + 24 * i)
 
-  codes : let k = checked_as (check (rows_at s 24 (header_at s).rows) fields.stamp (said s fields)) in (k.code ≤ 4) × (0 < k.code) × (retry_by_code (k.code + 4) k.retry ≡ true) × (prepare_numbered (k.code + 4) k.retry ≡ final (check (rows_at s 24 (header_at s).rows) fields.stamp (said s fields)))
+  codes : let k = check (rows_at s 24 (header_at s).rows) fields.stamp (said s fields) in (result_code k ≤ 4) × (0 < result_code k) × (retry_by_code (result_code k + 4) (result_retry k) ≡ true) × (prepare_numbered (result_code k + 4) (result_retry k) ≡ final k)
   codes = check_result_codes (rows_at s 24 (header_at s).rows) fields.stamp (said s fields) (rw (holds_rows_at format_one s) at stamped)
 
-  pub checked_storable : let k = checked_as (check (rows_at s 24 (header_at s).rows) fields.stamp (said s fields)) in (k.code + 4 ≤ 8) × (retry_by_code (k.code + 4) k.retry ≡ true)
+  pub checked_storable : let k = check (rows_at s 24 (header_at s).rows) fields.stamp (said s fields) in (result_code k + 4 ≤ 8) × (retry_by_code (result_code k + 4) (result_retry k) ≡ true)
   checked_storable = let (m, n, r, e) = codes in (omega arith, r)
 
-  pub checked_edited : let k = checked_as (check (rows_at s 24 (header_at s).rows) fields.stamp (said s fields)) in edited format_one (on_row i (with_prepare (prepare_numbered (k.code + 4) k.retry))) s ≡ edited format_one (on_row i (checked_by (table_at format_one s).rows)) s
+  pub checked_edited : let k = check (rows_at s 24 (header_at s).rows) fields.stamp (said s fields) in edited format_one (on_row i (with_prepare (prepare_numbered (result_code k + 4) (result_retry k)))) s ≡ edited format_one (on_row i (checked_by (table_at format_one s).rows)) s
   unfolding row_of
   checked_edited =
       let x : Body = body_at s fields.offset fields.reads fields.writes in
       let r : Row = row_of s fields in
       let R : List Row = (table_at format_one s).rows in
       let w : RowIs R i r = row_stands s i l in
-      let b : said s fields ≡ x = body_of_part s fields (body_there s a h i l) in
+      let b : said s fields ≡ x = refl in
       let e : final (check (rows_at s 24 (header_at s).rows) fields.stamp (said s fields)) ≡ final (check (table_at format_one s).rows fields.stamp x) = ap₂ (λ (rows : List Row) (y : Body). final (check rows fields.stamp y)) (sym (holds_rows_at format_one s)) b in
       let p = codes.3 ∙ e in
       edited_as format_one _ _ s (ap (with_rows (table_at format_one s)) (at_row R i r w _ ∙ ap (λ (q : Prepare). w.before ++ (with_prepare q r ∷ w.behind)) p ∙ sym (at_row R i r w (checked_by R))))

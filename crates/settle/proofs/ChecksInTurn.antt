@@ -31,7 +31,6 @@ use Rattle.rows.specs.Read.{row_of, rows_at}
 use Rattle.table.specs.Images.{format_one, image_length}
 use Rattle.edit.specs.Inner.Changes.{at_index}
 use Rattle.edit.proofs.Indexes.{at_index_lem, none_changed}
-use Rattle.checks.specs.Inner.Given.{checked_as}
 use Rattle.settle.specs.Inner.Marks.{is_marked}
 use Rattle.settle.specs.Inner.Turns.{has_stamp, waits, waiting, checked_by, checked_rows}
 
@@ -353,6 +352,6 @@ result_codes ABSTAIN h = (omega arith, omega arith, refl, refl)
 result_codes (RETRY t) h = (omega arith, omega arith, h, refl)
 
 pub check_result_codes : (rows : List Row) (s : ℕ) (x : Body) → every has_stamp rows ≡ true →
-    let k = checked_as (check rows s x) in
-    (k.code ≤ 4) × (0 < k.code) × (retry_by_code (k.code + 4) k.retry ≡ true) × (prepare_numbered (k.code + 4) k.retry ≡ final (check rows s x))
+    let k = check rows s x in
+    (result_code k ≤ 4) × (0 < result_code k) × (retry_by_code (result_code k + 4) (result_retry k) ≡ true) × (prepare_numbered (result_code k + 4) (result_retry k) ≡ final k)
 check_result_codes rows s x h = result_codes (check rows s x) (check_stamped rows s x h)

@@ -1,49 +1,37 @@
 -- The word of a count: which answers have no result, and that a result fits its bits.
 use mathlib.Core.Path.{◌≡◌, refl, sym, subst, ap, ◌∙◌}
-use mathlib.Core.Bool.{Bool, true, false, cond}
+use mathlib.Core.Bool.{true}
 use mathlib.Core.Logic.{◌⊎◌, inl, inr}
 use mathlib.Core.List.Memᴰ
-use mathlib.Core.List.{List, [], ◌∷◌}
+use mathlib.Core.List.{[], ◌∷◌, List}
 use Prim.Native.Nat.{ℕ, ◌%◌, ◌/◌, ◌^◌, ◌<◌}
 use native.Mathlib.Nat.{zero-add}
 use native.Mathlib.Omega.{arith}
-use types.Run.{OneOf}
-use denote.Enum.Declared.{tag_of}
-use lib.Dec.{eqb}
+use Rattle.std.specs.Prelude.{Ok, Err}
 use borrow.Author.Tests.{ltb-true}
 use Rattle.rules.specs.Stamps.{is_stamp}
-use Rattle.rules.specs.Numbers.{Number.contradiction, number_code}
 use Rattle.rules.specs.Tables.{Result, Result.OK, Result.ABORT, Result.ABSTAIN, Result.RETRY, result_code, result_retry, result_by_rule}
 use Rattle.rules.specs.Count as rules
 use Rattle.rules.specs.Inner.CountAnswers.{counted_number}
 use Rattle.rules.proofs.Logic.{both_right}
 use Rattle.rules.proofs.Lists.{◌∈◌}
 use Rattle.replies.specs.declared.held.Reply.{Reply}
-use Rattle.count.specs.declared.answer.Counted.{Counted}
-use Rattle.count.specs.declared.answer.Counted.TheVariants.{Fast, Slow, Wait, Bad, Contradiction}
-use Rattle.count.specs.Answers.{answer_as, answer_number}
+use Rattle.count.specs.declared.answer.Counted.TheVariants.{Fast, Slow, Wait}
+use Rattle.count.specs.Answers.{Answer, answer_as, answer_number}
 use Rattle.count.specs.Inner.MeantAnswers.{meant}
 use Rattle.count.specs.Inner.RecordBytes.{records_bytes}
 use Rattle.count.proofs.HeardBytes.{AllFit, same_count}
 use Rattle.count.proofs.CountWays.{Lent, Lent.records, Lent.laid, count_lent, count_numbers}
 use Rattle.count.proofs.CountCall.{answer_by_rule, answer_meant}
-use Rattle.count.specs.contracts.answer.Counted as enum
 use Rattle.sprondilu.specs.Calls.{result_word, count_answer}
 use Rattle.sprondilu.specs.Inner.Words.{ResultFits}
 
 -- neither fast nor slow: the word is the number
-pub without_result : (a : Counted) → OneOf (1 ∷ 2 ∷ 3 ∷ 4 ∷ []) (tag_of enum.the_type a) → OneOf (0 ∷ 2 ∷ 3 ∷ 4 ∷ []) (tag_of enum.the_type a) → answer_number a ≡ count_answer a
-without_result (Fast result retry) (inl e) k = absurd (omega arith)
-without_result (Fast result retry) (inr (inl e)) k = absurd (omega arith)
-without_result (Fast result retry) (inr (inr (inl e))) k = absurd (omega arith)
-without_result (Fast result retry) (inr (inr (inr e))) k = absurd (omega arith)
-without_result (Slow result retry) h (inl e) = absurd (omega arith)
-without_result (Slow result retry) h (inr (inl e)) = absurd (omega arith)
-without_result (Slow result retry) h (inr (inr (inl e))) = absurd (omega arith)
-without_result (Slow result retry) h (inr (inr (inr e))) = absurd (omega arith)
-without_result Wait h k = refl
-without_result Bad h k = refl
-without_result Contradiction h k = refl
+pub without_result : (a : Answer) → ((result retry : ℕ) → a ≡ Ok (Fast result retry) → ⊥) → ((result retry : ℕ) → a ≡ Ok (Slow result retry) → ⊥) → answer_number a ≡ count_answer a
+without_result (Ok (Fast result retry)) f s = absurd (f result retry refl)
+without_result (Ok (Slow result retry)) f s = absurd (s result retry refl)
+without_result (Ok Wait) f s = refl
+without_result (Err refusal) f s = refl
 
 small : (r : Result) → result_by_rule r ≡ true → (result_code r < 8) × (result_retry r < 2 ^ 48)
 unfolding result_by_rule is_stamp
@@ -52,21 +40,17 @@ small ABORT h = (omega arith, omega arith)
 small ABSTAIN h = (omega arith, omega arith)
 small (RETRY s) h = (omega arith, ltb-true s (2 ^ 48) (both_right _ _ h))
 
-result_fits : (c : rules.Counted) → ((r : Result) → (c ≡ rules.Counted.fast r) ⊎ (c ≡ rules.Counted.slow r) → result_by_rule r ≡ true) → (a : Counted) → a ≡ answer_as c → ResultFits a
+result_fits : (c : rules.Counted) → ((r : Result) → (c ≡ rules.Counted.fast r) ⊎ (c ≡ rules.Counted.slow r) → result_by_rule r ≡ true) → (a : Answer) → a ≡ answer_as c → ResultFits a
 result_fits c h a e = subst ResultFits (sym e) (go c h)
   where
-    refusal : (b : Bool) → ResultFits (cond b Contradiction Bad)
-    refusal true = tt
-    refusal false = tt
-
     go : (c : rules.Counted) → ((r : Result) → (c ≡ rules.Counted.fast r) ⊎ (c ≡ rules.Counted.slow r) → result_by_rule r ≡ true) → ResultFits (answer_as c)
     go (rules.Counted.fast r) k = small r (k r (inl refl))
     go (rules.Counted.slow r) k = small r (k r (inr refl))
     go rules.Counted.wait k = tt
-    go (rules.Counted.refused j) k = refusal (eqb j (number_code contradiction))
+    go (rules.Counted.refused j) k = tt
 
 -- whatever is lent
-pub lent_fits : (n : ℕ) (lent : Lent) (a : Counted) → a ≡ answer_as (count_lent n lent) → ResultFits a
+pub lent_fits : (n : ℕ) (lent : Lent) (a : Answer) → a ≡ answer_as (count_lent n lent) → ResultFits a
 lent_fits n lent = result_fits (count_lent n lent) (answer_by_rule n lent)
 
 -- ---- the word that either call answers
@@ -94,11 +78,7 @@ word_says n lent = go (count_lent n lent) (answer_by_rule n lent) (answer_meant 
     go (rules.Counted.fast r) h m = let (k, l) = small r (h r (inl refl)) in rw (zero-add (result_word 1 (result_code r) (result_retry r))) (word_apart 1 (result_code r) (result_retry r) (omega arith) k)
     go (rules.Counted.slow r) h m = let (k, l) = small r (h r (inr refl)) in rw (zero-add (result_word 2 (result_code r) (result_retry r))) (word_apart 2 (result_code r) (result_retry r) (omega arith) k)
     go rules.Counted.wait h m = refl
-    go (rules.Counted.refused k) h m = refusal (eqb k (number_code contradiction)) m
-      where
-        refusal : (b : Bool) → meant (cond b Contradiction Bad) ≡ rules.Counted.refused k → count_answer (cond b Contradiction Bad) ≡ k
-        refusal true e = ap counted_number e
-        refusal false e = ap counted_number e
+    go (rules.Counted.refused k) h m = ap counted_number m
 
 -- so its number is that of the count
 pub word_number : (n : ℕ) (lent : Lent) → count_word n lent % 256 ≡ counted_number (count_lent n lent)

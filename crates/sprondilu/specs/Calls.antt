@@ -1,16 +1,13 @@
 -- How answers cross the C boundary, where they are more than 01's number.
-use Rattle.std.specs.Prelude.{ℕ, ◌+◌, ◌*◌}
+use Rattle.std.specs.Prelude.{Option, Some, None, Ok, Err, ℕ, ◌+◌, ◌*◌}
 use Rattle.rules.specs.Numbers.{Number.bad_table, number_code}
-use Rattle.table.specs.declared.image.Found.{Found}
-use Rattle.table.specs.declared.image.Found.TheVariants.{Image, Nothing}
-use Rattle.count.specs.Answers.{answer_number}
-use Rattle.count.specs.declared.answer.Counted.{Counted}
-use Rattle.count.specs.declared.answer.Counted.TheVariants.{Fast, Slow, Wait, Bad, Contradiction}
+use Rattle.count.specs.Answers.{Answer, answer_number}
+use Rattle.count.specs.declared.answer.Counted.TheVariants.{Fast, Slow, Wait}
 
 -- the number in bits 0 to 7; for number 0 the image's length in bits 16 to 63; all other bits 0
-abbrev pub valid_answer : Found → ℕ
-valid_answer (Image length) = 65536 * length
-valid_answer Nothing = number_code bad_table
+abbrev pub valid_answer : Option ℕ → ℕ
+valid_answer (Some length) = 65536 * length
+valid_answer None = number_code bad_table
 
 -- 02, P7, "beside the reply": the number in bits 0 to 7, the rows that were compared in bits 16 to 63; all other bits 0
 abbrev pub compared_answer : ℕ → ℕ → ℕ
@@ -21,9 +18,8 @@ abbrev pub result_word : ℕ → ℕ → ℕ → ℕ
 result_word kind result retry = 256 * kind + 1024 * result + 65536 * retry
 
 -- the number in bits 0 to 7; for number 0 the kind (0 wait, 1 fast, 2 slow), the result (0 for wait) and its retry stamp; all other bits 0
-abbrev pub count_answer : Counted → ℕ
-count_answer (Fast result retry) = answer_number (Fast result retry) + result_word 1 result retry
-count_answer (Slow result retry) = answer_number (Slow result retry) + result_word 2 result retry
-count_answer Wait = answer_number Wait + result_word 0 0 0
-count_answer Bad = answer_number Bad
-count_answer Contradiction = answer_number Contradiction
+abbrev pub count_answer : Answer → ℕ
+count_answer (Ok (Fast result retry)) = answer_number (Ok (Fast result retry)) + result_word 1 result retry
+count_answer (Ok (Slow result retry)) = answer_number (Ok (Slow result retry)) + result_word 2 result retry
+count_answer (Ok Wait) = answer_number (Ok Wait) + result_word 0 0 0
+count_answer (Err refusal) = answer_number (Err refusal)

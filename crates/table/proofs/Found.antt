@@ -1,8 +1,10 @@
 -- A look for an image in lent bytes: too few bytes begin with none, and for the others its two tests are those of the parse.
-use mathlib.Core.Path.{◌≡◌, refl, ap}
-use mathlib.Core.Bool.{Bool, true}
+use mathlib.Core.Path.{◌≡◌, refl, sym, ap}
+use mathlib.Core.Bool.{Bool, true, false}
 use mathlib.Core.List.{List, ◌++◌}
 use mathlib.Core.Option.{Option, none, some}
+use Rattle.std.specs.Prelude as given
+use Rattle.std.specs.Bool.{then_some}
 use Prim.Native.Nat.{ℕ, ◌+◌, ◌*◌, ◌^◌, ◌≤◌, ◌<◌}
 use native.Mathlib.Omega.{arith}
 use lib.ListN.{length}
@@ -14,9 +16,9 @@ use Rattle.rules.specs.Tests.{both, provided}
 use Rattle.rules.specs.Tables.{Table, Model, valley, is_view, table_by_rule}
 use Rattle.rules.proofs.Logic.{both_left, both_right, both_true, same_test}
 use Rattle.rules.proofs.Tables.{Regular, table_facts, table_by}
+use Rattle.table.specs.declared.header.Header.{Header}
 use Rattle.table.specs.Headers.{header_bytes, header_at}
 use Rattle.table.specs.Inner.HeaderTests.{sizes_by_rule, header_by_rule_at}
-use Rattle.table.specs.declared.image.Found.TheVariants.{Image, Nothing}
 use Rattle.rows.specs.Bytes.{bodies_bytes, rows_bytes}
 use Rattle.table.specs.Images.{Form, format_one, image_length, header_of, image}
 use Rattle.rows.specs.Read.{rows_at, begins}
@@ -115,20 +117,33 @@ parse_tests M s a l f = ap (λ t. provided t T) (same_test _ _ there back)
     back : passes M s ≡ true → both (table_by_rule M T) (begins s (image format_one T)) ≡ true
     back h = both_true (table_by M (found_regular M s a l h) (found_few M s h)) (stands_begins s 0 (image format_one T) (found_stands M s a l h))
 
+-- ---- what is answered by what was tested
+
+pub short_found : (M : Model) (s : List ℕ) → length s < 24 → image_found format_one (parse format_one M s) ≡ given.None
+short_found M s l = rw (parse_short M s l)
+
+-- the length in the header is then that of the image
+pub tested_found : (M : Model) (s : List ℕ) (h : Header) (ok : Bool) → AllBytes s → 24 ≤ length s → 24 + 96 * M.row_limit < 256 ^ 4 → h ≡ header_at s → ok ≡ both (header_by_rule_at h 1 24 M.row_limit (length s)) (rows_by_rule_at s 24 h.rows h.length) → then_some ok h.length ≡ image_found format_one (parse format_one M s)
+tested_found M s h ok a l f e t = rw (e, parse_tests M s a l f) (go ok (rw e at t))
+  where
+    go : (ok : Bool) → ok ≡ passes M s → then_some ok (header_at s).length ≡ image_found format_one (provided (passes M s) (table_at format_one s))
+    go true p = rw (← p, found-length s (both_right _ _ (sym p)))
+    go false p = rw (← p)
+
 -- ---- what an answer says
 
 -- an image was found exactly where a table parses, and it is that table's
-pub found_table : (F : Form) (M : Model) (s : List ℕ) (length : ℕ) → image_found F (parse F M s) ≡ Image length → (T : Table) × (parse F M s ≡ some T) × (length ≡ image_length F T)
+pub found_table : (F : Form) (M : Model) (s : List ℕ) (length : ℕ) → image_found F (parse F M s) ≡ given.Some length → (T : Table) × (parse F M s ≡ some T) × (length ≡ image_length F T)
 found_table F M s length h = go (parse F M s) refl
   where
     go : (r : Option Table) → parse F M s ≡ r → (T : Table) × (parse F M s ≡ some T) × (length ≡ image_length F T)
     go none e =
-        let f : Nothing ≡ Image length = rw e at h in
+        let f : given.None ≡ given.Some length = rw e at h in
         let z : ◌≡◌ {A = ℕ} 0 1 = cc in
         absurd (omega arith)
-    go (some T) e = let f : Image (image_length F T) ≡ Image length = rw e at h in (T, e, cc)
+    go (some T) e = let f : given.Some (image_length F T) ≡ given.Some length = rw e at h in (T, e, cc)
 
-pub found_at_most : (s : List ℕ) (length : ℕ) → image_found format_one (parse format_one valley s) ≡ Image length → length ≤ 49176
+pub found_at_most : (s : List ℕ) (length : ℕ) → image_found format_one (parse format_one valley s) ≡ given.Some length → length ≤ 49176
 found_at_most s length h =
     let f = found_table format_one valley s length h in
     let T = f.0 in

@@ -56,6 +56,17 @@ pub fresh_image : (n box : ℕ) → image format_one (fresh_table n box) ≡ hea
 unfolding image rows_bytes bodies_bytes fresh_table
 fresh_image n box = append-nil _
 
+-- the buffers of these three
+module _ (M : Model) (s : List ℕ) (n box : ℕ) where
+  pub small_kept : too_small M (length s) ≡ true → fresh_buffer M s n box ≡ s
+  small_kept small = (fresh_small M s n box small).1
+
+  pub bad_kept : too_small M (length s) ≡ false → bad_group n box ≡ true → fresh_buffer M s n box ≡ s
+  bad_kept small bad = (fresh_bad M s n box small bad).1
+
+  pub written : too_small M (length s) ≡ false → bad_group n box ≡ false → fresh_buffer M s n box ≡ replaced s 0 (header_bytes (header_of format_one (fresh_table n box)))
+  written small bad = (fresh_done M s n box small bad).1 ∙ ap (replaced s 0) (fresh_image n box)
+
 -- ---- the ways a call goes
 
 pub data FreshWay (M : Model) (s : List ℕ) (n box : ℕ) : ℕ → List ℕ → Type 0 where
@@ -128,3 +139,5 @@ fresh_parses M s n box sound h = go (fresh_way M s n box) h
     go (small l) e = absurd (omega arith)
     go (bad l b) e = absurd (omega arith)
     go (done l b) e = rw (replaced_start s (image format_one (fresh_table n box))) (image_parses format_one M (fresh_table n box) sound (fresh_by_rule M n box b) _)
+
+pub ruleset fresh_ways = (fresh_small, fresh_bad, fresh_done, small_kept, bad_kept, written)

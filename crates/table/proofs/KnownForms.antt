@@ -1,5 +1,5 @@
 -- What a known form is good for. Whoever is given one knows this of it, and nothing else.
-use mathlib.Core.Path.{◌≡◌, refl, ap₂}
+use mathlib.Core.Path.{◌≡◌, ap₂}
 use Prim.Native.Nat.{◌+◌, ◌*◌, ◌^◌, ◌≤◌, ◌<◌}
 use native.Mathlib.Omega.{arith}
 use Rattle.rules.specs.Tables.{Model, valley}

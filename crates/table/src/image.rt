@@ -12,35 +12,23 @@ use crate::header::Header;
 use crate::model::Model;
 
 // An image of this format whose rows begin there: first what its header tells, then the rows.
+#[tactic(auto, using(rules::proofs::Chains::chain, crate::proofs::Headers::header_sizes))]
 fn whole_valid(s: &[u8], h: Header, format: u8, begin: usize, limit: u16) -> bool
     requires { begin ≤ 65536 }
     ensures { result ≡ both (header_by_rule_at h format begin limit (length s.now)) (rows_by_rule_at s.now begin h.rows h.length) }
 {
-    if header::valid(h, format, begin, limit, s.len()) {
-        return rows::walk::rows_valid(s, begin, h.rows as usize, h.length as usize);
-    }
-    false
+    header::valid(h, format, begin, limit, s.len())
+        && rows::walk::rows_valid(s, begin, h.rows as usize, h.length as usize)
 }
 
-// What a look for an image answers.
-#[derive(Clone, Copy)]
-pub enum Found {
-    Image { length: usize },
-    Nothing,
-}
-
-// The image that lent bytes begin with, for a model. What follows it is not looked at.
-pub fn find(s: &[u8], model: Model) -> Found
+// How long the image is that lent bytes begin with, for a model. What follows it is not looked at.
+#[tactic(auto, using(wire::proofs::Numbers::all_of, crate::proofs::Found::short_found, crate::proofs::Found::tested_found))]
+pub fn find(s: &[u8], model: Model) -> Option<usize>
     ensures { result ≡ image_found format_one (parse format_one (model_of model) s.now) }
 {
     if s.len() < header::LENGTH {
-        return Found::Nothing;
+        return None;
     }
     let h = header::read(s);
-    if whole_valid(s, h, header::FORMAT_ONE, header::LENGTH, model.limit) {
-        return Found::Image {
-            length: h.length as usize,
-        };
-    }
-    Found::Nothing
+    whole_valid(s, h, header::FORMAT_ONE, header::LENGTH, model.limit).then_some(h.length as usize)
 }

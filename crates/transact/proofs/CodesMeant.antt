@@ -1,57 +1,29 @@
--- Codes of messages and rows as the results and verdicts that they are.
+-- Bytes of rows against the results and verdicts that a message gives.
 use mathlib.Core.Path.{◌≡◌, refl, ◌∙◌}
 use mathlib.Core.Bool.{Bool, true, false, not, cond}
-use mathlib.Core.Logic.{◌⊎◌, inl, inr}
-use Prim.Native.Nat.{ℕ, ◌+◌, ◌-◌, ◌≤◌, ◌<◌}
+use Prim.Native.Nat.{ℕ, ◌+◌, ◌-◌, ◌≤◌}
 use native.Mathlib.Omega.{arith}
 use lib.Dec.{eqb, ltb, leb}
-use borrow.Author.Tests.{leb-true, lt-ltb, lt-leb, le-leb, eq-eqb, ne_eqb, eqb-true}
-use Rattle.rules.specs.Tests.{both, either}
-use Rattle.rules.specs.Tables.{Result, Result.OK, Result.ABORT, Result.ABSTAIN, Result.RETRY, Prepare, Prepare.no_prepare, Prepare.tentative, Prepare.final, Verdict, Verdict.commit, Verdict.abort, Outcome, Outcome.no_outcome, Outcome.noted, Outcome.done, result_code, result_retry, prepare_code, prepare_retry, outcome_code, verdict_code, same_result}
+use borrow.Author.Tests.{ne_eqb}
+use Rattle.rules.specs.Tests.{both}
+use Rattle.rules.specs.Tables.{Result, Result.OK, Result.ABORT, Result.ABSTAIN, Result.RETRY, Prepare, Prepare.no_prepare, Prepare.tentative, Prepare.final, Verdict, Verdict.commit, Verdict.abort, Outcome, Outcome.no_outcome, Outcome.noted, Outcome.done, result_code, result_retry, prepare_code, prepare_retry, outcome_code, verdict_code, same_result, result_by_rule, retry_by_rule}
 use Rattle.rules.specs.Messages.{noted_as}
 use Rattle.rules.specs.Circumstances.{unequal_final, opposite_outcome}
-use Rattle.rules.proofs.Logic.{both_left, both_right, impossible, cases}
-use Rattle.rows.specs.Fields.{result_numbered, prepare_numbered, verdict_numbered, outcome_numbered, retry_by_code}
-use Rattle.rows.proofs.Codes.{prepare_numbered_lem, outcome_numbered_lem}
-use Rattle.message.specs.Messages.{result_by_code, verdict_by_code}
-use Rattle.message.proofs.KeepingRules.{result_coded}
-use Rattle.message.proofs.Forms.{verdict_numbered_lem}
+use Rattle.rows.specs.Fields.{prepare_numbered, verdict_numbered, outcome_numbered, retry_by_code}
+use Rattle.rows.proofs.Codes.{prepare_numbered_lem, outcome_numbered_lem, prepare_read, retry_of_code, outcome_read}
 
 -- ---- results
 
-module _ (code retry : ℕ) (by_code : result_by_code code retry ≡ true) where
-  pub result_range : (1 ≤ code) × (code ≤ 4) × (retry_by_code code retry ≡ true)
-  unfolding result_by_code
-  result_range = (leb-true _ _ (both_left _ _ by_code), leb-true _ _ (both_left _ _ (both_right _ _ by_code)), both_right _ _ (both_right _ _ by_code))
+-- the prepare byte of a final result
+pub final_numbered : (r : Result) → prepare_numbered (result_code r + 4) (result_retry r) ≡ final r
+final_numbered r = let e : result_code r + 4 ≡ 4 + result_code r = omega arith in rw e (prepare_read (final r))
 
-  -- the retry stamp of a final result is by the same rule
-  pub retry_final : retry_by_code (code + 4) retry ≡ true
-  unfolding retry_by_code either
-  retry_final = go (cases (eqb code 4))
-    where
-      go : (eqb code 4 ≡ true) ⊎ (eqb code 4 ≡ false) → retry_by_code (code + 4) retry ≡ true
-      go (inl e) =
-          let (low, high, by) = result_range in
-          let c : code ≡ 4 = eqb-true _ _ e in
-          rw (ne_eqb (code + 4) 4 (λ z. absurd (omega arith)), eq-eqb (code + 4) 8 (omega arith)) (rw e at by)
-      go (inr e) =
-          let (low, high, by) = result_range in
-          let n : code ≡ 4 → ⊥ = λ z. impossible (eq-eqb _ _ z) e in
-          let h : code < 4 = omega (arith, n) in
-          rw (ne_eqb (code + 4) 4 (λ z. absurd (omega arith)), ne_eqb (code + 4) 8 (λ z. absurd (omega arith))) (rw (e, ne_eqb code 8 (λ z. absurd (omega arith))) at by)
-
-  pub final_numbered : prepare_numbered (code + 4) retry ≡ final (result_numbered code retry)
-  unfolding prepare_numbered
-  final_numbered =
-      let (low, high, by) = result_range in
-      let e : code + 4 - 4 ≡ code = omega arith in
-      rw (ne_eqb (code + 4) 0 (λ z. absurd (omega arith)), lt-leb (code + 4) 4 (omega arith), e)
-
-  pub result_numbered_lem : (result_code (result_numbered code retry) ≡ code) × (result_retry (result_numbered code retry) ≡ retry)
-  result_numbered_lem = let c = result_coded code retry by_code in (c.same_code, c.same_retry)
+pub retry_final : (r : Result) → result_by_rule r ≡ true → retry_by_code (result_code r + 4) (result_retry r) ≡ true
+unfolding retry_by_rule
+retry_final r by_rule = let e : result_code r + 4 ≡ 4 + result_code r = omega arith in rw e (retry_of_code (final r) ∙ by_rule)
 
 -- a result other than a held final one, by the codes of both
-pub unequal_by_codes : (r : Result) (p : Prepare) → unequal_final r p ≡ both (ltb 4 (prepare_code p)) (not (both (eqb (result_code r) (prepare_code p - 4)) (eqb (result_retry r) (prepare_retry p))))
+unequal_by_codes : (r : Result) (p : Prepare) → unequal_final r p ≡ both (ltb 4 (prepare_code p)) (not (both (eqb (result_code r) (prepare_code p - 4)) (eqb (result_retry r) (prepare_retry p))))
 unfolding both same_result
 unequal_by_codes r no_prepare = refl
 unequal_by_codes r (tentative OK) = refl
@@ -63,33 +35,23 @@ unequal_by_codes r (final ABORT) = refl
 unequal_by_codes r (final ABSTAIN) = refl
 unequal_by_codes r (final (RETRY s)) = refl
 
-pub unequal_told : (prepare held code retry : ℕ) → prepare ≤ 8 → retry_by_code prepare held ≡ true → result_by_code code retry ≡ true →
-    unequal_final (result_numbered code retry) (prepare_numbered prepare held) ≡ both (ltb 4 prepare) (not (both (eqb code (prepare - 4)) (eqb retry held)))
-unequal_told prepare held code retry high by by_code =
+pub unequal_told : (prepare held : ℕ) (r : Result) → prepare ≤ 8 → retry_by_code prepare held ≡ true →
+    unequal_final r (prepare_numbered prepare held) ≡ both (ltb 4 prepare) (not (both (eqb (result_code r) (prepare - 4)) (eqb (result_retry r) held)))
+unequal_told prepare held r high by =
     let (x, y) = prepare_numbered_lem prepare held high by in
-    let (z, w) = result_numbered_lem code retry by_code in
-    unequal_by_codes (result_numbered code retry) (prepare_numbered prepare held) ∙ rw (x, y, z, w)
+    unequal_by_codes r (prepare_numbered prepare held) ∙ rw (x, y)
 
 -- ---- verdicts
 
-module _ (code : ℕ) (by_code : verdict_by_code code ≡ true) where
-  pub verdict_range : (1 ≤ code) × (code ≤ 2)
-  unfolding verdict_by_code
-  verdict_range = (leb-true _ _ (both_left _ _ by_code), leb-true _ _ (both_right _ _ by_code))
+-- the outcome bytes of a verdict
+pub noted_numbered : (v : Verdict) → outcome_numbered (verdict_code v) ≡ noted v
+noted_numbered v = outcome_read (noted v)
 
-  pub noted_numbered : outcome_numbered code ≡ noted (verdict_numbered code)
-  unfolding outcome_numbered
-  noted_numbered = let (low, high) = verdict_range in rw (ne_eqb code 0 (λ z. absurd (omega arith)), le-leb code 2 high)
-
-  pub done_numbered : outcome_numbered (code + 2) ≡ done (verdict_numbered code)
-  unfolding outcome_numbered
-  done_numbered =
-      let (low, high) = verdict_range in
-      let e : code + 2 - 2 ≡ code = omega arith in
-      rw (ne_eqb (code + 2) 0 (λ z. absurd (omega arith)), lt-leb (code + 2) 2 (omega arith), e)
+pub done_numbered : (v : Verdict) → outcome_numbered (verdict_code v + 2) ≡ done v
+done_numbered v = let e : verdict_code v + 2 ≡ 2 + verdict_code v = omega arith in rw e (outcome_read (done v))
 
 -- an outcome other than a held one, by the codes of both
-pub opposite_by_codes : (v : Verdict) (o : Outcome) → opposite_outcome v o ≡ both (ltb 0 (outcome_code o)) (both (not (eqb (outcome_code o) (verdict_code v))) (not (eqb (outcome_code o) (verdict_code v + 2))))
+opposite_by_codes : (v : Verdict) (o : Outcome) → opposite_outcome v o ≡ both (not (eqb (outcome_code o) 0)) (both (not (eqb (outcome_code o) (verdict_code v))) (not (eqb (outcome_code o) (verdict_code v + 2))))
 unfolding both
 opposite_by_codes v no_outcome = refl
 opposite_by_codes commit (noted commit) = refl
@@ -101,13 +63,9 @@ opposite_by_codes abort (noted abort) = refl
 opposite_by_codes abort (done commit) = refl
 opposite_by_codes abort (done abort) = refl
 
-pub opposite_told : (outcome code : ℕ) → outcome ≤ 4 → verdict_by_code code ≡ true →
-    opposite_outcome (verdict_numbered code) (outcome_numbered outcome) ≡ both (ltb 0 outcome) (both (not (eqb outcome code)) (not (eqb outcome (code + 2))))
-opposite_told outcome code high by_code =
-    opposite_by_codes (verdict_numbered code) (outcome_numbered outcome) ∙ rw (outcome_numbered_lem outcome high, verdict_numbered_lem code by_code)
-
-pub positive : (x : ℕ) → (x ≡ 0 → ⊥) → ltb 0 x ≡ true
-positive x n = lt-ltb 0 x (omega (arith, n))
+pub opposite_told : (outcome : ℕ) (v : Verdict) → outcome ≤ 4 →
+    opposite_outcome v (outcome_numbered outcome) ≡ both (not (eqb outcome 0)) (both (not (eqb outcome (verdict_code v))) (not (eqb outcome (verdict_code v + 2))))
+opposite_told outcome v high = opposite_by_codes v (outcome_numbered outcome) ∙ rw (outcome_numbered_lem outcome high)
 
 -- ---- a verdict noted over an outcome
 
@@ -115,13 +73,13 @@ none_numbered : outcome_numbered 0 ≡ no_outcome
 unfolding outcome_numbered
 none_numbered = refl
 
-pub noted_first : (outcome code : ℕ) → verdict_by_code code ≡ true → outcome ≡ 0 → outcome_numbered code ≡ noted_as (verdict_numbered code) (outcome_numbered outcome)
-noted_first outcome code by_code e = noted_numbered code by_code ∙ rw (e, none_numbered)
+pub noted_first : (outcome : ℕ) (v : Verdict) → outcome ≡ 0 → outcome_numbered (verdict_code v) ≡ noted_as v (outcome_numbered outcome)
+noted_first outcome v e = noted_numbered v ∙ rw (e, none_numbered)
 
-pub noted_stays : (outcome code : ℕ) → (outcome ≡ 0 → ⊥) → outcome_numbered outcome ≡ noted_as (verdict_numbered code) (outcome_numbered outcome)
+pub noted_stays : (outcome : ℕ) (v : Verdict) → (outcome ≡ 0 → ⊥) → outcome_numbered outcome ≡ noted_as v (outcome_numbered outcome)
 unfolding outcome_numbered
-noted_stays outcome code n = rw (ne_eqb _ _ n) (go (leb outcome 2))
+noted_stays outcome v n = rw (ne_eqb _ _ n) (go (leb outcome 2))
   where
-    go : (b : Bool) → cond b (noted (verdict_numbered outcome)) (done (verdict_numbered (outcome - 2))) ≡ noted_as (verdict_numbered code) (cond b (noted (verdict_numbered outcome)) (done (verdict_numbered (outcome - 2))))
+    go : (b : Bool) → cond b (noted (verdict_numbered outcome)) (done (verdict_numbered (outcome - 2))) ≡ noted_as v (cond b (noted (verdict_numbered outcome)) (done (verdict_numbered (outcome - 2))))
     go true = refl
     go false = refl

@@ -1,59 +1,39 @@
 -- Messages 1 and 3, by what was found for them.
-use mathlib.Core.Path.{◌≡◌, refl, sym, ap, ◌∙◌}
+use mathlib.Core.Path.{◌≡◌, refl, ap, ◌∙◌}
 use mathlib.Core.Bool.{Bool, true, false, cond, not}
 use mathlib.Core.List.{List}
 use mathlib.Core.Logic.{◌⊎◌, inl, inr}
 use mathlib.Core.Option.{Option, some, none}
 use Prim.Native.Nat.{ℕ}
-use native.Mathlib.Omega.{arith}
-use lib.Dec.{eqb}
 use lib.ListN.{length}
+use Rattle.std.specs.Prelude.{Result, Ok, Err}
+use Rattle.numbers.specs.declared.Refusal.{Refusal}
+use Rattle.numbers.specs.declared.Refusal.TheVariants.{Changing, OtherBody, Contradiction, Full}
+use Rattle.numbers.specs.Refusals.{refusal_code}
 use Rattle.rules.specs.Tests.{both, is_some}
 use Rattle.rules.specs.Groups.{f_of}
 use Rattle.rules.specs.Stamps.{Body}
 use Rattle.rules.specs.Tables.{Row, Model, Table}
 use Rattle.rules.specs.Messages.{Message, held}
 use Rattle.rules.specs.Circumstances.{keeps_room, is_changing, held_with_other_body, new_but_full}
-use Rattle.rules.specs.Answers.{refusal}
 use Rattle.rules.proofs.Logic.{cases, both_left, impossible}
 use Rattle.rows.specs.declared.lookup.Place.{Place}
-use Rattle.rows.specs.declared.lookup.Place.TheVariants as place
+use Rattle.rows.specs.declared.lookup.Place.TheVariants.{Held, Absent}
 use Rattle.rows.specs.Inner.Places.{place_of}
 use Rattle.table.specs.Images.{format_one}
 use Rattle.table.specs.Parse.{table_at}
 use Rattle.edit.specs.Inner.Holding.{Holds}
-use Rattle.seek.specs.declared.Proposal.{Proposal}
-use Rattle.seek.specs.declared.Proposal.TheVariants.{Held, New, Against}
 use Rattle.seek.specs.Inner.Findings.{to_propose}
-use Rattle.transact.specs.Replies.{reply_as}
 use Rattle.transact.specs.Inner.Served.{served_number}
 use Rattle.transact.proofs.Serving.{Kept, kept_refused}
 
-against_same : {a b : ℕ} → Against a ≡ Against b → a ≡ b
-against_same e = cc
-
-held_same : {a b : ℕ} → Held a ≡ Held b → a ≡ b
-held_same e = cc
-
-new_same : {a b : ℕ} → New a ≡ New b → a ≡ b
-new_same e = cc
-
-held_against : {A : Type 0} {i k : ℕ} → Held i ≡ Against k → A
-held_against e = let z : ◌≡◌ {A = ℕ} 0 1 = cc in absurd (omega arith)
-
-new_against : {A : Type 0} {i k : ℕ} → New i ≡ Against k → A
-new_against e = let z : ◌≡◌ {A = ℕ} 0 1 = cc in absurd (omega arith)
-
-new_held : {A : Type 0} {i k : ℕ} → New i ≡ Held k → A
-new_held e = let z : ◌≡◌ {A = ℕ} 0 1 = cc in absurd (omega arith)
-
 -- which way a look for a row to propose for went
-data Way (M : Model) (T : Table) (s : ℕ) (x : Body) : Proposal → Type 0 where
-  changing : is_changing T ≡ true → Way M T s x (Against 4)
-  other_body : is_changing T ≡ false → held_with_other_body T s x ≡ true → Way M T s x (Against 5)
-  full : is_changing T ≡ false → held_with_other_body T s x ≡ false → new_but_full M keeps_room T s ≡ true → Way M T s x (Against 7)
-  there : (i : ℕ) → is_changing T ≡ false → held_with_other_body T s x ≡ false → new_but_full M keeps_room T s ≡ false → place_of T.rows s ≡ place.Held i → Way M T s x (Held i)
-  new : (i : ℕ) → is_changing T ≡ false → held_with_other_body T s x ≡ false → new_but_full M keeps_room T s ≡ false → place_of T.rows s ≡ place.Absent i → Way M T s x (New i)
+data Way (M : Model) (T : Table) (s : ℕ) (x : Body) : Result Place Refusal → Type 0 where
+  changing : is_changing T ≡ true → Way M T s x (Err Changing)
+  other_body : is_changing T ≡ false → held_with_other_body T s x ≡ true → Way M T s x (Err OtherBody)
+  full : is_changing T ≡ false → held_with_other_body T s x ≡ false → new_but_full M keeps_room T s ≡ true → Way M T s x (Err Full)
+  there : (i : ℕ) → is_changing T ≡ false → held_with_other_body T s x ≡ false → new_but_full M keeps_room T s ≡ false → place_of T.rows s ≡ Held i → Way M T s x (Ok (Held i))
+  new : (i : ℕ) → is_changing T ≡ false → held_with_other_body T s x ≡ false → new_but_full M keeps_room T s ≡ false → place_of T.rows s ≡ Absent i → Way M T s x (Ok (Absent i))
 
 way : (M : Model) (T : Table) (s : ℕ) (x : Body) → Way M T s x (to_propose M T s x)
 unfolding to_propose
@@ -63,33 +43,33 @@ way M T s x = go (cases (is_changing T)) (cases (held_with_other_body T s x)) (c
     go (inl a) b c p e = rw a (changing a)
     go (inr a) (inl b) c p e = rw (a, b) (other_body a b)
     go (inr a) (inr b) (inl c) p e = rw (a, b, c) (full a b c)
-    go (inr a) (inr b) (inr c) (place.Held i) e = rw (a, b, c, e) (there i a b c e)
-    go (inr a) (inr b) (inr c) (place.Absent i) e = rw (a, b, c, e) (new i a b c e)
+    go (inr a) (inr b) (inr c) (Held i) e = rw (a, b, c, e) (there i a b c e)
+    go (inr a) (inr b) (inr c) (Absent i) e = rw (a, b, c, e) (new i a b c e)
 
 -- nothing was against it so far
 abbrev pub Clear : Model → Table → ℕ → Body → Type 0
 Clear M T s x = (is_changing T ≡ false) × (held_with_other_body T s x ≡ false) × (new_but_full M keeps_room T s ≡ false)
 
 module _ (M : Model) (T : Table) (s : ℕ) (x : Body) (i : ℕ) where
-  pub held_clear : to_propose M T s x ≡ Held i → Clear M T s x × (place_of T.rows s ≡ place.Held i)
+  pub held_clear : to_propose M T s x ≡ Ok (Held i) → Clear M T s x × (place_of T.rows s ≡ Held i)
   held_clear e = go (way M T s x) e
     where
-      go : {found : Proposal} → Way M T s x found → found ≡ Held i → Clear M T s x × (place_of T.rows s ≡ place.Held i)
-      go (changing a) same = held_against (sym same)
-      go (other_body a b) same = held_against (sym same)
-      go (full a b c) same = held_against (sym same)
-      go (there j a b c p) same = ((a, b, c), p ∙ ap place.Held (held_same same))
-      go (new j a b c p) same = new_held same
+      go : {found : Result Place Refusal} → Way M T s x found → found ≡ Ok (Held i) → Clear M T s x × (place_of T.rows s ≡ Held i)
+      go (changing a) same = cc
+      go (other_body a b) same = cc
+      go (full a b c) same = cc
+      go (there j a b c p) same = let i_is : j ≡ i = cc in ((a, b, c), p ∙ ap Held i_is)
+      go (new j a b c p) same = cc
 
-  pub new_clear : to_propose M T s x ≡ New i → Clear M T s x × (place_of T.rows s ≡ place.Absent i)
+  pub new_clear : to_propose M T s x ≡ Ok (Absent i) → Clear M T s x × (place_of T.rows s ≡ Absent i)
   new_clear e = go (way M T s x) e
     where
-      go : {found : Proposal} → Way M T s x found → found ≡ New i → Clear M T s x × (place_of T.rows s ≡ place.Absent i)
-      go (changing a) same = new_against (sym same)
-      go (other_body a b) same = new_against (sym same)
-      go (full a b c) same = new_against (sym same)
-      go (there j a b c p) same = new_held (sym same)
-      go (new j a b c p) same = ((a, b, c), p ∙ ap place.Absent (new_same same))
+      go : {found : Result Place Refusal} → Way M T s x found → found ≡ Ok (Absent i) → Clear M T s x × (place_of T.rows s ≡ Absent i)
+      go (changing a) same = cc
+      go (other_body a b) same = cc
+      go (full a b c) same = cc
+      go (there j a b c p) same = cc
+      go (new j a b c p) same = let i_is : j ≡ i = cc in ((a, b, c), p ∙ ap Absent i_is)
 
 -- a stamp that is new has no row
 pub new_unheld : (M : Model) (T : Table) (s : ℕ) → new_but_full M keeps_room T s ≡ true → held T.rows s ≡ none
@@ -117,24 +97,24 @@ module _ (M : Model) (s : List ℕ) (stamp : ℕ) (x : Body) (holds : Holds form
   abbrev T : Table
   T = table_at format_one s
 
-  refuses : (k : ℕ) → eqb k 0 ≡ false → served_number M T m ≡ k → Kept M m s (reply_as (refusal k)) s
-  refuses k other is = kept_refused M m s k other holds is
+  refuses : (r : Refusal) → served_number M T m ≡ refusal_code r → Kept M m s (Err r) s
+  refuses r is = kept_refused M m s r holds is
 
-  pub proposal_refused : (k : ℕ) → to_propose M (table_at format_one s) stamp x ≡ Against k → Kept M m s (reply_as (refusal k)) s
-  proposal_refused k e = go (way M T stamp x) e
+  pub proposal_refused : (r : Refusal) → to_propose M (table_at format_one s) stamp x ≡ Err r → Kept M m s (Err r) s
+  proposal_refused r e = go (way M T stamp x) e
     where
-      as_said : {j : ℕ} → Kept M m s (reply_as (refusal j)) s → Against j ≡ Against k → Kept M m s (reply_as (refusal k)) s
-      as_said kept same = rw (against_same same) at kept
+      as_said : {q : Refusal} → Kept M m s (Err q) s → ◌≡◌ {A = Result Place Refusal} (Err q) (Err r) → Kept M m s (Err r) s
+      as_said {q} kept same = let q_is : q ≡ r = cc in rw q_is at kept
 
-      go : {found : Proposal} → Way M T stamp x found → found ≡ Against k → Kept M m s (reply_as (refusal k)) s
-      go (changing a) same = as_said (refuses 4 refl (number ∙ rw a)) same
-      go (other_body a b) same = as_said (refuses 5 refl (number ∙ rw (a, b))) same
-      go (full a b c) same = as_said (refuses 7 refl (number ∙ rw (a, b, unheld (new_unheld M T stamp c), c))) same
-      go (there i a b c p) same = held_against same
-      go (new i a b c p) same = new_against same
+      go : {found : Result Place Refusal} → Way M T stamp x found → found ≡ Err r → Kept M m s (Err r) s
+      go (changing a) same = as_said (refuses Changing (number ∙ rw a)) same
+      go (other_body a b) same = as_said (refuses OtherBody (number ∙ rw (a, b))) same
+      go (full a b c) same = as_said (refuses Full (number ∙ rw (a, b, unheld (new_unheld M T stamp c), c))) same
+      go (there i a b c p) same = cc
+      go (new i a b c p) same = cc
 
-  pub proposal_opposed : Clear M (table_at format_one s) stamp x → against ≡ true → Kept M m s (reply_as (refusal 6)) s
-  proposal_opposed (a, b, c) e = refuses 6 refl (number ∙ rw (a, b, e))
+  pub proposal_opposed : Clear M (table_at format_one s) stamp x → against ≡ true → Kept M m s (Err Contradiction) s
+  proposal_opposed (a, b, c) e = refuses Contradiction (number ∙ rw (a, b, e))
 
   pub proposal_clear : Clear M (table_at format_one s) stamp x → against ≡ false → served_number M (table_at format_one s) m ≡ 0
   proposal_clear (a, b, c) e = number ∙ rw (a, b, e, c)

@@ -7,16 +7,20 @@ use Prim.Native.Nat.{ℕ, ◌+◌, ◌*◌, ◌≤◌}
 use Rattle.wire.specs.Inner.ByteLists.{AllBytes}
 use Rattle.rules.specs.Tests.{either}
 use Rattle.rules.specs.Stamps.{Body}
-use Rattle.rules.specs.Tables.{Row, Result, Result.OK, Result.ABORT, Result.ABSTAIN, Result.RETRY, Prepare, Prepare.no_prepare, Prepare.tentative, Prepare.final, Verdict.commit, Verdict.abort, Outcome, Outcome.no_outcome, Outcome.noted, Outcome.done, Model, valley, result_code, result_retry, prepare_code, prepare_retry, outcome_code, verdict_code, result_by_rule, retry_by_rule, something_held}
+use Rattle.std.specs.Prelude.{Ok, Err}
+use Rattle.numbers.specs.declared.Refusal.{Refusal}
+use Rattle.numbers.specs.declared.Refusal.TheVariants.{Contradiction}
+use Rattle.rules.specs.Tables as rules
+use Rattle.rules.specs.Tables.{Row, Result.OK, Result.ABORT, Result.ABSTAIN, Result.RETRY, Prepare, Prepare.no_prepare, Prepare.tentative, Prepare.final, Verdict, Verdict.commit, Verdict.abort, Outcome, Outcome.no_outcome, Outcome.noted, Outcome.done, Model, valley, result_code, result_retry, prepare_code, prepare_retry, outcome_code, verdict_code, result_by_rule, retry_by_rule, something_held}
 use Rattle.rules.specs.Messages.{Message, Message.propose_prepare, Message.propose_outcome, held, with_prepare, with_outcome, with_rows, answered, noted_as, prepare_proposed, outcome_proposed, table_after}
 use Rattle.rules.specs.Circumstances.{held_opposite_outcome, opposite_outcome}
-use Rattle.rules.specs.Answers.{refusal, reply_from, state_byte, reply_stamp, reply_value, proposal_check}
+use Rattle.rules.specs.Answers.{reply_from, state_byte, reply_stamp, reply_value, proposal_check}
 use Rattle.rules.proofs.Answers.{proposal_by_rule}
 use Rattle.rules.proofs.Logic.{impossible}
 use Rattle.rules.proofs.Tables.{RowByRule, row_facts}
 use Rattle.rows.specs.declared.row.RowFields.{RowFields}
-use Rattle.rows.specs.declared.lookup.Place.TheVariants as place
-use Rattle.rows.specs.Fields.{fields_at, prepare_numbered, outcome_numbered, verdict_numbered, retry_by_code}
+use Rattle.rows.specs.declared.lookup.Place.TheVariants.{Held, Absent}
+use Rattle.rows.specs.Fields.{fields_at, prepare_numbered, outcome_numbered, retry_by_code}
 use Rattle.rows.specs.Inner.Places.{place_of}
 use Rattle.rows.specs.Read.{row_of, body_at}
 use Rattle.rows.proofs.Codes.{prepare_read, retry_of_code, prepare_code_limit, outcome_numbered_lem}
@@ -26,9 +30,6 @@ use Rattle.table.specs.Images.{format_one}
 use Rattle.table.specs.Parse.{table_at, BeginsWithImage}
 use Rattle.edit.specs.Inner.Changes.{on_row, adding}
 use Rattle.edit.specs.Edited.{edited}
-use Rattle.message.specs.Messages.{verdict_by_code}
-use Rattle.message.proofs.Forms.{verdict_numbered_lem}
-use Rattle.seek.specs.declared.Proposal.TheVariants.{Held, New, Against}
 use Rattle.seek.specs.Inner.Findings.{to_propose}
 use Rattle.seek.proofs.HeldRows.{image_holds, image_regular, held_here, by_rule_here, prepare_here, retry_here, outcome_here, changed_here, held_then}
 use Rattle.transact.specs.Replies.{reply_as}
@@ -41,57 +42,57 @@ use Rattle.transact.proofs.NewRows.{held_new}
 
 -- ---- message 3
 
-module _ (M : Model) (s : List ℕ) (stamp code : ℕ) (x : Body) (has_image : BeginsWithImage valley s) where
+module _ (M : Model) (s : List ℕ) (stamp : ℕ) (verdict : Verdict) (x : Body) (has_image : BeginsWithImage valley s) where
   abbrev concluding : Message
-  concluding = propose_outcome stamp (verdict_numbered code) x
+  concluding = propose_outcome stamp verdict x
 
-  unopposed : held (table_at format_one s).rows stamp ≡ none → held_opposite_outcome (table_at format_one s) stamp (verdict_numbered code) ≡ false
+  unopposed : held (table_at format_one s).rows stamp ≡ none → held_opposite_outcome (table_at format_one s) stamp verdict ≡ false
   unfolding held_opposite_outcome
   unopposed e = rw e
 
-  pub outcome_proposal_refused : (k : ℕ) → to_propose M (table_at format_one s) stamp x ≡ Against k → Kept M (propose_outcome stamp (verdict_numbered code) x) s (reply_as (refusal k)) s
-  outcome_proposal_refused k e =
-      proposal_refused M s stamp x (image_holds valley s has_image) concluding (held_opposite_outcome (table_at format_one s) stamp (verdict_numbered code)) (number_3 M (table_at format_one s) stamp (verdict_numbered code) x) unopposed k e
+  pub outcome_proposal_refused : (r : Refusal) → to_propose M (table_at format_one s) stamp x ≡ Err r → Kept M (propose_outcome stamp verdict x) s (Err r) s
+  outcome_proposal_refused r e =
+      proposal_refused M s stamp x (image_holds valley s has_image) concluding (held_opposite_outcome (table_at format_one s) stamp verdict) (number_3 M (table_at format_one s) stamp verdict x) unopposed r e
 
-  module _ (i : ℕ) (bytes : AllBytes s) (found : to_propose M (table_at format_one s) stamp x ≡ Held i) where
-    place_of_lem : place_of (table_at format_one s).rows stamp ≡ place.Held i
+  module _ (i : ℕ) (bytes : AllBytes s) (found : to_propose M (table_at format_one s) stamp x ≡ Ok (Held i)) where
+    place_of_lem : place_of (table_at format_one s).rows stamp ≡ Held i
     place_of_lem = (held_clear M (table_at format_one s) stamp x i found).1
 
-    opposed_is : held_opposite_outcome (table_at format_one s) stamp (verdict_numbered code) ≡ opposite_outcome (verdict_numbered code) (outcome_numbered (fields_at s (24 + 24 * i)).outcome)
+    opposed_is : held_opposite_outcome (table_at format_one s) stamp verdict ≡ opposite_outcome verdict (outcome_numbered (fields_at s (24 + 24 * i)).outcome)
     unfolding held_opposite_outcome row_of
     opposed_is = rw (held_here valley s stamp i bytes has_image place_of_lem)
 
-    pub note_opposed : opposite_outcome (verdict_numbered code) (outcome_numbered (fields_at s (24 + 24 * i)).outcome) ≡ true → Kept M (propose_outcome stamp (verdict_numbered code) x) s (reply_as (refusal 6)) s
+    pub note_opposed : opposite_outcome verdict (outcome_numbered (fields_at s (24 + 24 * i)).outcome) ≡ true → Kept M (propose_outcome stamp verdict x) s (Err Contradiction) s
     note_opposed e =
-        proposal_opposed M s stamp x (image_holds valley s has_image) concluding (held_opposite_outcome (table_at format_one s) stamp (verdict_numbered code)) (number_3 M (table_at format_one s) stamp (verdict_numbered code) x) unopposed
+        proposal_opposed M s stamp x (image_holds valley s has_image) concluding (held_opposite_outcome (table_at format_one s) stamp verdict) (number_3 M (table_at format_one s) stamp verdict x) unopposed
         (held_clear M (table_at format_one s) stamp x i found).0
         (opposed_is ∙ e)
 
-    module _ (byte : ℕ) (is : outcome_numbered byte ≡ noted_as (verdict_numbered code) (outcome_numbered (fields_at s (24 + 24 * i)).outcome)) (low : byte ≤ 4) where
+    module _ (byte : ℕ) (is : outcome_numbered byte ≡ noted_as verdict (outcome_numbered (fields_at s (24 + 24 * i)).outcome)) (low : byte ≤ 4) where
       noted_after : on_row i (with_outcome (outcome_numbered byte)) (table_at format_one s) ≡ table_after proposal_check (table_at format_one s) concluding
       unfolding table_after outcome_proposed row_of
       noted_after =
           rw (held_here valley s stamp i bytes has_image place_of_lem)
-          (ap (with_rows (table_at format_one s)) (changed_here valley s stamp i bytes has_image place_of_lem (λ r. with_outcome (noted_as (verdict_numbered code) r.outcome) r) (with_outcome (outcome_numbered byte)) (rw is)))
+          (ap (with_rows (table_at format_one s)) (changed_here valley s stamp i bytes has_image place_of_lem (λ r. with_outcome (noted_as verdict r.outcome) r) (with_outcome (outcome_numbered byte)) (rw is)))
 
       noted_reply : done_reply (header_at s) 3 byte stamp 0 ≡ reply_as (reply_from (table_after proposal_check (table_at format_one s) concluding) concluding)
       unfolding reply_from state_byte reply_stamp reply_value table_after outcome_proposed table_at row_of
       noted_reply =
-          let t = held_then valley s stamp i bytes has_image place_of_lem (λ r. with_outcome (noted_as (verdict_numbered code) r.outcome) r) (λ r. refl) in
-          let e : byte ≡ outcome_code (noted_as (verdict_numbered code) (outcome_numbered (fields_at s (24 + 24 * i)).outcome)) = sym (outcome_numbered_lem byte low) ∙ ap outcome_code is in
+          let t = held_then valley s stamp i bytes has_image place_of_lem (λ r. with_outcome (noted_as verdict r.outcome) r) (λ r. refl) in
+          let e : byte ≡ outcome_code (noted_as verdict (outcome_numbered (fields_at s (24 + 24 * i)).outcome)) = sym (outcome_numbered_lem byte low) ∙ ap outcome_code is in
           rw (held_here valley s stamp i bytes has_image place_of_lem, t, e)
 
-      pub note_taken : opposite_outcome (verdict_numbered code) (outcome_numbered (fields_at s (24 + 24 * i)).outcome) ≡ false →
-          Kept M (propose_outcome stamp (verdict_numbered code) x) s (done_reply (header_at s) 3 byte stamp 0) (edited format_one (on_row i (with_outcome (outcome_numbered byte))) s)
+      pub note_taken : opposite_outcome verdict (outcome_numbered (fields_at s (24 + 24 * i)).outcome) ≡ false →
+          Kept M (propose_outcome stamp verdict x) s (Ok (done_reply (header_at s) 3 byte stamp 0)) (edited format_one (on_row i (with_outcome (outcome_numbered byte))) s)
       note_taken e =
-          let zero = proposal_clear M s stamp x (image_holds valley s has_image) concluding (held_opposite_outcome (table_at format_one s) stamp (verdict_numbered code)) (number_3 M (table_at format_one s) stamp (verdict_numbered code) x) unopposed (held_clear M (table_at format_one s) stamp x i found).0 (opposed_is ∙ e) in
+          let zero = proposal_clear M s stamp x (image_holds valley s has_image) concluding (held_opposite_outcome (table_at format_one s) stamp verdict) (number_3 M (table_at format_one s) stamp verdict x) unopposed (held_clear M (table_at format_one s) stamp x i found).0 (opposed_is ∙ e) in
           rw (← noted_reply) at (kept_taken M concluding s (on_row i (with_outcome (outcome_numbered byte))) zero noted_after)
 
-  module _ (i : ℕ) (m : List ℕ) (g : RowFields) (by_code : verdict_by_code code ≡ true) (found : to_propose M (table_at format_one s) stamp x ≡ New i)
-      (its_stamp : g.stamp ≡ stamp) (its_body : body_at m g.offset g.reads g.writes ≡ x) (its_prepare : g.prepare ≡ 0) (its_outcome : g.outcome ≡ code) where
-    noted_row : row_of m g ≡ record { stamp = stamp; body = x; prepare = no_prepare; outcome = noted (verdict_numbered code) }
+  module _ (i : ℕ) (m : List ℕ) (g : RowFields) (found : to_propose M (table_at format_one s) stamp x ≡ Ok (Absent i))
+      (its_stamp : g.stamp ≡ stamp) (its_body : body_at m g.offset g.reads g.writes ≡ x) (its_prepare : g.prepare ≡ 0) (its_outcome : g.outcome ≡ verdict_code verdict) where
+    noted_row : row_of m g ≡ record { stamp = stamp; body = x; prepare = no_prepare; outcome = noted verdict }
     unfolding row_of prepare_numbered
-    noted_row = rw (its_stamp, its_body, its_prepare, its_outcome, noted_numbered code by_code)
+    noted_row = rw (its_stamp, its_body, its_prepare, its_outcome, noted_numbered verdict)
 
     unheld_here : held (table_at format_one s).rows stamp ≡ none
     unheld_here = absent_none (table_at format_one s).rows stamp i (new_clear M (table_at format_one s) stamp x i found).1
@@ -100,16 +101,15 @@ module _ (M : Model) (s : List ℕ) (stamp code : ℕ) (x : Body) (has_image : B
     unfolding table_after outcome_proposed
     noted_new_after = rw (unheld_here, noted_row)
 
-    noted_new_reply : done_reply (header_at s) 3 code stamp 0 ≡ reply_as (reply_from (table_after proposal_check (table_at format_one s) concluding) concluding)
+    noted_new_reply : done_reply (header_at s) 3 g.outcome stamp 0 ≡ reply_as (reply_from (table_after proposal_check (table_at format_one s) concluding) concluding)
     unfolding reply_from state_byte reply_stamp reply_value table_after outcome_proposed table_at
     noted_new_reply =
-        let t = held_new (record { stamp = stamp; body = x; prepare = no_prepare; outcome = noted (verdict_numbered code) }) (table_at format_one s).rows unheld_here in
-        let e : code ≡ verdict_code (verdict_numbered code) = sym (verdict_numbered_lem code by_code) in
-        rw (unheld_here, t, ← e)
+        let t = held_new (record { stamp = stamp; body = x; prepare = no_prepare; outcome = noted verdict }) (table_at format_one s).rows unheld_here in
+        rw (unheld_here, t, its_outcome)
 
-    pub note_new_taken : Kept M (propose_outcome stamp (verdict_numbered code) x) s (done_reply (header_at s) 3 code stamp 0) (edited format_one (adding (row_of m g)) s)
+    pub note_new_taken : Kept M (propose_outcome stamp verdict x) s (Ok (done_reply (header_at s) 3 g.outcome stamp 0)) (edited format_one (adding (row_of m g)) s)
     note_new_taken =
-        let zero = proposal_clear M s stamp x (image_holds valley s has_image) concluding (held_opposite_outcome (table_at format_one s) stamp (verdict_numbered code)) (number_3 M (table_at format_one s) stamp (verdict_numbered code) x) unopposed (new_clear M (table_at format_one s) stamp x i found).0 (unopposed unheld_here) in
+        let zero = proposal_clear M s stamp x (image_holds valley s has_image) concluding (held_opposite_outcome (table_at format_one s) stamp verdict) (number_3 M (table_at format_one s) stamp verdict x) unopposed (new_clear M (table_at format_one s) stamp x i found).0 (unopposed unheld_here) in
         rw (← noted_new_reply) at (kept_taken M concluding s (adding (row_of m g)) zero noted_new_after)
 
 -- ---- message 1
@@ -171,7 +171,7 @@ answered_stored p o something by_rule c q d ec eq ed =
       retry = retry;
     }
 
-module _ (s : List ℕ) (stamp i : ℕ) (bytes : AllBytes s) (has_image : BeginsWithImage valley s) (held_at : place_of (table_at format_one s).rows stamp ≡ place.Held i) where
+module _ (s : List ℕ) (stamp i : ℕ) (bytes : AllBytes s) (has_image : BeginsWithImage valley s) (held_at : place_of (table_at format_one s).rows stamp ≡ Held i) where
   abbrev here : RowFields
   here = fields_at s (24 + 24 * i)
 
@@ -194,7 +194,7 @@ module _ (s : List ℕ) (stamp i : ℕ) (bytes : AllBytes s) (has_image : Begins
   pub answered_storable : (answered_byte (fields_at s (24 + 24 * i)).prepare (fields_at s (24 + 24 * i)).outcome ≤ 8) × (retry_by_code (answered_byte (fields_at s (24 + 24 * i)).prepare (fields_at s (24 + 24 * i)).outcome) (fields_at s (24 + 24 * i)).retry ≡ true)
   answered_storable = (stored.low, stored.by_code)
 
-  module _ (M : Model) (x : Body) (found : to_propose M (table_at format_one s) stamp x ≡ Held i) where
+  module _ (M : Model) (x : Body) (found : to_propose M (table_at format_one s) stamp x ≡ Ok (Held i)) where
     answered_after : on_row i (with_prepare (prepare_numbered byte here.retry)) (table_at format_one s) ≡ table_after proposal_check (table_at format_one s) (propose_prepare stamp x)
     unfolding table_after prepare_proposed
     answered_after =
@@ -207,17 +207,17 @@ module _ (s : List ℕ) (stamp i : ℕ) (bytes : AllBytes s) (has_image : Begins
         let t = held_then valley s stamp i bytes has_image held_at (λ r. with_prepare (answered r.prepare r.outcome) r) (λ r. refl) in
         rw (held_here valley s stamp i bytes has_image held_at, t) (ap₂ (λ state value. done_reply (header_at s) 1 state stamp value) stored.code stored.retry)
 
-    pub answered_taken : Kept M (propose_prepare stamp x) s (done_reply (header_at s) 1 (answered_byte (fields_at s (24 + 24 * i)).prepare (fields_at s (24 + 24 * i)).outcome) stamp (fields_at s (24 + 24 * i)).retry)
+    pub answered_taken : Kept M (propose_prepare stamp x) s (Ok (done_reply (header_at s) 1 (answered_byte (fields_at s (24 + 24 * i)).prepare (fields_at s (24 + 24 * i)).outcome) stamp (fields_at s (24 + 24 * i)).retry))
         (edited format_one (on_row i (with_prepare (prepare_numbered (answered_byte (fields_at s (24 + 24 * i)).prepare (fields_at s (24 + 24 * i)).outcome) (fields_at s (24 + 24 * i)).retry))) s)
     answered_taken =
         let zero = proposal_clear M s stamp x (image_holds valley s has_image) (propose_prepare stamp x) false (number_1 M (table_at format_one s) stamp x) (λ e. refl) (held_clear M (table_at format_one s) stamp x i found).0 refl in
         rw (← answered_reply) at (kept_taken M (propose_prepare stamp x) s (on_row i (with_prepare (prepare_numbered byte here.retry))) zero answered_after)
 
 module _ (M : Model) (s : List ℕ) (stamp : ℕ) (x : Body) (has_image : BeginsWithImage valley s) where
-  pub prepare_proposal_refused : (k : ℕ) → to_propose M (table_at format_one s) stamp x ≡ Against k → Kept M (propose_prepare stamp x) s (reply_as (refusal k)) s
-  prepare_proposal_refused k e = proposal_refused M s stamp x (image_holds valley s has_image) (propose_prepare stamp x) false (number_1 M (table_at format_one s) stamp x) (λ z. refl) k e
+  pub prepare_proposal_refused : (r : Refusal) → to_propose M (table_at format_one s) stamp x ≡ Err r → Kept M (propose_prepare stamp x) s (Err r) s
+  prepare_proposal_refused r e = proposal_refused M s stamp x (image_holds valley s has_image) (propose_prepare stamp x) false (number_1 M (table_at format_one s) stamp x) (λ z. refl) r e
 
-  abbrev result : Result
+  abbrev result : rules.Result
   result = proposal_check (table_at format_one s).rows stamp x
 
   pub checked_storable : (result_code (proposal_check (table_at format_one s).rows stamp x) ≤ 8) × (retry_by_code (result_code (proposal_check (table_at format_one s).rows stamp x)) (result_retry (proposal_check (table_at format_one s).rows stamp x)) ≡ true)
@@ -225,7 +225,7 @@ module _ (M : Model) (s : List ℕ) (stamp : ℕ) (x : Body) (has_image : Begins
   checked_storable =
       (prepare_code_limit (tentative result), retry_of_code (tentative result) ∙ proposal_by_rule (table_at format_one s).rows stamp x (image_regular valley s has_image).0.rows)
 
-  module _ (i : ℕ) (m : List ℕ) (g : RowFields) (found : to_propose M (table_at format_one s) stamp x ≡ New i)
+  module _ (i : ℕ) (m : List ℕ) (g : RowFields) (found : to_propose M (table_at format_one s) stamp x ≡ Ok (Absent i))
       (its_stamp : g.stamp ≡ stamp) (its_body : body_at m g.offset g.reads g.writes ≡ x) (its_prepare : g.prepare ≡ result_code (proposal_check (table_at format_one s).rows stamp x)) (its_retry : g.retry ≡ result_retry (proposal_check (table_at format_one s).rows stamp x)) (its_outcome : g.outcome ≡ 0) where
     checked_row : row_of m g ≡ record { stamp = stamp; body = x; prepare = tentative (proposal_check (table_at format_one s).rows stamp x); outcome = no_outcome }
     unfolding row_of outcome_numbered
@@ -244,7 +244,7 @@ module _ (M : Model) (s : List ℕ) (stamp : ℕ) (x : Body) (has_image : Begins
         let t = held_new (record { stamp = stamp; body = x; prepare = tentative (proposal_check (table_at format_one s).rows stamp x); outcome = no_outcome }) (table_at format_one s).rows unheld_new in
         rw (unheld_new, t, its_prepare, its_retry)
 
-    pub checked_taken : Kept M (propose_prepare stamp x) s (done_reply (header_at s) 1 g.prepare stamp g.retry) (edited format_one (adding (row_of m g)) s)
+    pub checked_taken : Kept M (propose_prepare stamp x) s (Ok (done_reply (header_at s) 1 g.prepare stamp g.retry)) (edited format_one (adding (row_of m g)) s)
     checked_taken =
         let zero = proposal_clear M s stamp x (image_holds valley s has_image) (propose_prepare stamp x) false (number_1 M (table_at format_one s) stamp x) (λ e. refl) (new_clear M (table_at format_one s) stamp x i found).0 refl in
         rw (← checked_reply) at (kept_taken M (propose_prepare stamp x) s (adding (row_of m g)) zero checked_after)

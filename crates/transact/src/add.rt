@@ -35,13 +35,5 @@ pub fn add_new(
 {
     let h = header::read(table);
     edit::add::add_row(table, index, row, message);
-    Reply {
-        number: 0,
-        kind,
-        boxnumber: h.boxnumber,
-        state,
-        view: h.view,
-        stamp: row.stamp,
-        value: row.retry,
-    }
+    Reply::taken(h, kind, state, row.stamp, row.retry)
 }

@@ -1,14 +1,19 @@
 // The reply: its fields, and its 24 bytes.
 ghost use Rattle.std.specs.Prelude.{◌≡◌, ◌≤◌, length};
 ghost use Rattle.wire.specs.Parts.{replaced};
+ghost use Rattle.numbers.specs.Refusals.{refusal_code};
 ghost use Rattle.rules.specs.Answers.{refusal};
 ghost use Rattle.transact.specs.Replies.{reply_as, reply_bytes};
+ghost use Rattle.transact.specs.Inner.DoneReplies.{done_reply, reply_told};
+
+use numbers::Refusal;
+use table::header::Header;
 
 // How many bytes a reply has.
 pub const LENGTH: usize = 24;
 
-// The fields of a reply, in the order in which they stand.
-#[derive(Clone, Copy)]
+// The fields of a reply, in the order in which they stand: number, kind and state are bytes of it.
+#[derive(Clone, Copy, Debug, PartialEq, Eq)]
 pub struct Reply {
     pub number: u8,
     pub kind: u8,
@@ -19,15 +24,24 @@ pub struct Reply {
     pub value: u64,
 }
 
-// A reply, and how many rows were compared to find the row of its stamp. That number is none of the 24 bytes.
-#[derive(Clone, Copy)]
-pub struct CountedReply {
-    pub reply: Reply,
-    pub compared: usize,
-}
-
 impl Reply {
+    // The reply to a message that was taken, with box and view as the header has them.
+    pub fn taken(h: Header, kind: u8, state: u8, stamp: u64, value: u64) -> Reply
+        ensures { result ≡ done_reply h kind state stamp value }
+    {
+        Reply {
+            number: 0,
+            kind,
+            boxnumber: h.boxnumber,
+            state,
+            view: h.view,
+            stamp,
+            value,
+        }
+    }
+
     // The reply of a refused call: its number and nothing else.
+    #[tactic(auto, unfolding(rules::specs::Answers::refusal))]
     pub fn refusal(number: u8) -> Reply
         ensures { result ≡ reply_as (refusal number) }
     {
@@ -42,13 +56,13 @@ impl Reply {
         }
     }
 
-    // The reply, with so many rows compared beside it.
-    pub fn with_compared(self, compared: usize) -> CountedReply
-        ensures { (result.reply ≡ self) × (result.compared ≡ compared) }
+    // The reply that is written for a message, be it taken or refused.
+    pub fn told(said: Result<Reply, Refusal>) -> Reply
+        ensures { result ≡ reply_told said }
     {
-        CountedReply {
-            reply: self,
-            compared,
+        match said {
+            Ok(reply) => reply,
+            Err(refused) => Reply::refusal(refused.number()),
         }
     }
 }

@@ -85,7 +85,7 @@ pub extern "C" fn trial_held_body(
     ensures value { result ≡ length (held_body (held (rows_at image.now begin rows) stamp)) }
     ensures out_after { out.new ≡ replaced out.old 0 (held_body (held (rows_at image.now begin rows) stamp)) }
 {
-    let place = rows::lookup::find(image, begin, rows, stamp).place;
+    let place = rows::lookup::find(image, begin, rows, stamp).found;
     let body = rows::lookup::held_body(image, begin, place);
     wire::copy_part(body, out, 0);
     body.len()
@@ -97,7 +97,7 @@ pub extern "C" fn trial_start_fresh(tables: &mut [u8], n: u8) -> u8
     ensures value { result ≡ start_number valley tables.old n }
     ensures tables_after { tables.new ≡ start_tables valley tables.old n }
 {
-    boxes::start::start_fresh(tables, n)
+    numbers::number_of(boxes::start::start_fresh(tables, n))
 }
 
 // A message arrives at one box of them.
@@ -112,7 +112,7 @@ pub extern "C" fn trial_arrive(
     ensures tables_after { tables.new ≡ with_buffer valley tables.old boxnumber (call_table valley (buffer_of valley tables.old boxnumber) message.now reply.old) }
     ensures reply_after { reply.new ≡ call_reply valley (buffer_of valley tables.old boxnumber) message.now reply.old }
 {
-    boxes::arrive::arrive(tables, boxnumber, message, reply)
+    numbers::number_of(boxes::arrive::arrive(tables, boxnumber, message, reply))
 }
 
 // The merge for a view of the tables that the named boxes hold now.
@@ -128,5 +128,5 @@ pub extern "C" fn trial_merge_boxes(
     ensures run_after { run.new ≡ merge_boxes_run valley tables.now boxes.now run.old out.old }
     ensures out_after { out.new ≡ merge_boxes_output valley tables.now boxes.now view run.old out.old }
 {
-    boxes::together::merge_boxes(tables, boxes, view, run, out)
+    numbers::number_of(boxes::together::merge_boxes(tables, boxes, view, run, out))
 }

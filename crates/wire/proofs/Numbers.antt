@@ -2,16 +2,16 @@
 use mathlib.Core.Path.{◌≡◌, refl, sym, ap, ap₂, ◌∙◌}
 use mathlib.Core.List.{List, [], ◌∷◌, ◌++◌}
 use Prim.Native.Nat.{ℕ, zero, suc, ◌+◌, ◌*◌, ◌/◌, ◌%◌, ◌^◌, ◌≤◌, ◌<◌}
-use native.Mathlib.Nat.{add-mul, add_assoc, pow-suc, pow-succ', one-le-pow, mod-lt, div-add-mod', div-lt_iff_lt-mul, mul_assoc, div-div-eq-div-mul}
+use native.Mathlib.Nat.{add-mul, add_assoc, div-one, pow-suc, pow-succ', one-le-pow, mod-lt, div-add-mod', div-lt_iff_lt-mul, mul_assoc, div-div-eq-div-mul}
 use native.Mathlib.Omega.{arith}
 use lib.Pow.{pow-add}
 use lib.Arith.{digits_lt, digits_div, digits_mod, mod-mul}
+use Rattle.std.specs.Int.{w32, from_be_bytes}
 use lib.ListN.{length, take, drop, get_or, length-append}
 use lib.Seq.{take-add, drop-drop}
 use Rattle.wire.specs.Parts.{part, replaced}
 use Rattle.wire.specs.Numbers.{number, bytes, number_at}
 use Rattle.wire.specs.Inner.ByteLists.{AllBytes}
-use Rattle.wire.specs.Inner.Turned.{lowest_first, turned_round}
 use Rattle.wire.proofs.Parts.{length_part, part-part, part-replaced}
 
 pub power_positive : (width : ℕ) → 0 < 256 ^ width
@@ -96,6 +96,11 @@ pub number_at-none : (s : List ℕ) (at : ℕ) → number_at s at 0 ≡ 0
 unfolding number_at number
 number_at-none s at = refl
 
+-- four numbers of one byte each are those bytes
+pub four_bytes : (a b c d : ℕ) → bytes 1 a ++ (bytes 1 b ++ (bytes 1 c ++ bytes 1 d)) ≡ a ∷ b ∷ c ∷ d ∷ []
+unfolding bytes
+four_bytes a b c d = simp div-one
+
 -- a number of one byte is that byte; past the end of the list both are 0
 pub number_at-one : (s : List ℕ) (at : ℕ) → number_at s at 1 ≡ get_or s at 0
 unfolding number_at number
@@ -142,6 +147,10 @@ number_at-halves s at high low h =
     let n : length (part s (at + high) low) ≡ low = length_part s (at + high) low h in
     rw (take-add high low (drop at s), drop-drop high at s, number_joined (part s at high) (part s (at + high) low), n)
 
+-- a number of eight bytes, as its two halves are read
+pub two_halves : (s : List ℕ) (at : ℕ) → at + 8 ≤ length s → number_at s at 4 * 4294967296 + number_at s (at + 4) 4 ≡ number_at s at 8
+two_halves s at l = sym (number_at-halves s at 4 4 (omega arith))
+
 -- a number of four bytes, byte by byte
 number_at-four : (s : List ℕ) (at : ℕ) → at + 4 ≤ length s → number_at s at 4 ≡ get_or s at 0 * 16777216 + (get_or s (at + 1) 0 * 65536 + (get_or s (at + 2) 0 * 256 + get_or s (at + 3) 0))
 number_at-four s at l =
@@ -159,34 +168,9 @@ number_at-four s at l =
       number_at-one s (at + 3),
     )
 
--- so is the one whose first byte counts least, turned round
-lowest : (a r : ℕ) → a < 256 → (a + 256 * r) % 256 ≡ a
-lowest a r l = omega arith
-
-above_one : (a r : ℕ) → a < 256 → (a + 256 * r) / 256 ≡ r
-above_one a r l = omega arith
-
-above_two : (a r : ℕ) → a < 65536 → (a + 65536 * r) / 65536 ≡ r
-above_two a r l = omega arith
-
-above_three : (a r : ℕ) → a < 16777216 → (a + 16777216 * r) / 16777216 ≡ r
-above_three a r l = omega arith
-
-turned_bytes : (a b c d : ℕ) → a < 256 → b < 256 → c < 256 → d < 256 → turned_round (a + 256 * b + 65536 * c + 16777216 * d) ≡ a * 16777216 + (b * 65536 + (c * 256 + d))
-unfolding turned_round
-turned_bytes a b c d la lb lc ld =
-    let x = a + 256 * b + 65536 * c + 16777216 * d in
-    let one : x ≡ a + 256 * (b + 256 * (c + 256 * d)) = omega arith in
-    let two : x ≡ a + 256 * b + 65536 * (c + 256 * d) = omega arith in
-    let first : x % 256 ≡ a = ap (λ y. y % 256) one ∙ lowest a _ la in
-    let second : x / 256 % 256 ≡ b = ap (λ y. y / 256 % 256) one ∙ ap (λ y. y % 256) (above_one a _ la) ∙ lowest b _ lb in
-    let third : x / 65536 % 256 ≡ c = ap (λ y. y / 65536 % 256) two ∙ ap (λ y. y % 256) (above_two (a + 256 * b) _ (omega arith)) ∙ lowest c d lc in
-    let fourth : x / 16777216 ≡ d = above_three (a + 256 * b + 65536 * c) d (omega arith) in
-    rw (first, second, third, fourth, add_assoc, add_assoc)
-
-pub turned_number : (s : List ℕ) (at : ℕ) → ((i : ℕ) → get_or s i 0 < 256) → at + 4 ≤ length s → turned_round (lowest_first s at) ≡ number_at s at 4
-unfolding lowest_first
-turned_number s at h l = rw (number_at-four s at l) (turned_bytes _ _ _ _ (h at) (h (at + 1)) (h (at + 2)) (h (at + 3)))
+-- the library's number of four bytes
+pub four_read : (s : List ℕ) (at : ℕ) → at + 4 ≤ length s → from_be_bytes w32 (get_or s at 0 ∷ get_or s (at + 1) 0 ∷ get_or s (at + 2) 0 ∷ get_or s (at + 3) 0 ∷ []) ≡ number_at s at 4
+four_read s at l = rw (number_at-four s at l) (omega arith)
 
 -- a number of any width that was written is read back
 pub read_back : (s : List ℕ) (at width x : ℕ) → x < 256 ^ width → at ≤ length s → number_at (replaced s at (bytes width x)) at width ≡ x

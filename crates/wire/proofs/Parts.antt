@@ -5,8 +5,10 @@ use Prim.Native.Nat.{ℕ, suc, ◌+◌, ◌-◌, ◌≤◌, ◌<◌}
 use native.Mathlib.Nat.{add-zero, zero-add}
 use native.Mathlib.Numerals.{add-one}
 use native.Mathlib.Omega.{arith}
-use lib.ListN.{length, take, drop, set, length-append, length-take, length-drop, take-append-drop}
+use lib.ListN.{length, take, drop, set, replicate, length-replicate, length-append, length-take, length-drop, take-append-drop}
 use lib.Seq.{take_at, drop_at, take-append_seam, take-append-le, drop-append-le, drop-append-add, length-take-le, take-take, set_split, drop-drop, take-set-le, drop-set-lt, take-suc-set}
+use borrow.Rule.Slice.PartMut.{put_mid}
+use Rattle.std.specs.List.{copy_within}
 use Rattle.wire.specs.Parts.{part, replaced}
 
 pub length_part : (s : List ℕ) (at n : ℕ) → at + n ≤ length s → length (part s at n) ≡ n
@@ -130,6 +132,29 @@ replaced_over s xs ys l =
     ∙ drop-drop more (length xs) s
     ∙ ap (λ (k : ℕ). drop k s) d in
     rw (replaced_start s xs, replaced_start (xs ++ drop (length xs) s) ys, e, replaced_start s ys)
+
+-- ---- what the library's methods leave, as it is said here
+
+-- a lent part of s that now holds ws
+pub part_written : (s : List ℕ) (at n : ℕ) (ws : List ℕ) → length ws ≡ n → put_mid at (at + n - at) s ws ≡ replaced s at ws
+unfolding replaced
+part_written s at n ws e =
+    let k : at + n - at ≡ length ws = omega arith in
+    rw (k, drop-drop)
+
+-- one whose elements are all 0 now
+pub part_cleared : (s : List ℕ) (at n : ℕ) → at + n ≤ length s → put_mid at (at + n - at) s (replicate (length (part s at (at + n - at))) 0) ≡ replaced s at (replicate n 0)
+part_cleared s at n h =
+    let k : at + n - at ≡ n = omega arith in
+    let e : length (part s at (at + n - at)) ≡ n = rw k (length_part s at n h) in
+    rw e (part_written s at n (replicate n 0) (length-replicate n 0))
+
+-- a part of s copied to another place of it
+pub part_moved : (s : List ℕ) (from to n : ℕ) → from + n ≤ length s → copy_within s from (from + n) to ≡ replaced s to (part s from n)
+unfolding replaced
+part_moved s from to n h =
+    let k : from + n - from ≡ n = omega arith in
+    rw (k, length_part s from n h, append_assoc)
 
 -- ---- one element more, as a loop writes it
 

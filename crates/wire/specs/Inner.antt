@@ -1,3 +1,2 @@
 -- What no promise names: functions below a call speak of it, and laws about them.
 pub mod ByteLists
-pub mod Turned

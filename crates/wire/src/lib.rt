@@ -1,23 +1,15 @@
 // Big-endian numbers in a lent slice, and parts of a slice copied, moved and cleared.
 //
 // Nothing here knows what the bytes are for. Whoever writes says by `replaced` which bytes took the place of which; all others stay.
-// A number is read and written by one function for every width, so that its proof is one proof. Only the numbers of four bytes, as every row has one, are read in a way of their own.
+// A number is read and written by one function for every width, so that its proof is one proof. Only the numbers of four and of eight bytes, as every row has them, are read so that the compiler makes one load of each.
 #![tactic(auto)]
 
 ghost use Rattle.std.specs.Prelude.{◌≡◌, ◌++◌, ◌+◌, ◌≤◌, ◌<◌, ◌^◌, length, replicate};
 ghost use Rattle.wire.specs.Parts.{part, replaced};
 ghost use Rattle.wire.specs.Numbers.{number_at, bytes};
-ghost use Rattle.wire.specs.Inner.Turned.{lowest_first, turned_round};
 
 // What the high half of an 8-byte number counts: 256 to the fourth.
-const HALF: u64 = 4294967296;
-
-// A byte as a wide number: the callee knows that a byte fits, so that no caller has to show it.
-fn wide(b: u8) -> u64
-    ensures { (result ≡ b) × (result < 256) }
-{
-    b as u64
-}
+const HALF: u64 = 0x1_0000_0000;
 
 // The number in the `width` bytes from `at`. The bound is there for callers that keep it in a narrower type.
 pub fn number_at(s: &[u8], at: usize, width: usize) -> u64
@@ -25,15 +17,13 @@ pub fn number_at(s: &[u8], at: usize, width: usize) -> u64
     ensures { (result ≡ number_at s.now at width) × (result < 256 ^ width) }
 {
     let mut x: u64 = 0;
-    let mut unread = width;
-    while 0 < unread {
-        x = x * 256 + wide(s[at + (width - unread)]);
-        unread -= 1;
+    for b in &s[at..at + width] {
+        x = x * 256 + u64::from(*b);
     }
     x
 }
 
-// The numbers of one, two, four and eight bytes, each in its own type.
+// The numbers of one, two, four and eight bytes, each in its own type. They stay side by side, since a trait over the types would need the same bodies as its methods.
 pub fn u8_at(s: &[u8], at: usize) -> u8
     requires { at + 1 ≤ length s.now }
     ensures { result ≡ number_at s.now at 1 }
@@ -48,30 +38,16 @@ pub fn u16_at(s: &[u8], at: usize) -> u16
     number_at(s, at, 2) as u16
 }
 
-// The four bytes from `at` with the first as the lowest. Of a sum in this order, without a loop, the compiler makes one load wherever the number is used. Of the other it does so only where the number is used in one place.
-fn lowest_first(s: &[u8], at: usize) -> u64
-    requires { at + 4 ≤ length s.now }
-    ensures { (result ≡ lowest_first s.now at) × (result < 256 ^ 4) }
-{
-    wide(s[at]) + 256 * wide(s[at + 1]) + 65536 * wide(s[at + 2]) + 16777216 * wide(s[at + 3])
-}
-
-// A number of four bytes with its bytes in the opposite order, of which the compiler makes one instruction.
-fn turned(x: u64) -> u64
-    requires { x < 256 ^ 4 }
-    ensures { (result ≡ turned_round x) × (result < 256 ^ 4) }
-{
-    x % 256 * 16777216 + x / 256 % 256 * 65536 + x / 65536 % 256 * 256 + x / 16777216
-}
-
+#[tactic(auto, using(crate::proofs::Numbers::four_read))]
 pub fn u32_at(s: &[u8], at: usize) -> u32
     requires { at + 4 ≤ length s.now }
     ensures { result ≡ number_at s.now at 4 }
 {
-    turned(lowest_first(s, at)) as u32
+    u32::from_be_bytes([s[at], s[at + 1], s[at + 2], s[at + 3]])
 }
 
-// In two halves, since the compiler makes one load of each half and then one of both, and of eight single bytes it does not.
+// In two halves: by `from_be_bytes` of all eight bytes a walk over rows took an instruction more for each row.
+#[tactic(auto, using(crate::proofs::Numbers::two_halves))]
 pub fn u64_at(s: &[u8], at: usize) -> u64
     requires { at + 8 ≤ length s.now }
     ensures { result ≡ number_at s.now at 8 }
@@ -80,16 +56,15 @@ pub fn u64_at(s: &[u8], at: usize) -> u64
 }
 
 // Writes `x` into the `width` bytes from `at`, the last byte first.
+#[tactic(auto, using(crate::proofs::Turns::put_turn, crate::proofs::Turns::put_below, crate::proofs::Turns::put_none))]
 pub fn put_number(s: &mut [u8], at: usize, width: usize, x: u64)
     requires { (at + width ≤ length s.old) × (x < 256 ^ width) }
     ensures { s.new ≡ replaced s.old at (bytes width x) }
 {
     let mut rest = x;
-    let mut unwritten = width;
-    while 0 < unwritten {
-        unwritten -= 1;
-        s[at + unwritten] = (rest % 256) as u8;
-        rest = rest / 256;
+    for i in (0..width).rev() {
+        s[at + i] = (rest % 256) as u8;
+        rest /= 256;
     }
 }
 
@@ -98,21 +73,21 @@ pub fn put_u8(s: &mut [u8], at: usize, x: u8)
     requires { at + 1 ≤ length s.old }
     ensures { s.new ≡ replaced s.old at (bytes 1 x) }
 {
-    put_number(s, at, 1, x as u64)
+    put_number(s, at, 1, u64::from(x))
 }
 
 pub fn put_u16(s: &mut [u8], at: usize, x: u16)
     requires { at + 2 ≤ length s.old }
     ensures { s.new ≡ replaced s.old at (bytes 2 x) }
 {
-    put_number(s, at, 2, x as u64)
+    put_number(s, at, 2, u64::from(x))
 }
 
 pub fn put_u32(s: &mut [u8], at: usize, x: u32)
     requires { at + 4 ≤ length s.old }
     ensures { s.new ≡ replaced s.old at (bytes 4 x) }
 {
-    put_number(s, at, 4, x as u64)
+    put_number(s, at, 4, u64::from(x))
 }
 
 pub fn put_u64(s: &mut [u8], at: usize, x: u64)
@@ -122,73 +97,40 @@ pub fn put_u64(s: &mut [u8], at: usize, x: u64)
     put_number(s, at, 8, x)
 }
 
-// Four numbers of a byte each, side by side.
+// Four numbers of a byte each, side by side, as arguments: whoever writes them has four fields in hand.
+#[tactic(auto, using(crate::proofs::Numbers::four_bytes))]
 pub fn put_four_u8(s: &mut [u8], at: usize, a: u8, b: u8, c: u8, d: u8)
     requires { at + 4 ≤ length s.old }
     ensures { s.new ≡ replaced s.old at (bytes 1 a ++ (bytes 1 b ++ (bytes 1 c ++ bytes 1 d))) }
 {
-    put_u8(s, at, a);
-    put_u8(s, at + 1, b);
-    put_u8(s, at + 2, c);
-    put_u8(s, at + 3, d);
+    copy_part(&[a, b, c, d], s, at)
 }
 
-// Copies a lent part, whole, into another slice from `at`.
+// Copies a lent part, whole, into another slice from `at`. Byte by byte: `copy_from_slice` was tried and took half as long again for a whole image.
+#[tactic(auto, using(crate::proofs::Turns::copy_turn, crate::proofs::Turns::copy_end))]
 pub fn copy_part(src: &[u8], dst: &mut [u8], at: usize)
     requires { at + length src.now ≤ length dst.old }
     ensures { dst.new ≡ replaced dst.old at src.now }
 {
-    let mut copied: usize = 0;
-    while copied < src.len() {
-        dst[at + copied] = src[copied];
-        copied += 1;
-    }
-}
-
-// Moves to a higher place from the last byte on, so that no byte is overwritten before it is read.
-fn move_up(s: &mut [u8], from: usize, to: usize, n: usize)
-    requires { (from ≤ to) × (to + n ≤ length s.old) }
-    ensures { s.new ≡ replaced s.old to (part s.old from n) }
-{
-    let mut unmoved = n;
-    while 0 < unmoved {
-        unmoved -= 1;
-        s[to + unmoved] = s[from + unmoved];
-    }
-}
-
-// Moves to a lower place from the first byte on, for the same reason.
-fn move_down(s: &mut [u8], from: usize, to: usize, n: usize)
-    requires { (to ≤ from) × (from + n ≤ length s.old) }
-    ensures { s.new ≡ replaced s.old to (part s.old from n) }
-{
-    let mut moved: usize = 0;
-    while moved < n {
-        s[to + moved] = s[from + moved];
-        moved += 1;
+    for (i, b) in src.iter().enumerate() {
+        dst[at + i] = *b;
     }
 }
 
 // Moves the `n` bytes at `from` to `to` inside one slice, up or down; the two places may overlap.
+#[tactic(auto, using(crate::proofs::Parts::part_moved))]
 pub fn move_part(s: &mut [u8], from: usize, to: usize, n: usize)
     requires { (from + n ≤ length s.old) × (to + n ≤ length s.old) }
     ensures { s.new ≡ replaced s.old to (part s.old from n) }
 {
-    if from < to {
-        move_up(s, from, to, n)
-    } else {
-        move_down(s, from, to, n)
-    }
+    s.copy_within(from..from + n, to);
 }
 
 // Sets the `n` bytes from `at` to zero.
+#[tactic(auto, using(crate::proofs::Parts::part_cleared))]
 pub fn clear_part(s: &mut [u8], at: usize, n: usize)
     requires { at + n ≤ length s.old }
     ensures { s.new ≡ replaced s.old at (replicate n 0) }
 {
-    let mut cleared: usize = 0;
-    while cleared < n {
-        s[at + cleared] = 0;
-        cleared += 1;
-    }
+    s[at..at + n].fill(0);
 }

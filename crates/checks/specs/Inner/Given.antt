@@ -1,13 +1,9 @@
--- What the walks over a table's rows give, as the code has it.
-use Rattle.rules.specs.Tables.{Result, result_code, result_retry}
-use Rattle.rules.specs.Messages as rules
-use Rattle.rows.specs.declared.result.Result as held
-use Rattle.checks.specs.declared.newest.Found.{Found}
+-- What the search for a register gives, as the rules have it.
+use Rattle.std.specs.Prelude.{Option, Some, None}
+use Rattle.rules.specs.Messages.{Found, nothing_found}
+use Rattle.checks.specs.declared.newest.Written.{Written}
 
--- a check's result, by its code and its retry stamp
-abbrev pub checked_as : Result → held.Result
-checked_as r = record { code = result_code r; retry = result_retry r }
-
--- "the version found, and value its value"
-abbrev pub found_as : rules.Found → Found
-found_as f = record { version = f.version; value = f.value }
+-- "the version found, and value its value", or 0 and 0
+abbrev pub found_meant : Option Written → Found
+found_meant (Some w) = record { version = w.version; value = w.value }
+found_meant None = nothing_found

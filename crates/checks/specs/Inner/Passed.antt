@@ -1,5 +1,5 @@
 -- What rows that were passed say, as the code keeps it while it goes on.
-use Rattle.std.specs.Prelude.{Bool, true, false, not, cond, List, ℕ, max, eqb, ltb, leb}
+use Rattle.std.specs.Prelude.{◌≡◌, ◌⊎◌, Bool, true, false, not, cond, List, ℕ, zero, suc, ◌+◌, ◌-◌, ◌≤◌, max, eqb, ltb, leb}
 use Rattle.rules.specs.Tests.{both, either, any}
 use Rattle.rules.specs.Stamps.{Body}
 use Rattle.rules.specs.Tables.{Result, Result.OK, Result.ABORT, Result.ABSTAIN, Result.RETRY, Row}
@@ -53,6 +53,15 @@ later s x t y = both (ltb s t) (either (common y.reads x.writes) (common y.write
 
 abbrev pub row_clashes : ℕ → Body → Row → Bool
 row_clashes s x r = both (accepted r) (clash s x r.stamp r.body)
+
+-- so many of n rows were passed, the last one first, each by one step
+unfoldable pub PassedTo : (Seen → ℕ → Seen → Type 0) → ℕ → ℕ → Seen → Type 0
+PassedTo step n zero seen = seen ≡ nothing_seen
+PassedTo step n (suc k) seen = (before : Seen) × PassedTo step n k before × step before (n - suc k) seen
+
+-- they were passed down to the first ones, which are silent, or to where A has spoken
+abbrev pub PassedRows : (Seen → ℕ → Seen → Type 0) → ℕ → ℕ → Seen → Type 0
+PassedRows step silent n seen = (k : ℕ) × (k ≤ n) × PassedTo step n k seen × ((n ≤ silent + k) ⊎ (seen.abort ≡ true))
 
 -- "in this order": "ABORT", "RETRY" with "the stamp returned", "ABSTAIN", "Otherwise OK."
 unfoldable pub answer_of : Seen → Result

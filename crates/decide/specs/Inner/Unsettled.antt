@@ -1,10 +1,10 @@
 -- What a stamp's row holds before any check, as bytes.
-use Rattle.std.specs.Prelude.{cond, List, ℕ, ◌+◌, eqb}
+use Rattle.std.specs.Prelude.{cond, List, ℕ, ◌+◌, eqb, Option, Some, None}
 use Rattle.rules.specs.Tests.{both}
 use Rattle.rules.specs.Tables.{Row, prepare_code, prepare_retry, outcome_code}
 use Rattle.rules.specs.Merge.{standing, merged_outcome, unchecked_prepare}
 use Rattle.gather.specs.declared.state.State.{State}
-use Rattle.rows.specs.declared.result.Result.{Result}
+use Rattle.gather.specs.declared.results.HeldResult.{HeldResult}
 use Rattle.gather.specs.Inner.State.{outcome_held}
 use Rattle.decide.specs.declared.unchecked.Unchecked.{Unchecked}
 
@@ -17,16 +17,24 @@ abbrev pub open_byte : ℕ → ℕ
 open_byte outcome = cond (eqb outcome 0) 0 (cond (eqb outcome 3) 5 6)
 
 -- a stamp of which no final result is held
-unfoldable pub without_final : State → Result → Unchecked
-without_final x a = record {
-  prepare = cond (eqb a.code 0) (cond x.held (open_byte (outcome_held x)) 0) (agreed_byte a.code (outcome_held x));
-  retry = cond (eqb a.code 0) 0 a.retry;
+unfoldable pub without_final : State → Option HeldResult → Unchecked
+without_final x (Some a) = record {
+  prepare = agreed_byte a.code (outcome_held x);
+  retry = a.retry;
+  outcome = outcome_held x;
+}
+without_final x None = record {
+  prepare = cond x.held (open_byte (outcome_held x)) 0;
+  retry = 0;
   outcome = outcome_held x;
 }
 
 -- any stamp: "a final result" stays
-unfoldable pub unchecked_from : State → Result → Unchecked
-unchecked_from x a = cond (eqb x.prepare 0) (without_final x a) (record { prepare = x.prepare; retry = x.retry; outcome = outcome_held x })
+unfoldable pub unchecked_from : State → Option HeldResult → Unchecked
+unchecked_from x a = elim x.final_result [
+  | Some r ↦ record { prepare = r.code; retry = r.retry; outcome = outcome_held x }
+  | None ↦ without_final x a
+]
 
 -- what `rules` has the row hold before any check
 unfoldable pub unchecked_as : ℕ → List Row → Unchecked

@@ -1,10 +1,11 @@
 -- The result of one stamp that enough tables hold.
 use Rattle.std.specs.Prelude.{Bool, cond, List, [], ◌∷◌, ℕ, eqb, ltb, leb}
+use Rattle.std.specs.Prelude as std
 use Rattle.std.proofs.Math.Option.{Option, none, some}
 use Rattle.rules.specs.Tests.{both, count}
 use Rattle.rules.specs.Tables.{Result, result_code, result_retry}
 use Rattle.rows.specs.declared.row.RowFields.{RowFields}
-use Rattle.rows.specs.declared.result.Result as held
+use Rattle.gather.specs.declared.results.HeldResult.{HeldResult}
 
 -- "1 to 4 tentative"
 abbrev pub is_tentative : ℕ → Bool
@@ -18,12 +19,12 @@ has_codes prepare retry f = both (eqb f.prepare prepare) (eqb f.retry retry)
 abbrev pub enough_have : ℕ → List RowFields → ℕ → ℕ → Bool
 enough_have agreement all prepare retry = both (is_tentative prepare) (leb agreement (count (has_codes prepare retry) all))
 
--- the first of these rows whose result enough of all rows have; zeros of none
-unfoldable pub agreed_among : ℕ → List RowFields → List RowFields → held.Result
-agreed_among agreement all [] = record { code = 0; retry = 0 }
-agreed_among agreement all (f ∷ fs) = cond (enough_have agreement all f.prepare f.retry) (record { code = f.prepare; retry = f.retry }) (agreed_among agreement all fs)
+-- the first of these rows whose result enough of all rows have
+unfoldable pub agreed_among : ℕ → List RowFields → List RowFields → std.Option HeldResult
+agreed_among agreement all [] = std.None
+agreed_among agreement all (f ∷ fs) = cond (enough_have agreement all f.prepare f.retry) (std.Some (record { code = f.prepare; retry = f.retry })) (agreed_among agreement all fs)
 
--- an agreed result as a row has it; zeros of none
-abbrev pub agreed_as : Option Result → held.Result
-agreed_as none = record { code = 0; retry = 0 }
-agreed_as (some r) = record { code = result_code r; retry = result_retry r }
+-- an agreed result as a row has it
+abbrev pub agreed_as : Option Result → std.Option HeldResult
+agreed_as none = std.None
+agreed_as (some r) = std.Some (record { code = result_code r; retry = result_retry r })

@@ -1,15 +1,16 @@
 -- What reading a message gives, as the code has it.
 use Rattle.std.specs.Prelude.{◌≡◌, true, List, ℕ, drop}
+use Rattle.std.specs.Prelude as given
 use Rattle.std.proofs.Math.Option.{Option, none, some}
 use Rattle.rules.specs.Messages as rules
 use Rattle.rules.specs.Messages.{Message.propose_prepare, Message.finalise_prepare, Message.propose_outcome, Message.finalise_outcome, Message.change_view, Message.start_view, Message.read_register}
-use Rattle.rows.specs.Fields.{result_numbered, verdict_numbered}
+use Rattle.rules.specs.Tables.{result_by_rule}
 use Rattle.rows.specs.Read.{body_at}
+use Rattle.rows.specs.Inner.Results.{result_meant, verdict_meant}
 use Rattle.table.specs.Images.{Form}
 use Rattle.table.specs.Parse.{table_at}
 use Rattle.message.specs.declared.kinds.Message.{Message}
-use Rattle.message.specs.declared.kinds.Message.TheVariants.{ProposePrepare, FinalisePrepare, ProposeOutcome, FinaliseOutcome, ChangeView, StartView, ReadRegister, Bad}
-use Rattle.message.specs.Messages.{result_by_code, verdict_by_code}
+use Rattle.message.specs.declared.kinds.Message.TheVariants.{ProposePrepare, FinalisePrepare, ProposeOutcome, FinaliseOutcome, ChangeView, StartView, ReadRegister}
 
 -- where the body of message 1 lies: behind the kind, the stamp and the two counts
 abbrev pub prepare_body : ℕ
@@ -19,24 +20,22 @@ prepare_body = 11
 abbrev pub outcome_body : ℕ
 outcome_body = 12
 
--- the message of `rules` that an answer of the reader stands for, with the body or the image that lies in the message's bytes
-abbrev pub meant : Form → List ℕ → Message → Option rules.Message
-meant F s (ProposePrepare stamp reads writes) = some (propose_prepare stamp (body_at s prepare_body reads writes))
-meant F s (FinalisePrepare stamp view code retry) = some (finalise_prepare stamp view (result_numbered code retry))
-meant F s (ProposeOutcome stamp code reads writes) = some (propose_outcome stamp (verdict_numbered code) (body_at s outcome_body reads writes))
-meant F s (FinaliseOutcome stamp view code) = some (finalise_outcome stamp view (verdict_numbered code))
-meant F s (ChangeView view) = some (change_view view)
-meant F s (StartView view) = some (start_view view (table_at F (drop 5 s)))
-meant F s (ReadRegister stamp register) = some (read_register stamp register)
-meant F s Bad = none
+-- the message of `rules` that one of the code's stands for, with the body or the image that lies in the message's bytes
+abbrev pub message_meant : Form → List ℕ → Message → rules.Message
+message_meant F s (ProposePrepare stamp reads writes) = propose_prepare stamp (body_at s prepare_body reads writes)
+message_meant F s (FinalisePrepare stamp view result) = finalise_prepare stamp view (result_meant result)
+message_meant F s (ProposeOutcome stamp verdict reads writes) = propose_outcome stamp (verdict_meant verdict) (body_at s outcome_body reads writes)
+message_meant F s (FinaliseOutcome stamp view verdict) = finalise_outcome stamp view (verdict_meant verdict)
+message_meant F s (ChangeView view) = change_view view
+message_meant F s (StartView view) = start_view view (table_at F (drop 5 s))
+message_meant F s (ReadRegister stamp register) = read_register stamp register
 
--- the codes that are handed on are codes of the list: "result 1 to 4, retry stamp (by the rows' rule)", "1 commit or 2 abort"
-abbrev pub Coded : Message → Type 0
-Coded (ProposePrepare stamp reads writes) = Unit {0}
-Coded (FinalisePrepare stamp view code retry) = result_by_code code retry ≡ true
-Coded (ProposeOutcome stamp code reads writes) = verdict_by_code code ≡ true
-Coded (FinaliseOutcome stamp view code) = verdict_by_code code ≡ true
-Coded (ChangeView view) = Unit {0}
-Coded (StartView view) = Unit {0}
-Coded (ReadRegister stamp register) = Unit {0}
-Coded Bad = Unit {0}
+-- what an answer of the reader stands for
+abbrev pub meant : Form → List ℕ → given.Option Message → Option rules.Message
+meant F s given.None = none
+meant F s (given.Some m) = some (message_meant F s m)
+
+-- what is handed on of a result is by the rules: "retry stamp (by the rows' rule)"
+abbrev pub Coded : given.Option Message → Type 0
+Coded (given.Some (FinalisePrepare stamp view result)) = result_by_rule (result_meant result) ≡ true
+Coded _ = Unit {0}

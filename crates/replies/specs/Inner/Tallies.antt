@@ -9,10 +9,6 @@ use Rattle.replies.specs.declared.tally.Others.{Others}
 use Rattle.replies.specs.declared.tally.Range.{Range}
 use Rattle.replies.specs.declared.tally.Tally.{Tally}
 
--- a place where no reply stands
-abbrev pub no_reply : Reply
-no_reply = record { boxnumber = 0; view = 0; result = 0; retry = 0; finality = 0 }
-
 -- "result with its retry stamp" as one number, by its code and its stamp
 abbrev pub packed : ℕ → ℕ → ℕ
 packed code retry = 8 * (retry % 2305843009213693952) + code % 8

@@ -1,8 +1,10 @@
 -- What a message finds in the table: the row that it is about, or a reason to refuse it.
-use Rattle.std.specs.Prelude.{Bool, false, not, cond, List, ℕ, ◌+◌, ◌*◌, ◌≤◌, eqb, length}
+use Rattle.std.specs.Prelude.{Bool, false, not, cond, List, ℕ, ◌+◌, ◌*◌, ◌≤◌, eqb, length, Result, Ok, Err}
+use Rattle.numbers.specs.declared.Refusal.{Refusal}
+use Rattle.numbers.specs.declared.Refusal.TheVariants.{Changing, OtherBody, Full, Unknown, OtherView}
 use Rattle.rules.specs.Tests.{both}
 use Rattle.rules.specs.Stamps.{Body}
-use Rattle.rules.specs.Tables.{Model, Table}
+use Rattle.rules.specs.Tables.{Model, Table, changing_mode}
 use Rattle.rules.specs.Circumstances.{keeps_room, is_changing, held_with_other_body, new_but_full, for_other_view}
 use Rattle.rows.specs.declared.row.RowFields.{RowFields}
 use Rattle.rows.specs.Fields.{row_length, fields_at}
@@ -10,39 +12,36 @@ use Rattle.rows.specs.Inner.Rows.{BodyInside, body_part}
 use Rattle.rows.specs.declared.lookup.Place.{Place}
 use Rattle.rows.specs.declared.lookup.Place.TheVariants.{Held, Absent}
 use Rattle.rows.specs.Inner.Places.{place_of, FoundInside, body_found}
+use Rattle.table.specs.declared.header.Header.{Header}
 use Rattle.table.specs.Headers.{header_length}
-use Rattle.seek.specs.declared.Finding.{Finding}
-use Rattle.seek.specs.declared.Finding.TheVariants.{Known, Refused}
-use Rattle.seek.specs.declared.Proposal.{Proposal}
-use Rattle.seek.specs.declared.Proposal.TheVariants as propose
 
 -- ---- messages 2 and 4
 
 -- 8, "unknown", if the table has no row of the stamp
-abbrev pub row_or_unknown : Place → Finding
-row_or_unknown (Held i) = Known i
-row_or_unknown (Absent i) = Refused 8
+abbrev pub row_or_unknown : Place → Result ℕ Refusal
+row_or_unknown (Held i) = Ok i
+row_or_unknown (Absent i) = Err Unknown
 
--- before it 4, "changing", and 9, "other view"
-unfoldable pub to_finalise : Table → ℕ → ℕ → Finding
-to_finalise T s v = cond (is_changing T) (Refused 4) (cond (for_other_view T v) (Refused 9) (row_or_unknown (place_of T.rows s)))
+-- what a header says of them before any row is sought: 4, "changing", and 9, "other view"
+abbrev pub in_view : Header → ℕ → Result (Unit {0}) Refusal
+in_view h v = cond (eqb h.mode changing_mode) (Err Changing) (cond (not (eqb v h.view)) (Err OtherView) (Ok tt))
+
+-- both come before the row
+unfoldable pub to_finalise : Table → ℕ → ℕ → Result ℕ Refusal
+to_finalise T s v = cond (is_changing T) (Err Changing) (cond (for_other_view T v) (Err OtherView) (row_or_unknown (place_of T.rows s)))
 
 -- ---- messages 1 and 3
 
-abbrev pub held_or_new : Place → Proposal
-held_or_new (Held i) = propose.Held i
-held_or_new (Absent i) = propose.New i
-
 -- of a stamp that is not held: whether there is room for its row
-abbrev pub new_or_full : Bool → Place → Proposal
-new_or_full room (Held i) = propose.Against 7
-new_or_full room (Absent i) = cond room (propose.New i) (propose.Against 7)
+abbrev pub new_or_full : Bool → Place → Result Place Refusal
+new_or_full room (Held i) = Err Full
+new_or_full room (Absent i) = cond room (Ok (Absent i)) (Err Full)
 
--- 4, "changing"; 5, "other body"; 7, "full"
-unfoldable pub to_propose : Model → Table → ℕ → Body → Proposal
+-- the row that is held, or the place of a new one; 4, "changing"; 5, "other body"; 7, "full"
+unfoldable pub to_propose : Model → Table → ℕ → Body → Result Place Refusal
 to_propose M T s x =
-    cond (is_changing T) (propose.Against 4)
-    (cond (held_with_other_body T s x) (propose.Against 5) (cond (new_but_full M keeps_room T s) (propose.Against 7) (held_or_new (place_of T.rows s))))
+    cond (is_changing T) (Err Changing)
+    (cond (held_with_other_body T s x) (Err OtherBody) (cond (new_but_full M keeps_room T s) (Err Full) (Ok (place_of T.rows s))))
 
 -- ---- the body of either
 

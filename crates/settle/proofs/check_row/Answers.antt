@@ -12,38 +12,31 @@ use Rattle.edit.proofs.Holding.{holds_rows_at, one_starts, holds_least, holds_ro
 use Rattle.settle.proofs.CheckedInPlace.{body_there, rows_there, checked_storable, checked_edited}
 use Rattle.settle.proofs.check_row.Goals as goal
 
-pub read-rows-requires : goal.read-rows-requires
-read-rows-requires c = holds_least format_one c.args.out.now one_starts c.requires.0
+pub read-requires : goal.read-requires
+read-requires c = holds_least format_one c.args.out.now one_starts c.requires.0
 
-pub row_at-row-requires : goal.row_at-row-requires
-row_at-row-requires c = holds_row_inside format_one c.args.out.now c.args.index one_starts c.requires.0 c.requires.1
+pub invariant_of-rows : goal.invariant_of-rows
+invariant_of-rows c =
+    let known : AllBytes c.args.out.now = all_of c.args.out.now (λ i. (c.slice_known-1.given i).fits) in
+    record { inside = rw c.read.ensures (rows_there c.args.out.now known c.requires.0).0 }
 
-pub body_of-requires : goal.body_of-requires
-body_of-requires c =
+pub body-requires : goal.body-requires
+body-requires c =
     let known : AllBytes c.args.out.now = all_of c.args.out.now (λ i. (c.slice_known-1.given i).fits) in
     let k = c in
     let p = k in
-    rw c.row_at-row.ensures (body_there p.args.out.now known p.requires.0 p.args.index p.requires.1)
+    rw c.row-row.ensures (body_there p.args.out.now known p.requires.0 p.args.index p.requires.1)
 
 pub check-checked-requires : goal.check-checked-requires
 check-checked-requires c =
     let known : AllBytes c.args.out.now = all_of c.args.out.now (λ i. (c.slice_known-1.given i).fits) in
-    let k = c in
-    let p = k in
-    let s = p.args.out.now in
-    let l = length_body_part s (fields_at s (24 + 24 * p.args.index)) (body_there s known p.requires.0 p.args.index p.requires.1) in
-    rw (c.read-rows.ensures, c.body_of.ensures, c.row_at-row.ensures) (rows_there s known p.requires.0, omega (arith, l), rw (holds_rows_at format_one s) at p.requires.3)
-
-pub overflow_add-checked : goal.overflow_add-checked
-overflow_add-checked c =
-    let known : AllBytes c.args.out.now = all_of c.args.out.now (λ i. (c.slice_known-1.given i).fits) in
-    let storable : (c.check-checked.result.code + 4 ≤ 8) × (retry_by_code (c.check-checked.result.code + 4) c.check-checked.result.retry ≡ true) = (let k = c in let p = k in rw (c.check-checked.ensures, c.body_of.ensures, c.row_at-row.ensures, c.read-rows.ensures) (checked_storable p.args.out.now known p.requires.0 p.args.index p.requires.1 p.requires.2)) in
-    let l = storable.0 in omega arith
+    let s = c.args.out.now in
+    rw c.read.ensures (rows_there s known c.requires.0, rw (holds_rows_at format_one s) at c.requires.3)
 
 pub set_prepare-requires : goal.set_prepare-requires
 set_prepare-requires c =
     let known : AllBytes c.args.out.now = all_of c.args.out.now (λ i. (c.slice_known-1.given i).fits) in
-    let storable : (c.check-checked.result.code + 4 ≤ 8) × (retry_by_code (c.check-checked.result.code + 4) c.check-checked.result.retry ≡ true) = (let k = c in let p = k in rw (c.check-checked.ensures, c.body_of.ensures, c.row_at-row.ensures, c.read-rows.ensures) (checked_storable p.args.out.now known p.requires.0 p.args.index p.requires.1 p.requires.2)) in
+    let storable : (c.code.result + 4 ≤ 8) × (retry_by_code (c.code.result + 4) c.retry.result ≡ true) = (let k = c in let p = k in rw (c.code.ensures.0, c.retry.ensures, c.check-checked.ensures, c.body.ensures, c.row-row.ensures, c.read.ensures) (checked_storable p.args.out.now known p.requires.0 p.args.index p.requires.1 p.requires.2)) in
     let p = c in let t = storable in (p.requires.0, p.requires.1, t.0, t.1)
 
 pub returns : goal.returns
@@ -51,5 +44,5 @@ returns c =
     let known : AllBytes c.args.out.now = all_of c.args.out.now (λ i. (c.slice_known-1.given i).fits) in
     let k = c in
     let p = k in
-    rw (c.set_prepare.ensures, c.check-checked.ensures, c.body_of.ensures, c.row_at-row.ensures, c.read-rows.ensures)
+    rw (c.set_prepare.ensures, c.code.ensures.0, c.retry.ensures, c.check-checked.ensures, c.body.ensures, c.row-row.ensures, c.read.ensures)
     (checked_edited p.args.out.now known p.requires.0 p.args.index p.requires.1 p.requires.2)

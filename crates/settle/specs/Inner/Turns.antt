@@ -1,15 +1,22 @@
 -- "Checks run over the merged table .., then agreed rows in rising stamp order, then open rows in rising order; a check sees only rows settled before it."
-use Rattle.std.specs.Prelude.{Bool, not, cond, List, [], ◌∷◌, map, ℕ, ◌+◌}
+use Rattle.std.specs.Prelude.{Bool, true, false, not, cond, List, [], ◌∷◌, map, ℕ, ◌+◌}
 use Rattle.rules.specs.Tests.{both, kept}
 use Rattle.rules.specs.Stamps.{is_stamp}
 use Rattle.rules.specs.Tables.{Prepare.final, Row}
 use Rattle.rules.specs.Messages.{with_prepare}
 use Rattle.rules.specs.Check.{check}
 use Rattle.rules.specs.Merge.{is_settled, checked_in_turn}
+use Rattle.settle.specs.declared.Turn.{Turn}
+use Rattle.settle.specs.declared.Turn.TheVariants.{Agreed, Open}
 use Rattle.settle.specs.Inner.Marks.{is_marked}
 
 abbrev pub has_stamp : Row → Bool
 has_stamp r = is_stamp r.stamp
+
+-- "then agreed rows in rising stamp order, then open rows in rising order": whether a turn is that of the open ones
+abbrev pub is_open : Turn → Bool
+is_open Agreed = false
+is_open Open = true
 
 -- a row waits for a check, among the open ones or among the agreed ones; its mark says whether its stamp is agreed
 unfoldable pub waits : Bool → Bool → Row → Bool

@@ -1,12 +1,7 @@
 -- A result that is counted fits the bits of its word.
-use mathlib.Core.Path.{ap, ◌∙◌}
 use Rattle.count.proofs.CountWays.{Lent.laid}
-use Rattle.sprondilu.specs.Calls.{count_answer}
 use Rattle.sprondilu.proofs.CountWords.{lent_fits}
 use Rattle.sprondilu.proofs.sprondilu_count.Goals as goal
 
 pub answer_word-requires : goal.answer_word-requires
-answer_word-requires c = let a = c.args in lent_fits a.n (laid a.replies.now) _ c.count.ensures
-
-pub returns : goal.returns
-returns c = c.answer_word.ensures ∙ ap count_answer c.count.ensures
+answer_word-requires c = lent_fits c.args.n (laid c.args.replies.now) _ c.count.ensures

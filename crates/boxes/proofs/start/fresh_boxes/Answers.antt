@@ -10,7 +10,7 @@ use Rattle.boxes.proofs.start.fresh_boxes.Goals as goal
 
 pub loop-boxnumber-init : goal.loop-boxnumber-init
 unfolding fresh_first
-loop-boxnumber-init c = (omega arith, refl, refl)
+loop-boxnumber-init c = (refl, refl)
 
 pub loop-boxnumber-preserved : goal.loop-boxnumber-preserved
 loop-boxnumber-preserved c =
@@ -23,7 +23,7 @@ loop-boxnumber-preserved c =
     let fresh = rw is at call.ensures.table_after in
     let back = lent_back valley l.tables l.boxnumber at.result (at.result + 49176 - at.result) at.ensures many call.new.table (omega arith) call.auto.table in
     let turned = first_turn valley a.n l.boxnumber a.tables.now in
-    (omega arith, omega arith, back ∙ ap (with_buffer valley l.tables l.boxnumber) fresh ∙ ap (λ t. with_buffer valley t l.boxnumber (fresh_buffer valley (buffer_of valley t l.boxnumber) a.n l.boxnumber)) l.invariant.2 ∙ sym turned)
+    (omega arith, back ∙ ap (with_buffer valley l.tables l.boxnumber) fresh ∙ ap (λ t. with_buffer valley t l.boxnumber (fresh_buffer valley (buffer_of valley t l.boxnumber) a.n l.boxnumber)) l.invariant.1 ∙ sym turned)
 
 pub returns : goal.returns
-returns c = let e : c.loop-boxnumber.boxnumber ≡ c.args.n = omega arith in rw e at c.loop-boxnumber.invariant.2
+returns c = let e : c.loop-boxnumber.boxnumber ≡ c.args.n = omega arith in rw e at c.loop-boxnumber.invariant.1

@@ -3,19 +3,23 @@ use mathlib.Core.Bool.{false}
 use mathlib.Core.Path.{◌≡◌, sym, ◌∙◌}
 use native.Mathlib.Omega.{arith}
 use lib.Seq.{length-take-le}
-use borrow.Author.Tests.{not-true, not-false}
 use Rattle.rules.specs.Tables.{valley}
 use Rattle.boxes.specs.Inner.OneBuffer.{no_run_room}
 use Rattle.boxes.proofs.NamedTables.{crowded, room, roomy, together_crowded, together_small, together_bad, together_merged, laid_within, laid_part}
 use Rattle.boxes.proofs.together.merge_boxes.Goals as goal
+use Rattle.boxes.proofs.together.merge_boxes.Goals.{then-run-boxes-via-then-run-boxes, then-run-boxes-via-else-run-boxes+then-out-lt-VALLEY_BUFFER}
 
 pub returns-then-run-boxes : goal.returns-then-run-boxes
-returns-then-run-boxes c = let a = c.args in let (number, (after, merged)) = together_crowded valley a.tables.now a.boxes.now a.view a.run.now a.out.now (crowded valley (omega arith) a.boxes.now a.run.now c.if-run-boxes.true) in record { value = number; run_after = after; out_after = merged }
-
-pub returns-then-out-lt-VALLEY_BUFFER : goal.returns-then-out-lt-VALLEY_BUFFER
-returns-then-out-lt-VALLEY_BUFFER c =
-    let fits : (let a = c.args in no_run_room valley a.boxes.now a.run.now ≡ false) = roomy valley (omega arith) _ _ c.if-run-boxes.false in
-    let a = c.args in let (number, (after, merged)) = together_small valley a.tables.now a.boxes.now a.view a.run.now a.out.now fits c.if-out-lt-VALLEY_BUFFER.true in record { value = number; run_after = after; out_after = merged }
+returns-then-run-boxes c =
+    let a = c.args in
+    elim c.then-run-boxes.branch [
+      | then-run-boxes-via-then-run-boxes w ↦
+          let (number, (after, merged)) = together_crowded valley a.tables.now a.boxes.now a.view a.run.now a.out.now (crowded valley (omega arith) a.boxes.now a.run.now w.if-run-boxes.true) in
+          record { value = number; run_after = after; out_after = merged }
+      | then-run-boxes-via-else-run-boxes+then-out-lt-VALLEY_BUFFER w ↦
+          let (number, (after, merged)) = together_small valley a.tables.now a.boxes.now a.view a.run.now a.out.now (roomy valley (omega arith) _ _ w.if-run-boxes.false) w.if-out-lt-VALLEY_BUFFER.true in
+          record { value = number; run_after = after; out_after = merged }
+    ]
 
 pub returns-then-not-all_whole : goal.returns-then-not-all_whole
 returns-then-not-all_whole c =

@@ -3,6 +3,7 @@ use mathlib.Core.Path.{refl}
 use Prim.Native.Nat.{◌+◌, ◌≤◌, ◌<◌}
 use native.Mathlib.Omega.{arith}
 use lib.ListN.{length}
+use Rattle.std.proofs.Common.{rules}
 use Rattle.wire.specs.Inner.ByteLists.{AllBytes}
 use Rattle.wire.proofs.Numbers.{all_of}
 use Rattle.rows.specs.Inner.Rows.{size_of}
@@ -15,29 +16,24 @@ use Rattle.edit.proofs.add.add_row.Goals as goal
 
 pub place_row-requires : goal.place_row-requires
 place_row-requires c =
-    let all : AllBytes c.args.table.now = all_of c.args.table.now (λ i. (c.slice_known-1.given i).fits) in
-    let k = c in
-    let p = k in
-    let s = p.args.table.now in
-    let m = p.args.message.now in
-    let row = p.args.row in
-    let q = p.requires in
-    let n = length_body_part m row q.storable.1 in
-    let i = index_inside format_one s m row p.args.index one_starts all q.holds.0 q.holds.1 q.holds.2 in
-    let b = body_inside format_one s m row p.args.index one_starts all q.holds.0 q.holds.1 q.holds.2 in
-    rw (c.read-h.ensures, c.body_of-body.ensures, n) (i, b.0, b.1, q.table_bound.1, omega arith, q.table_bound.0)
+    let a = c.args in
+    let q = c.requires in
+    let s = a.table.now in
+    let m = a.message.now in
+    let all : AllBytes s = all_of s (λ i. search rules) in
+    let i = index_inside format_one s m a.row a.index one_starts all q.holds.0 q.holds.1 q.holds.2 in
+    let b = body_inside format_one s m a.row a.index one_starts all q.holds.0 q.holds.1 q.holds.2 in
+    rw (c.read-h.ensures, c.body_of-body.ensures, length_body_part m a.row q.storable.1) (i, b.0, b.1, q.table_bound.1, omega arith, q.table_bound.0)
 
 pub overflow_add-h : goal.overflow_add-h
 overflow_add-h c =
-    let e = c.read-h.ensures in
     let l : (header_at c.args.table.now).rows < 65536 = c.requires.table_bound.0 in
-    rw e (omega arith)
+    rw c.read-h.ensures (omega arith)
 
 pub overflow_cast-longer : goal.overflow_cast-longer
 overflow_cast-longer c =
-    let q = c.requires in
-    let n = length_body_part c.args.message.now c.args.row q.storable.1 in
-    let l : (header_at c.args.table.now).length + 24 + size_of c.args.row < 4294967296 = q.table_bound.2 in
+    let n = length_body_part c.args.message.now c.args.row c.requires.storable.1 in
+    let l : (header_at c.args.table.now).length + 24 + size_of c.args.row < 4294967296 = c.requires.table_bound.2 in
     rw (c.body_of-body.ensures, c.read-h.ensures, n) (omega arith)
 
 pub write-requires : goal.write-requires
@@ -47,13 +43,9 @@ write-requires c =
 
 pub returns : goal.returns
 returns c =
-    let all : AllBytes c.args.table.now = all_of c.args.table.now (λ i. (c.slice_known-1.given i).fits) in
-    let k = c in
-    let p = k in
-    let s = p.args.table.now in
-    let m = p.args.message.now in
-    let row = p.args.row in
-    let q = p.requires in
-    let n = length_body_part m row q.storable.1 in
-    rw (c.write.ensures, c.with_rows.ensures, c.place_row.ensures, c.body_of-body.ensures, c.read-h.ensures, n)
-    (row_edited format_one s m row p.args.index one_starts all q.holds.0 q.holds.1 q.holds.2 (all_of m (λ i. (c.shared_slice_known-1.given i).fits)) q.storable.0 q.storable.1 refl)
+    let a = c.args in
+    let q = c.requires in
+    let s = a.table.now in
+    let m = a.message.now in
+    rw (c.write.ensures, c.with_rows.ensures, c.place_row.ensures, c.body_of-body.ensures, c.read-h.ensures, length_body_part m a.row q.storable.1)
+    (row_edited format_one s m a.row a.index one_starts (all_of s (λ i. search rules)) q.holds.0 q.holds.1 q.holds.2 (all_of m (λ i. search rules)) q.storable.0 q.storable.1 refl)

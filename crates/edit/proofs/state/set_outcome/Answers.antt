@@ -1,29 +1,21 @@
 -- The row that is read stands in the image; with its outcome byte changed it is the changed row.
-use mathlib.Core.Path.{refl}
-use Prim.Native.Nat.{◌+◌, ◌*◌, ◌≤◌}
-use native.Mathlib.Omega.{arith}
-use lib.ListN.{length}
+use mathlib.Core.Path.{◌≡◌, refl}
+use Prim.Native.Nat.{◌+◌, ◌*◌}
+use Rattle.std.proofs.Common.{rules}
 use Rattle.wire.proofs.Numbers.{all_of}
+use Rattle.rows.specs.Fields.{fields_at}
+use Rattle.rows.specs.Inner.ChangedFields.{with_outcome_byte}
 use Rattle.table.specs.Images.{format_one}
 use Rattle.edit.proofs.EditedParts.{outcome_edited}
 use Rattle.edit.proofs.Holding.{one_starts, holds_row_inside}
 use Rattle.edit.proofs.state.set_outcome.Goals as goal
 
-pub row_at-held-requires : goal.row_at-held-requires
-row_at-held-requires c =
-    let inside : 24 + 24 * c.args.index + 24 ≤ length c.args.table.now = (let q = c.requires in holds_row_inside format_one c.args.table.now c.args.index one_starts q.0 q.1) in
-    inside
-
-pub write_row-requires : goal.write_row-requires
-write_row-requires c =
-    let inside : 24 + 24 * c.args.index + 24 ≤ length c.args.table.now = (let q = c.requires in holds_row_inside format_one c.args.table.now c.args.index one_starts q.0 q.1) in
-    let l = inside in omega arith
+pub change_row-requires-clause-inside : goal.change_row-requires-clause-inside
+change_row-requires-clause-inside c = holds_row_inside format_one c.args.table.now c.args.index one_starts c.requires.0 c.requires.1
 
 pub returns : goal.returns
 returns c =
-    let k = c in
-    let p = k in
-    let q = p.requires in
-    let s = p.args.table.now in
-    rw (c.write_row.ensures, c.with_outcome.ensures, c.row_at-held.ensures)
-    (outcome_edited format_one s p.args.index one_starts (all_of s (λ i. (k.slice_known-1.given i).fits)) q.0 q.1 p.args.outcome q.2 refl)
+    let (row, gives, e) = c.change_row.ensures in
+    let same : row ≡ with_outcome_byte (fields_at c.args.table.now (24 + 24 * c.args.index)) c.args.outcome = search rules in
+    let s = c.args.table.now in
+    rw (e, same) (outcome_edited format_one s c.args.index one_starts (all_of s (λ i. search rules)) c.requires.0 c.requires.1 c.args.outcome c.requires.2 refl)

@@ -1,41 +1,23 @@
--- The first of the places that are left is the first of all.
-use mathlib.Core.Path.{refl, sym, ◌∙◌}
-use Prim.Native.Nat.{◌-◌}
+-- The first of the rows that are left is the first of all.
+use mathlib.Core.Path.{sym, ap, ◌∙◌}
 use native.Mathlib.Omega.{arith}
 use Rattle.gather.specs.Inner.Gathered.{fields_from}
-use Rattle.gather.proofs.RowsTold.{agreed_on, agreed_over}
+use Rattle.gather.specs.Inner.Agreed.{agreed_among}
+use Rattle.gather.proofs.RowsTold.{four_are, agreed_on, agreed_over}
 use Rattle.gather.proofs.agreed.agreed_result.Goals as goal
 
-pub loop-k-init : goal.loop-k-init
-loop-k-init c = (omega arith, refl)
-
-pub offset_bounds-gathered-k : goal.offset_bounds-gathered-k
-offset_bounds-gathered-k c = let l = c.loop-k-test.true in omega arith
-
-pub bounds-gathered-k : goal.bounds-gathered-k
-bounds-gathered-k c = let l = c.loop-k-test.true in omega arith
+pub loop-row-init : goal.loop-row-init
+loop-row-init c = ap (agreed_among _ (fields_from c.args.gathered.rows 0 4)) (sym (four_are c.args.gathered.rows (omega arith)))
 
 pub returns-then-is_enough : goal.returns-then-is_enough
 returns-then-is_enough c =
-    let a = c.args in
-    let i = c.loop-k in
-    sym (agreed_on a.agreement (fields_from a.gathered.rows 0 4) a.gathered.rows i.k c.loop-k-test.true ∙ rw (sym c.is_enough.ensures ∙ c.if-is_enough.true) refl) ∙ i.invariant.1
+    let rows = c.args.gathered.rows in
+    sym (rw (sym c.is_enough.ensures ∙ c.if-is_enough.true) at (agreed_on rows c.loop-row.row-index (omega arith) c.args.agreement (fields_from rows 0 4))) ∙ c.loop-row.invariant
 
-pub overflow_add-k : goal.overflow_add-k
-overflow_add-k c = let l = c.loop-k-test.true in omega arith
-
-pub loop-k-smaller : goal.loop-k-smaller
-loop-k-smaller c = let l = c.loop-k-test.true in omega arith
-
-pub loop-k-preserved : goal.loop-k-preserved
-loop-k-preserved c =
-    let a = c.args in
-    let i = c.loop-k in
-    let l = c.loop-k-test.true in
-    (omega arith, sym (agreed_on a.agreement (fields_from a.gathered.rows 0 4) a.gathered.rows i.k l ∙ rw (sym c.is_enough.ensures ∙ c.if-is_enough.false) refl) ∙ i.invariant.1)
+pub loop-row-preserved : goal.loop-row-preserved
+loop-row-preserved c =
+    let rows = c.args.gathered.rows in
+    sym (rw (sym c.is_enough.ensures ∙ c.if-is_enough.false) at (agreed_on rows c.loop-row.row-index (omega arith) c.args.agreement (fields_from rows 0 4))) ∙ c.loop-row.invariant
 
 pub returns : goal.returns
-returns c =
-    let a = c.args in
-    let i = c.loop-k in
-    sym (agreed_over a.agreement (fields_from a.gathered.rows 0 4) a.gathered.rows i.k c.loop-k-test.false) ∙ i.invariant.1
+returns c = sym (sym c.loop-row.invariant ∙ agreed_over c.args.gathered.rows c.loop-row.row-index (omega arith) _ _)

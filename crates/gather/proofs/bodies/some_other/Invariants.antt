@@ -1,21 +1,12 @@
--- One of those that are left, or none.
-use mathlib.Core.Path.{◌≡◌}
-use Prim.Native.Nat.{◌+◌, ◌-◌, ◌≤◌}
-use lib.ListN.{length, drop}
-use Rattle.rules.specs.Tests.{any}
-use Rattle.rules.specs.Tables.{valley}
+-- No image that was passed holds the stamp with another body.
+use Rattle.std.specs.Iterator.Adapters.{zip_first, zip_second}
+use Rattle.std.specs.Slice.Iter.{iter_rest}
 use Rattle.rows.specs.Read.{body_at}
-use Rattle.image_run.specs.Inner.WholeRuns.{tables_of, Images}
-use Rattle.gather.specs.Inner.UsedTables.{no_fields, other_in}
-use Rattle.gather.specs.Inner.Gathered.{fields_in}
-use Rattle.gather.proofs.Places.{HasFrom}
+use Rattle.gather.proofs.Gathered.{NoOther}
 use Rattle.gather.proofs.bodies.some_other.Given as goal
 
-abbrev pub invariant-loop-at : goal.invariant-loop-at
-invariant-loop-at l =
-    let other = other_in l.gathered.cursors.newest l.gathered.cursors.last (body_at l.first l.given.offset l.given.reads l.given.writes) in
-    (l.at ≤ length l.run) × Images valley (drop l.at l.run) × (any other (tables_of valley (drop l.at l.run)) ≡ any other (tables_of valley l.run))
-    × (l.k + length (tables_of valley (drop l.at l.run)) ≤ 4) × HasFrom no_fields l.gathered.rows l.k (fields_in l.gathered.cursors.newest l.gathered.cursors.last (tables_of valley (drop l.at l.run)) (drop l.at l.run))
-
-abbrev pub decreases-loop-at : goal.decreases-loop-at
-decreases-loop-at l = length l.run - l.at
+abbrev pub invariant-loop-image : goal.invariant-loop-image
+invariant-loop-image l =
+    let given = l.fn.given in
+    (goal.iterator-loop-image).can_next l.image-iterator × (goal.iterator-loop-image).is_finite l.image-iterator
+    × NoOther l.fn.gathered.cursors.newest l.fn.gathered.cursors.last (body_at l.fn.first given.offset given.reads given.writes) l.fn.run (zip_first l.image-iterator).rest.now (iter_rest (zip_second l.image-iterator))

@@ -1,21 +1,10 @@
--- The first image of those that are left is the first of all.
-use mathlib.Core.Path.{◌≡◌}
-use Prim.Native.Nat.{◌+◌, ◌-◌, ◌≤◌, ◌<◌}
-use lib.ListN.{length, drop}
-use Rattle.rules.specs.Tables.{valley}
-use Rattle.rules.specs.Merge.{rows_of}
-use Rattle.image_run.specs.Inner.WholeRuns.{tables_of, Images}
-use Rattle.gather.specs.Inner.UsedTables.{used_of, no_fields, from_first}
-use Rattle.gather.specs.Inner.Gathered.{fields_in}
-use Rattle.gather.proofs.Places.{HasFrom}
+-- No image that was passed holds the stamp.
+use Rattle.std.specs.Iterator.Adapters.{zip_first, zip_second}
+use Rattle.std.specs.Slice.Iter.{iter_rest}
+use Rattle.gather.proofs.Gathered.{NotYet}
 use Rattle.gather.proofs.held.first_of.Given as goal
 
-abbrev pub invariant-loop-at : goal.invariant-loop-at
-invariant-loop-at l =
-    (l.at ≤ length l.run) × Images valley (drop l.at l.run)
-    × (from_first l.gathered.cursors.newest l.gathered.cursors.last (tables_of valley (drop l.at l.run)) (drop l.at l.run) ≡ from_first l.gathered.cursors.newest l.gathered.cursors.last (tables_of valley l.run) l.run)
-    × (0 < length (rows_of (used_of l.gathered.cursors.newest (tables_of valley (drop l.at l.run))) l.gathered.cursors.last))
-    × (l.k + length (tables_of valley (drop l.at l.run)) ≤ 4) × HasFrom no_fields l.gathered.rows l.k (fields_in l.gathered.cursors.newest l.gathered.cursors.last (tables_of valley (drop l.at l.run)) (drop l.at l.run))
-
-abbrev pub decreases-loop-at : goal.decreases-loop-at
-decreases-loop-at l = length l.run - l.at
+abbrev pub invariant-loop-image : goal.invariant-loop-image
+invariant-loop-image l =
+    (goal.iterator-loop-image).can_next l.image-iterator × (goal.iterator-loop-image).is_finite l.image-iterator
+    × NotYet l.fn.gathered.cursors.newest l.fn.gathered.cursors.last l.fn.run (zip_first l.image-iterator).rest.now (iter_rest (zip_second l.image-iterator))

@@ -1,30 +1,15 @@
--- What was seen, with the places that are left.
-use mathlib.Core.Path.{refl, sym, ◌∙◌}
-use Prim.Native.Nat.{◌-◌}
+-- What was seen, with the rows that are left.
+use mathlib.Core.Path.{sym, ap, ◌∙◌}
 use native.Mathlib.Omega.{arith}
-use Rattle.gather.proofs.RowsTold.{state_on, state_over}
+use Rattle.gather.specs.Inner.State.{none_seen, saw_fields}
+use Rattle.gather.proofs.RowsTold.{four_are, state_on, state_over}
 use Rattle.gather.proofs.state.state_of.Goals as goal
 
-pub loop-k-init : goal.loop-k-init
-loop-k-init c = (omega arith, refl)
+pub loop-row-init : goal.loop-row-init
+loop-row-init c = ap (saw_fields none_seen) (sym (four_are c.args.gathered.rows (omega arith)))
 
-pub offset_bounds-gathered-k : goal.offset_bounds-gathered-k
-offset_bounds-gathered-k c = let l = c.loop-k-test.true in omega arith
-
-pub bounds-gathered-k : goal.bounds-gathered-k
-bounds-gathered-k c = let l = c.loop-k-test.true in omega arith
-
-pub overflow_add-k : goal.overflow_add-k
-overflow_add-k c = let l = c.loop-k-test.true in omega arith
-
-pub loop-k-smaller : goal.loop-k-smaller
-loop-k-smaller c = let l = c.loop-k-test.true in omega arith
-
-pub loop-k-preserved : goal.loop-k-preserved
-loop-k-preserved c =
-    let l = c.loop-k-test.true in
-    let i = c.loop-k in
-    (omega arith, rw c.saw_row-state.ensures (state_on i.state c.args.gathered.rows i.k l ∙ i.invariant.1))
+pub loop-row-preserved : goal.loop-row-preserved
+loop-row-preserved c = rw (c.saw_outcome-state.ensures, c.saw_prepare.ensures) (sym (state_on c.args.gathered.rows c.loop-row.row-index (omega arith) c.loop-row.state)) ∙ c.loop-row.invariant
 
 pub returns : goal.returns
-returns c = let i = c.loop-k in sym (state_over i.state c.args.gathered.rows i.k c.loop-k-test.false) ∙ i.invariant.1
+returns c = sym (state_over c.args.gathered.rows c.loop-row.row-index (omega arith) _) ∙ c.loop-row.invariant

@@ -18,6 +18,5 @@ invariant-loop-low l =
     × (place_of (rows_at l.image l.begin l.rows) l.stamp ≡ sought l.low (between l.image l.begin l.low l.high) l.stamp)
     × (steps (rows_at l.image l.begin l.rows) l.stamp ≡ l.compared + steps (between l.image l.begin l.low l.high) l.stamp)
 
--- the steps that are left
 abbrev pub decreases-loop-low : goal.decreases-loop-low
-decreases-loop-low l = steps (between l.image l.begin l.low l.high) l.stamp
+decreases-loop-low l = l.high - l.low

@@ -8,8 +8,3 @@ pub overflow_add-result : goal.overflow_add-result
 overflow_add-result c =
     let fits : c.args.byte + 2 ^ c.args.place < 256 = byte_fits c.args.place c.args.byte c.requires.0 c.ranges.byte.fits c.requires.1 in
     omega (arith, fits)
-
-pub returns : goal.returns
-returns c =
-    let fits : c.args.byte + 2 ^ c.args.place < 256 = byte_fits c.args.place c.args.byte c.requires.0 c.ranges.byte.fits c.requires.1 in
-    omega (arith, fits)

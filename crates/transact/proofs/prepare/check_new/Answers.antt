@@ -1,8 +1,6 @@
 -- The rows are walked where they stand, the body where it lies in the message.
-use native.Mathlib.Omega.{arith}
 use Rattle.rules.specs.Tables.{valley}
 use Rattle.rules.specs.Answers.{proposal_check}
-use Rattle.rows.proofs.Turns.{length_body_part, body_of_part}
 use Rattle.table.proofs.Images.{valley_sound}
 use Rattle.table.specs.Images.{format_one}
 use Rattle.edit.proofs.Holding.{holds_rows_at, one_starts, holds_least}
@@ -13,10 +11,12 @@ use Rattle.transact.proofs.prepare.check_new.Goals as goal
 pub read-h-requires : goal.read-h-requires
 read-h-requires c = holds_least format_one c.args.table.now one_starts (image_holds valley c.args.table.now c.requires.0)
 
+pub invariant_of-rows : goal.invariant_of-rows
+invariant_of-rows c = record { inside = rw c.read-h.ensures (rows_inside valley c.args.table.now valley_sound c.requires.0).0 }
+
 pub check-requires : goal.check-requires
-check-requires c = let l = length_body_part c.args.message.now c.args.row c.requires.1 in
-    rw (c.read-h.ensures, c.body_of.ensures) (rows_inside valley c.args.table.now valley_sound c.requires.0, omega (arith, l), rows_rise valley c.args.table.now valley_sound c.requires.0)
+check-requires c = rw c.read-h.ensures (rows_inside valley c.args.table.now valley_sound c.requires.0, rows_rise valley c.args.table.now valley_sound c.requires.0)
 
 pub returns : goal.returns
 unfolding proposal_check
-returns c = rw (c.check.ensures, c.read-h.ensures, c.body_of.ensures, body_of_part c.args.message.now c.args.row c.requires.1, holds_rows_at format_one c.args.table.now)
+returns c = rw (c.check.ensures, c.of.ensures, c.read-h.ensures, holds_rows_at format_one c.args.table.now)

@@ -1,0 +1,2 @@
+-- What no promise names: functions below a call speak of it, and laws about them.
+pub mod Ended

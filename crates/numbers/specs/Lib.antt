@@ -1,0 +1,2 @@
+pub mod Refusals
+pub mod Inner

@@ -1,8 +1,0 @@
-use Rattle.rules.proofs.Chains.{chain}
-use Rattle.rows.proofs.row.stamp_and_counts_valid.Goals as goal
-
-pub returns-then-stamp_valid : goal.returns-then-stamp_valid
-returns-then-stamp_valid c = search chain
-
-pub returns : goal.returns
-returns c = search chain
