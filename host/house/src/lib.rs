@@ -131,7 +131,7 @@ pub fn cited(paper: &str) -> Vec<String> {
 
 /// Whether what a citation names is there. `None` for words that name nothing of the tree.
 ///
-/// `wire::u32_at` is a function of a crate, `table::header::read` one of a module of it, `wire/proofs/Numbers.read_back`
+/// `wire::u32_at` is a function of a crate, `numbers::Refusal` a type, `table::header::read` a function of a module, `wire/proofs/Numbers.read_back`
 /// a definition or a theorem, `wire/must-fail/..` and `rows/more-must-fail/..` edits, and a path that begins with one of
 /// the repository's folders is that file; behind a tool may stand the words that it is given, as in `tools/agree 7`.
 pub fn stands(citation: &str) -> Option<bool> {
@@ -156,22 +156,28 @@ pub fn stands(citation: &str) -> Option<bool> {
     None
 }
 
-/// Whether a source of the crate has this function: `u32_at` in any of them, `header::read` in the module that is named,
-/// and `header::Header::with_view` there too, as a method.
+/// Whether a source of the crate has this function or type: `u32_at` in any of them, `header::read` in the module that is named,
+/// `header::Header::with_view` there too, as a method, and `Refusal::number` in any of them, since types begin with a capital.
 fn declares_function(name: &str, path: &str) -> bool {
     let parts: Vec<&str> = path.split("::").collect();
     let sources = match parts.as_slice() {
-        [_] => files(&format!("crates/{}/src", name), ".rt"),
-        [module, ..] => vec![format!("crates/{}/src/{}.rt", name, module)],
-        [] => return false,
+        [module, _, ..] if module.starts_with(char::is_lowercase) => {
+            vec![format!("crates/{}/src/{}.rt", name, module)]
+        }
+        _ => files(&format!("crates/{}/src", name), ".rt"),
     };
-    let function = parts[parts.len() - 1];
-    // With a lifetime, what it is lent follows that.
-    let plain = format!("fn {}(", function);
-    let lending = format!("fn {}<'", function);
+    let item = parts[parts.len() - 1];
+    // Behind the name stand parameters in brackets of either kind, or the fields of a type.
+    let forms = [
+        format!("fn {}(", item),
+        format!("fn {}<", item),
+        format!("struct {} ", item),
+        format!("struct {}<", item),
+        format!("enum {} ", item),
+    ];
     sources.iter().any(|file| {
         fs::read_to_string(top().join(file))
-            .map(|source| source.contains(&plain) || source.contains(&lending))
+            .map(|source| forms.iter().any(|form| source.contains(form)))
             .unwrap_or(false)
     })
 }

@@ -116,5 +116,5 @@ fn numbers_are_taken_from_bytes_in_few_places() {
     ];
     assert!(sources.iter().eq(expected), "{:?}", sources);
     assert_eq!(with_the_words("number_at("), ["crates/wire/src/lib.rt"; 4]);
-    assert_eq!(with_the_words("lowest_first("), ["crates/wire/src/lib.rt"; 2]);
+    assert_eq!(with_the_words("from_be_bytes("), ["crates/wire/src/lib.rt"]);
 }
