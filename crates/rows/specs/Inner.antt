@@ -4,3 +4,4 @@ pub mod FieldTests
 pub mod Rows
 pub mod Places
 pub mod Results
+pub mod Limits

@@ -1,6 +1,7 @@
 // A body, lent as the part of a table or of a message where it lies: its accesses one by one, and whether they keep the rules.
-ghost use Rattle.std.specs.Prelude.{◌≡◌, ◌+◌, ◌*◌, ◌^◌, ◌≤◌, ◌<◌, length};
+ghost use Rattle.std.specs.Prelude.{◌≡◌, ◌+◌, ◌*◌, ◌≤◌, ◌<◌, ltb, length};
 ghost use Rattle.rules.specs.Stamps.{counts_by_rule, accesses_by_rule, contents_by_rule};
+ghost use Rattle.rows.specs.Inner.Limits.{number_limit};
 ghost use Rattle.rows.specs.Read.{access_at, accesses_at, body_at};
 
 // A register, and a read's version or a write's value.
@@ -31,17 +32,28 @@ pub fn counts_valid(reads: u8, writes: u8) -> bool
     reads <= 4 && writes <= 4 && 0 < reads + writes
 }
 
-// Registers of the `n` accesses from an index on rise and stay below 64, and no number is above `most`. Of registers that rise the last tells for all that they are below 64.
+// Whether a number is below a limit; where there is none, each is.
+#[tactic(auto, using(rules::proofs::Chains::tests))]
+fn is_below(number: u64, limit: Option<u64>) -> bool
+    ensures { result ≡ ltb number (number_limit limit) }
+{
+    match limit {
+        Some(limit) => number < limit,
+        None => true,
+    }
+}
+
+// Registers of the `n` accesses from an index on rise and stay below 64, and each number is below the limit, if there is one. Of registers that rise the last tells for all that they are below 64.
 #[tactic(auto, using(rules::proofs::Chains::tests, crate::proofs::Turns::accesses_turn, crate::proofs::Turns::accesses_end), unfolding(rules::specs::Tests::both))]
-fn accesses_valid(body: &[u8], from: usize, n: usize, most: u64) -> bool
+fn accesses_valid(body: &[u8], from: usize, n: usize, limit: Option<u64>) -> bool
     requires { 9 * (from + n) ≤ length body.now }
-    ensures { result ≡ accesses_by_rule (most + 1) 0 (accesses_at body.now (9 * from) n) }
+    ensures { result ≡ accesses_by_rule (number_limit limit) 0 (accesses_at body.now (9 * from) n) }
 {
     let mut low: usize = 0;
     for i in 0..n {
         let access = access_at(body, from + i);
         let register = usize::from(access.register);
-        if register < low || most < access.number {
+        if register < low || !is_below(access.number, limit) {
             return false;
         }
         low = register + 1;
@@ -55,7 +67,7 @@ pub fn contents_valid(body: &[u8], reads: usize, writes: usize, stamp: u64) -> b
     requires { (9 * (reads + writes) ≤ length body.now) × (reads + writes ≤ 8) × (0 < stamp) }
     ensures { result ≡ contents_by_rule stamp (body_at body.now 0 reads writes) }
 {
-    accesses_valid(body, 0, reads, stamp - 1) && accesses_valid(body, reads, writes, u64::MAX)
+    accesses_valid(body, 0, reads, Some(stamp)) && accesses_valid(body, reads, writes, None)
 }
 
 // The same, for a walk over many bodies. The counts of the commonest bodies are constants here, so that the compiler lays their accesses out one after the other, without a loop.

@@ -40,7 +40,8 @@ fn row_valid(image: &[u8], row: RowFields, last: u64, due: usize, end: usize) ->
     head_valid(row, last, due) && body_valid(image, row, end)
 }
 
-// All rows, and their bodies behind them up to `end`.
+// All rows, and their bodies behind them up to `end`. It stays a call, since put into its caller the loop took five instructions more for each row.
+#[inline(never)]
 #[tactic(auto, using(crate::proofs::Turns::rows_turn, crate::proofs::Turns::rows_end, crate::proofs::Turns::row_room), unfolding(rules::specs::Tests::both))]
 pub fn rows_valid(image: &[u8], begin: usize, rows: usize, end: usize) -> bool
     requires { (begin + row_length * rows ≤ end) × (end ≤ length image.now) × (end < 4294967296) }
