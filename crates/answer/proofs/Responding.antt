@@ -34,9 +34,10 @@ use Rattle.seek.proofs.HeldRows.{image_holds, image_regular}
 use Rattle.transact.specs.declared.reply.Reply.{Reply}
 use Rattle.transact.specs.Replies.{reply_as, reply_bytes}
 use Rattle.transact.specs.Inner.DoneReplies.{Tells}
-use Rattle.transact.specs.Inner.Served.{served_number, served, served_reply, served_buffer, served_compared}
+use Rattle.transact.specs.Inner.Served.{served_number, served}
+use Rattle.edit.specs.Inner.Holding.{Holds}
 use Rattle.transact.proofs.Serving.{tells_refusal}
-use Rattle.answer.specs.Inner.BoxAnswers.{answer_to, answer_compared, heard, heard_reply, heard_buffer, heard_compared}
+use Rattle.answer.specs.Inner.BoxAnswers.{answer_to, answer_reply, answer_buffer, answer_compared, heard, heard_reply, heard_buffer, heard_compared}
 use Rattle.answer.specs.Calls.{call_number, call_table, call_reply, change_by, search_steps, steps_of, compares_none, call_compared}
 use Rattle.answer.proofs.AnswerCall.{number_for, call_number_lem, to_refusal}
 use Rattle.answer.proofs.AnswerCompared.{served_compared_lem}
@@ -65,33 +66,26 @@ widened limit s kind keeping_rules =
 
 -- ---- what was heard is what was read of the message
 
-module _ (M : Model) (s message : List ℕ) (keeping_rules : BeginsWithImage M s) where
-  -- what is promised of a call that hears it
-  abbrev pub Heard : Result Reply Refusal → List ℕ → ℕ → Type 0
-  Heard told after n = Tells told (heard_reply M message (parse format_one M s)) × (after ≡ heard_buffer M message s (parse format_one M s)) × (n ≡ heard_compared M message (parse format_one M s))
-
-  -- no message: 3, and nothing is changed
-  pub heard_none : none ≡ message_to format_one M (header_at s).n message → Heard (Err BadMessage) s 0
-  unfolding table_at refused
-  heard_none told =
-      let is : heard M message (table_at format_one s) ≡ refused 3 (table_at format_one s) = ap (λ o. answer_to M o (table_at format_one s)) (sym told) in
-      rw keeping_rules (
-        tells_refusal BadMessage _ (ap (λ (a : Answer). reply_as a.reply) (sym is)),
-        sym (edited_same format_one (λ U. (heard M message U).table) s (image_holds M s keeping_rules) (ap (λ (a : Answer). a.table) is)),
-        ap (λ o. answer_compared o (table_at format_one s)) told,
-      )
-
-  pub heard_message : (m : Message) → some m ≡ message_to format_one M (header_at s).n message → (told : Result Reply Refusal) (after : List ℕ) (n : ℕ) →
-      Tells told (served_reply M m s) → after ≡ served_buffer M m s → n ≡ served_compared (table_at format_one s) m → Heard told after n
+module _ (M : Model) (s message : List ℕ) (asked : Option Message) (keeping_rules : BeginsWithImage M s) (told : asked ≡ message_to format_one M (header_at s).n message) where
+  same_heard : answer_to M asked (table_at format_one s) ≡ heard M message (table_at format_one s)
   unfolding table_at
-  heard_message m asked told after n tells buffer compared =
-      let is : served M (table_at format_one s) m ≡ heard M message (table_at format_one s) = ap (λ o. answer_to M o (table_at format_one s)) asked in
-      let reply : served_reply M m s ≡ reply_as (heard M message (table_at format_one s)).reply = ap (λ (a : Answer). reply_as a.reply) is in
+  same_heard = ap (λ o. answer_to M o (table_at format_one s)) told
+
+  pub heard_so : (answer_reply M asked s ≡ heard_reply M message (parse format_one M s)) × (answer_buffer M asked s ≡ heard_buffer M message s (parse format_one M s))
+  heard_so =
       rw keeping_rules (
-        (tells.0 ∙ reply, tells.1 ∙ ap (λ (r : Reply). r.number) reply),
-        buffer ∙ edited_as format_one (λ U. (served M U m).table) (λ U. (heard M message U).table) s (ap (λ (a : Answer). a.table) is),
-        compared ∙ ap (λ o. answer_compared o (table_at format_one s)) asked,
+        ap (λ (a : Answer). reply_as a.reply) same_heard,
+        edited_as format_one (λ U. (answer_to M asked U).table) (λ U. (heard M message U).table) s (ap (λ (a : Answer). a.table) same_heard),
       )
+
+  pub heard_compared_lem : answer_compared asked (table_at format_one s) ≡ heard_compared M message (parse format_one M s)
+  unfolding table_at
+  heard_compared_lem = rw keeping_rules (ap (λ o. answer_compared o (table_at format_one s)) told)
+
+-- no message: 3, and nothing is changed
+pub none_answered : (M : Model) (s : List ℕ) → Holds format_one s → Tells (Err BadMessage) (answer_reply M none s) × (s ≡ answer_buffer M none s)
+unfolding refused
+none_answered M s holds = (tells_refusal BadMessage _ refl, sym (edited_same format_one (λ T. T) s holds refl))
 
 -- ---- the call's three promises, of a call with buffers that are large enough
 

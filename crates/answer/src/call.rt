@@ -31,9 +31,7 @@ fn respond(table: &mut [u8], message: &[u8], limit: u16) -> Compared<Result<Repl
         return Compared::without_search(Err(Refusal::BadTable));
     };
     let n = header::read(table).n;
-    let Some(asked) = message::kinds::read(message, n, model) else {
-        return Compared::without_search(Err(Refusal::BadMessage));
-    };
+    let asked = message::kinds::read(message, n, model);
     serve::serve(table, message, asked, limit)
 }
 

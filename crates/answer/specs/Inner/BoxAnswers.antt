@@ -5,6 +5,7 @@ use Rattle.rules.specs.Tables.{Model, Table}
 use Rattle.rules.specs.Messages.{Message}
 use Rattle.rules.specs.Answers.{Answer, refusal, refused}
 use Rattle.table.specs.Images.{format_one}
+use Rattle.table.specs.Parse.{table_at}
 use Rattle.edit.specs.Edited.{edited}
 use Rattle.message.specs.Messages.{message_to}
 use Rattle.transact.specs.declared.reply.Reply.{Reply}
@@ -16,7 +17,13 @@ abbrev pub answer_to : Model → Option Message → Table → Answer
 answer_to M none T = refused 3 T
 answer_to M (some m) T = served M T m
 
--- how many rows are compared for it
+abbrev pub answer_reply : Model → Option Message → List ℕ → Reply
+answer_reply M m s = reply_as (answer_to M m (table_at format_one s)).reply
+
+abbrev pub answer_buffer : Model → Option Message → List ℕ → List ℕ
+answer_buffer M m s = edited format_one (λ T. (answer_to M m T).table) s
+
+-- and how many rows are compared for it
 abbrev pub answer_compared : Option Message → Table → ℕ
 answer_compared none T = 0
 answer_compared (some m) T = served_compared T m
