@@ -15,25 +15,25 @@ use crate::pass::Seen;
 use crate::{accesses, clashes, floor, pass};
 use rows::result::CheckResult;
 
-// A transaction of message 1: the registers that it writes are marked too.
+// A transaction of message 1: the registers that it writes are marked too. Both marks are lent, since they would be copied into it.
 #[derive(Drop)]
 struct Proposed<'a> {
-    checked: Checked<'a>,
-    written_marks: [bool; 64],
-    ghost written: { Marked written_marks (lent_body checked.body).writes },
+    checked: &'a Checked<'a>,
+    written_marks: &'a [bool; 64],
+    ghost written: { Marked written_marks.now (lent_body checked.now.body).writes },
 }
 
 // Whether another transaction lies above the stamp and reads or writes a register that is written. What it accesses is looked up among the marks of what is written.
 #[tactic(auto, using(crate::proofs::Rounds::later_sides))]
 fn later(proposed: &Proposed, other: u64, held: Body) -> bool
-    ensures { result ≡ later proposed.now.checked.stamp (lent_body proposed.now.checked.body) other (lent_body held.entry) }
+    ensures { result ≡ later proposed.now.checked.now.stamp (lent_body proposed.now.checked.now.body) other (lent_body held.entry) }
 {
-    let checked = &proposed.checked;
+    let checked = proposed.checked;
     checked.stamp < other
         && accesses::common(
             held.accessed(),
             checked.body.written(),
-            &proposed.written_marks,
+            proposed.written_marks,
         )
 }
 
@@ -41,14 +41,14 @@ fn later(proposed: &Proposed, other: u64, held: Body) -> bool
 #[tactic(auto, using(crate::proofs::Rounds::day_says), unfolding(rows::specs::Read::row_of))]
 fn with_row(seen: Seen, rows: Rows, index: usize, proposed: &Proposed) -> Seen
     requires { (index < rows.count) × BodyInside rows.image.now (lent_fields rows index) }
-    ensures { result ≡ seen_with day_a day_b proposed.now.checked.stamp (lent_body proposed.now.checked.body) (lent_row rows.entry index) seen }
+    ensures { result ≡ seen_with day_a day_b proposed.now.checked.now.stamp (lent_body proposed.now.checked.now.body) (lent_row rows.entry index) seen }
 {
     if !pass::row_accepted(rows, index) {
         return seen;
     }
     let row = rows.row(index);
     let held = rows.body(row);
-    let checked = &proposed.checked;
+    let checked = proposed.checked;
     let a = clashes::stale_marked(
         row.stamp,
         held.written(),
@@ -68,9 +68,11 @@ pub fn check(rows: Rows, stamp: u64, body: Body) -> CheckResult
     requires { RowsInside rows.image.now rows.begin rows.count × (rising 0 (lent_rows rows) ≡ true) }
     ensures { result_meant result ≡ day_check (lent_rows rows.entry) stamp (lent_body body.entry) }
 {
+    let checked = Checked::new(stamp, body);
+    let written_marks = accesses::marks_of(body.written());
     let proposed = Proposed {
-        checked: Checked::new(stamp, body),
-        written_marks: accesses::marks_of(body.written()),
+        checked: &checked,
+        written_marks: &written_marks,
     };
     let silent = floor::silent_rows(rows, body.read(), stamp);
     let seen = pass::passed(silent, rows.count, |seen, index| {

@@ -22,10 +22,10 @@ pub struct Survey {
 }
 
 // One more stamp, with its rows.
-fn with_stamp(survey: Survey, run: &[u8], gathered: Gathered) -> Survey
-    requires images { Images valley run.now × (length (tables_of valley run.now) ≤ 4) × GatheredFrom run.now gathered × (0 < length (rows_in run.now gathered)) }
-    requires stamps_lt_last { (survey.stamps < gathered.cursors.last) × (gathered.cursors.last < 2 ^ 48) }
-    ensures { result ≡ with_stamp (rows_in run.now gathered) survey }
+fn with_stamp(survey: Survey, run: &[u8], gathered: &Gathered) -> Survey
+    requires images { Images valley run.now × (length (tables_of valley run.now) ≤ 4) × GatheredFrom run.now gathered.now × (0 < length (rows_in run.now gathered.now)) }
+    requires stamps_lt_last { (survey.stamps < gathered.now.cursors.last) × (gathered.now.cursors.last < 2 ^ 48) }
+    ensures { result ≡ with_stamp (rows_in run.now gathered.now) survey }
 {
     Survey {
         bodies: survey.bodies || bodies::two_bodies(run, gathered),
@@ -34,7 +34,8 @@ fn with_stamp(survey: Survey, run: &[u8], gathered: Gathered) -> Survey
     }
 }
 
-// All stamps of the used tables of a run.
+// All stamps of the used tables of a run. It stays a call, so that what it keeps of a stamp is off the stack before rows are written and checked.
+#[inline(never)]
 pub fn survey_stamps(run: &[u8], newest: u32) -> Survey
     requires { Images valley run.now × (length (tables_of valley run.now) ≤ 4) }
     ensures { result ≡ surveyed (used_of newest (tables_of valley run.now)) (stamps (used_of newest (tables_of valley run.now))) }
@@ -45,7 +46,7 @@ pub fn survey_stamps(run: &[u8], newest: u32) -> Survey
         stamps: 0,
     };
     for gathered in StampsOf::used(run, newest) {
-        seen = with_stamp(seen, run, gathered);
+        seen = with_stamp(seen, run, &gathered);
     }
     seen
 }

@@ -25,8 +25,8 @@ fn has_codes(row: RowFields, prepare: u8, retry: u64) -> bool
 }
 
 // How many of the rows have this prepare byte and retry stamp.
-fn votes(gathered: Gathered, prepare: u8, retry: u64) -> usize
-    ensures { result ≡ count (has_codes prepare retry) (fields_from gathered.rows 0 4) }
+fn votes(gathered: &Gathered, prepare: u8, retry: u64) -> usize
+    ensures { result ≡ count (has_codes prepare retry) (fields_from gathered.now.rows 0 4) }
 {
     gathered
         .rows
@@ -37,15 +37,15 @@ fn votes(gathered: Gathered, prepare: u8, retry: u64) -> usize
 
 // Whether this prepare byte is a tentative result that enough of them hold, with its retry stamp.
 #[tactic(auto, unfolding(rules::specs::Tests::both))]
-fn is_enough(gathered: Gathered, prepare: u8, retry: u64, agreement: usize) -> bool
-    ensures { result ≡ enough_have agreement (fields_from gathered.rows 0 4) prepare retry }
+fn is_enough(gathered: &Gathered, prepare: u8, retry: u64, agreement: usize) -> bool
+    ensures { result ≡ enough_have agreement (fields_from gathered.now.rows 0 4) prepare retry }
 {
     is_tentative(prepare) && agreement <= votes(gathered, prepare, retry)
 }
 
 // The tentative result that is found in at least the agreement count of the rows of a stamp.
-pub fn agreed_result(gathered: Gathered, agreement: usize) -> Option<HeldResult>
-    ensures { result ≡ agreed_among agreement (fields_from gathered.rows 0 4) (fields_from gathered.rows 0 4) }
+pub fn agreed_result(gathered: &Gathered, agreement: usize) -> Option<HeldResult>
+    ensures { result ≡ agreed_among agreement (fields_from gathered.now.rows 0 4) (fields_from gathered.now.rows 0 4) }
 {
     for row in &gathered.rows {
         if is_enough(gathered, row.prepare, row.retry, agreement) {

@@ -31,9 +31,9 @@ fn is_other<'a>(image: &'a [u8], row: RowFields, first: &'a [u8], given: RowFiel
 }
 
 // Whether a table holds the stamp with another body than the row that is given.
-fn some_other<'a>(run: &'a [u8], gathered: Gathered, first: &'a [u8], given: RowFields) -> bool
-    requires { Images valley run.now × (length (tables_of valley run.now) ≤ 4) × GatheredFrom run.now gathered × BodyInside first.now given }
-    ensures { result ≡ any (other_in gathered.cursors.newest gathered.cursors.last (body_at first.now given.offset given.reads given.writes)) (tables_of valley run.now) }
+fn some_other<'a>(run: &'a [u8], gathered: &Gathered, first: &'a [u8], given: RowFields) -> bool
+    requires { Images valley run.now × (length (tables_of valley run.now) ≤ 4) × GatheredFrom run.now gathered.now × BodyInside first.now given }
+    ensures { result ≡ any (other_in gathered.now.cursors.newest gathered.now.cursors.last (body_at first.now given.offset given.reads given.writes)) (tables_of valley run.now) }
 {
     for (image, row) in ImagesOf::run(run).zip(&gathered.rows) {
         if is_other(image, *row, first, given) {
@@ -44,9 +44,9 @@ fn some_other<'a>(run: &'a [u8], gathered: Gathered, first: &'a [u8], given: Row
 }
 
 // Whether a stamp that is held has two bodies in the used tables of a run: then one of them is not the first one's.
-pub fn two_bodies(run: &[u8], gathered: Gathered) -> bool
-    requires { Images valley run.now × (length (tables_of valley run.now) ≤ 4) × GatheredFrom run.now gathered × (0 < length (rows_in run.now gathered)) }
-    ensures { result ≡ two_bodies (rows_in run.now gathered) }
+pub fn two_bodies(run: &[u8], gathered: &Gathered) -> bool
+    requires { Images valley run.now × (length (tables_of valley run.now) ≤ 4) × GatheredFrom run.now gathered.now × (0 < length (rows_in run.now gathered.now)) }
+    ensures { result ≡ two_bodies (rows_in run.now gathered.now) }
 {
     let first = held::first_of(run, gathered);
     let at = first.at;

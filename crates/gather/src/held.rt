@@ -98,9 +98,9 @@ pub fn gather(run: &[u8], cursors: Cursors, stamp: u64) -> Gathered
 }
 
 // The first image of a run that holds the stamp.
-pub fn first_of(run: &[u8], gathered: Gathered) -> First
-    requires { Images valley run.now × (length (tables_of valley run.now) ≤ 4) × GatheredFrom run.now gathered × (0 < length (rows_in run.now gathered)) }
-    ensures { (result.at ≤ length run.now) × (drop result.at run.now ≡ from_first gathered.cursors.newest gathered.cursors.last (tables_of valley run.now) run.now) × (result.row ≡ fields_for (drop result.at run.now) (place_in gathered.cursors.newest (table_at format_one (drop result.at run.now)) gathered.cursors.last)) }
+pub fn first_of(run: &[u8], gathered: &Gathered) -> First
+    requires { Images valley run.now × (length (tables_of valley run.now) ≤ 4) × GatheredFrom run.now gathered.now × (0 < length (rows_in run.now gathered.now)) }
+    ensures { (result.at ≤ length run.now) × (drop result.at run.now ≡ from_first gathered.now.cursors.newest gathered.now.cursors.last (tables_of valley run.now) run.now) × (result.row ≡ fields_for (drop result.at run.now) (place_in gathered.now.cursors.newest (table_at format_one (drop result.at run.now)) gathered.now.cursors.last)) }
 {
     for (image, row) in ImagesOf::run(run).zip(&gathered.rows) {
         if row.stamp != 0 {

@@ -61,8 +61,8 @@ fn saw_outcome(mut state: State, outcome: u8) -> State
 }
 
 // What the rows of a stamp hold together.
-pub fn state_of(gathered: Gathered) -> State
-    ensures { result ≡ saw_fields none_seen (fields_from gathered.rows 0 4) }
+pub fn state_of(gathered: &Gathered) -> State
+    ensures { result ≡ saw_fields none_seen (fields_from gathered.now.rows 0 4) }
 {
     let mut state = State {
         final_result: None,

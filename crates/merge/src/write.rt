@@ -40,13 +40,13 @@ fn write_stamp(
     index: usize,
     due: usize,
     run: &[u8],
-    gathered: Gathered,
+    gathered: &Gathered,
     agreement: usize,
 ) -> WrittenStamp
-    requires images { Images valley run.now × (length (tables_of valley run.now) ≤ 4) × GatheredFrom run.now gathered × (0 < length (rows_in run.now gathered)) }
-    requires index_bound { (index < 512) × (header_length + row_length * index + row_length ≤ length out.old) × (due + length_of (unchecked_row agreement gathered.cursors.last (rows_in run.now gathered)).body ≤ 49176) × (49176 ≤ length out.old) }
-    ensures due_value { (result.due ≡ due + length_of (unchecked_row agreement gathered.cursors.last (rows_in run.now gathered)).body) × (result.agreed ≡ is_some (agreed_of agreement (rows_in run.now gathered))) }
-    ensures out_after { out.new ≡ row_laid out.old index due (unchecked_row agreement gathered.cursors.last (rows_in run.now gathered)) }
+    requires images { Images valley run.now × (length (tables_of valley run.now) ≤ 4) × GatheredFrom run.now gathered.now × (0 < length (rows_in run.now gathered.now)) }
+    requires index_bound { (index < 512) × (header_length + row_length * index + row_length ≤ length out.old) × (due + length_of (unchecked_row agreement gathered.now.cursors.last (rows_in run.now gathered.now)).body ≤ 49176) × (49176 ≤ length out.old) }
+    ensures due_value { (result.due ≡ due + length_of (unchecked_row agreement gathered.now.cursors.last (rows_in run.now gathered.now)).body) × (result.agreed ≡ is_some (agreed_of agreement (rows_in run.now gathered.now))) }
+    ensures out_after { out.new ≡ row_laid out.old index due (unchecked_row agreement gathered.now.cursors.last (rows_in run.now gathered.now)) }
 {
     let agreed = agreed::agreed_result(gathered, agreement);
     let state = unchecked::unchecked_state(state::state_of(gathered), agreed);
@@ -71,7 +71,8 @@ fn write_stamp(
     }
 }
 
-// Writes the rows of all stamps of the used tables of a run, as many as `rows`, with their bodies behind.
+// Writes the rows of all stamps of the used tables of a run, as many as `rows`, with their bodies behind. It stays a call for the stack's sake, and its rows are counted by hand: numbered by the iterator, what was gathered is copied once more, and a merge takes 1,024 bytes of stack.
+#[inline(never)]
 pub fn write_rows(
     out: &mut [u8],
     run: &[u8],
@@ -85,12 +86,14 @@ pub fn write_rows(
 {
     let mut marks: [u8; 64] = [0; 64];
     let mut end = header::LENGTH + row::LENGTH * rows;
-    for (i, gathered) in StampsOf::used(run, newest).enumerate() {
-        let written = write_stamp(out, i, end, run, gathered, agreement);
+    let mut i: usize = 0;
+    for gathered in StampsOf::used(run, newest) {
+        let written = write_stamp(out, i, end, run, &gathered, agreement);
         end = written.due;
         if written.agreed {
             marks::mark(&mut marks, i);
         }
+        i += 1;
     }
     WrittenRows { end, marks }
 }

@@ -11,5 +11,5 @@ use Rattle.gather.proofs.agreed.votes.Goals as goal
 
 pub returns : goal.returns
 returns c =
-    count_from_yields_List c.filter.result _ c.count.ensures.ran (YieldsList-from_filter _ (has_codes c.args.prepare c.args.retry) (YieldsList-at c.filter.ensures.source (YieldsList-from_slice c.args.gathered.rows c.iter.ensures.rest)) c.filter.ensures.closure (λ x b q k. search rules))
-    ∙ count_filtered _ _ ∙ ap (count (has_codes c.args.prepare c.args.retry)) (sym (four_are c.args.gathered.rows (omega arith)))
+    count_from_yields_List c.filter.result _ c.count.ensures.ran (YieldsList-from_filter _ (has_codes c.args.prepare c.args.retry) (YieldsList-at c.filter.ensures.source (YieldsList-from_slice c.args.gathered.now.rows c.iter.ensures.rest)) c.filter.ensures.closure (λ x b q k. search rules))
+    ∙ count_filtered _ _ ∙ ap (count (has_codes c.args.prepare c.args.retry)) (sym (four_are c.args.gathered.now.rows (omega arith)))

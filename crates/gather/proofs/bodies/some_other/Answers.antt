@@ -8,19 +8,19 @@ use Rattle.gather.proofs.Gathered.{none_other, row_here, still_none, one_other, 
 use Rattle.gather.proofs.bodies.some_other.Goals as goal
 
 pub loop-image-init : goal.loop-image-init
-loop-image-init c = ((tt, tt), tt, none_other _ c.requires.1 (all_of c.args.run.now (λ i. (c.type_inv.run i).fits)) c.args.gathered c.requires.2 _ _ (grind arith) (grind arith) _)
+loop-image-init c = ((tt, tt), tt, none_other _ c.requires.1 (all_of c.args.run.now (λ i. (c.type_inv.run i).fits)) c.args.gathered.now c.requires.2 _ _ (grind arith) (grind arith) _)
 
 pub is_other-requires : goal.is_other-requires
 is_other-requires c =
     let step = c.in-Some.ensures.steps in
-    let g = c.args.gathered.cursors in
+    let g = c.args.gathered.now.cursors in
     let none = c.loop-image.invariant.2 in
     rw step.0.0 (gathered_body _ g.newest g.last none.bytes step.0.1.has_image _ (row_here _ _ _ _ step.0.1 _ _ _ step.1 none.beside), c.requires.3)
 
 pub returns-then-is_other : goal.returns-then-is_other
 returns-then-is_other c =
     let step = c.in-Some.ensures.steps in
-    let g = c.args.gathered.cursors in
+    let g = c.args.gathered.now.cursors in
     let none = c.loop-image.invariant.2 in
     let told = rw step.0.0 at c.is_other.ensures ∙ other_gathered _ g.newest g.last none.bytes step.0.1.has_image _ (row_here _ _ _ _ step.0.1 _ _ _ step.1 none.beside) _ in
     one_other _ _ _ _ step.0.1 _ _ _ step.1 _ _ none (sym told ∙ c.if-is_other.true)
@@ -28,7 +28,7 @@ returns-then-is_other c =
 pub loop-image-preserved : goal.loop-image-preserved
 loop-image-preserved c =
     let step = c.in-Some.ensures.steps in
-    let g = c.args.gathered.cursors in
+    let g = c.args.gathered.now.cursors in
     let none = c.loop-image.invariant.2 in
     let told = rw step.0.0 at c.is_other.ensures ∙ other_gathered _ g.newest g.last none.bytes step.0.1.has_image _ (row_here _ _ _ _ step.0.1 _ _ _ step.1 none.beside) _ in
     ((tt, tt), tt, still_none _ _ _ _ step.0.1 _ _ _ step.1 _ _ none (sym told ∙ c.if-is_other.false))

@@ -6,7 +6,7 @@ use Rattle.gather.proofs.Gathered.{none_yet, held_first, still_not, row_here, pa
 use Rattle.gather.proofs.held.first_of.Goals as goal
 
 pub loop-image-init : goal.loop-image-init
-loop-image-init c = ((tt, tt), tt, none_yet _ c.requires.1 (all_of c.args.run.now (λ i. (c.type_inv.run i).fits)) c.args.gathered c.requires.2 _ _ (grind arith) (grind arith) c.requires.3)
+loop-image-init c = ((tt, tt), tt, none_yet _ c.requires.1 (all_of c.args.run.now (λ i. (c.type_inv.run i).fits)) c.args.gathered.now c.requires.2 _ _ (grind arith) (grind arith) c.requires.3)
 
 pub overflow_sub-result : goal.overflow_sub-result
 overflow_sub-result c = rw c.in-Some.ensures.steps.0.0 (part_begins _ _ c.loop-image.invariant.2.part).0

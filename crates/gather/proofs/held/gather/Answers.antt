@@ -25,7 +25,7 @@ pub row_under-row-requires : goal.row_under-row-requires
 row_under-row-requires c =
     let step = c.in-Some.ensures.steps in
     let above = (cursors_next c.args.run.now c.requires.images.1 c.requires.images.0 c.args.cursors c.requires.images.2 c.args.stamp c.requires.stamp_value.0 c.requires.stamp_value.1).1 in
-    rw step.0.0.0 (step.0.0.1.has_image, cursor_here _ _ _ _ _ step.0.0.1 _ _ _ step.0.1 _ _ _ c.loop-k.invariant.2, above, c.requires.stamp_value.1)
+    (rw (← step.0.0.0) at step.0.0.1.has_image, rw (← step.0.0.0) at (cursor_here _ _ _ _ _ step.0.0.1 _ _ _ step.0.1 _ _ _ c.loop-k.invariant.2), above, c.requires.stamp_value.1)
 
 pub place_behind-requires : goal.place_behind-requires
 place_behind-requires c =

@@ -6,10 +6,10 @@ use Rattle.gather.proofs.RowsTold.{four_are, state_on, state_over}
 use Rattle.gather.proofs.state.state_of.Goals as goal
 
 pub loop-row-init : goal.loop-row-init
-loop-row-init c = ap (saw_fields none_seen) (sym (four_are c.args.gathered.rows (omega arith)))
+loop-row-init c = ap (saw_fields none_seen) (sym (four_are c.args.gathered.now.rows (omega arith)))
 
 pub loop-row-preserved : goal.loop-row-preserved
-loop-row-preserved c = rw (c.saw_outcome-state.ensures, c.saw_prepare.ensures) (sym (state_on c.args.gathered.rows c.loop-row.row-index (omega arith) c.loop-row.state)) ∙ c.loop-row.invariant
+loop-row-preserved c = rw (c.saw_outcome-state.ensures, c.saw_prepare.ensures) (sym (state_on c.args.gathered.now.rows c.loop-row.row-index (omega arith) c.loop-row.state)) ∙ c.loop-row.invariant
 
 pub returns : goal.returns
-returns c = sym (state_over c.args.gathered.rows c.loop-row.row-index (omega arith) _) ∙ c.loop-row.invariant
+returns c = sym (state_over c.args.gathered.now.rows c.loop-row.row-index (omega arith) _) ∙ c.loop-row.invariant
