@@ -116,12 +116,18 @@ impl First {
         }
     }
 
-    // Whether a reply has the same result. Before the first reply nobody has it.
+    // Whether a reply has the same result. Before the first reply nobody has it. One test after the other: as one expression the compiler tries all three of every reply, and a count whose replies all differ took 63 instructions more.
     #[tactic(auto, unfolding(crate::specs::Inner::Tallies::is_said, rules::specs::Tests::both))]
     fn is_said(self, reply: Reply) -> bool
         ensures { result ≡ is_said self reply }
     {
-        reply.retry == self.retry && u64::from(reply.result) == self.code && self.agreeing != 0
+        if reply.retry != self.retry {
+            return false;
+        }
+        if u64::from(reply.result) != self.code {
+            return false;
+        }
+        self.agreeing != 0
     }
 
     fn agreed(self) -> First
