@@ -1,5 +1,6 @@
 -- Messages 5 and 6, by what the header says.
 use mathlib.Core.Path.{◌≡◌, refl, sym, ap, ◌∙◌}
+use mathlib.Core.Bool.{true}
 use mathlib.Core.List.{List}
 use mathlib.Core.Logic.{◌⊎◌, inl, inr}
 use Prim.Native.Nat.{ℕ, ◌≤◌, ◌<◌}
@@ -36,6 +37,14 @@ module _ (s : List ℕ) (v : ℕ) (holds : Holds format_one s) where
   change_taken new = kept_taken valley (change_view v) s (λ T. promising T v) (number_5 valley (table_at format_one s) v ∙ rw (lt-leb _ _ new)) refl
 
   module _ (I : Table) where
+    pub below_promised : v < (header_at s).promised → starts_old_view (table_at format_one s) v ≡ true
+    unfolding starts_old_view table_at either
+    below_promised old = rw (lt-ltb _ _ old)
+
+    pub at_or_below_view : (header_at s).promised ≤ v → v ≤ (header_at s).view → starts_old_view (table_at format_one s) v ≡ true
+    unfolding starts_old_view table_at either
+    at_or_below_view met old = rw (le-ltb _ _ met, le-leb _ _ old)
+
     pub start_refused : (v < (header_at s).promised) ⊎ (((header_at s).promised ≤ v) × (v ≤ (header_at s).view)) → Kept valley (start_view v I) s (Err OldView) s
     unfolding starts_old_view table_at either
     start_refused (inl below) = kept_refused valley (start_view v I) s OldView holds (number_6 valley (table_at format_one s) v I ∙ rw (lt-ltb _ _ below))

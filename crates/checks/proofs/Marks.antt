@@ -9,7 +9,7 @@ use lib.Dec.{eqb}
 use lib.ListN.{length, get_or, set, length-set}
 use lib.Seq.{get_or-set_same, get_or-set_other}
 use borrow.Author.Tests.{eqb-true, eqb-false}
-use Rattle.rules.specs.Tests.{any}
+use Rattle.rules.specs.Tests.{any, either}
 use Rattle.rules.specs.Stamps.{Access}
 use Rattle.rules.specs.DayOrder.{stale}
 use Rattle.rules.proofs.Logic.{same?, so_neither}
@@ -23,6 +23,9 @@ use Rattle.checks.specs.Inner.RegisterWrites.{Marked, any_marked}
 pub record MarkedTo (marks : List Bool) (rest all : List Access) : Type 0 where
   pub marks_of : length marks ≡ 64
   pub known : (a : Access) → a ∈ all → (get_or marks (a.register % 64) false ≡ true) ⊎ (a ∈ rest)
+
+pub marks_begin : (marks : List Bool) (all : List Access) → length marks ≡ 64 → MarkedTo marks all all
+marks_begin marks all l = record { marks_of = l; known = λ a m. inr m }
 
 -- a mark that is set stays, and the one that is set now is
 set_stays : (marks : List Bool) (i j : ℕ) → i < length marks → get_or marks j false ≡ true → get_or (set marks i true) j false ≡ true
@@ -52,6 +55,16 @@ marks_end marks all m a i = go (m.known a i)
     go : (get_or marks (a.register % 64) false ≡ true) ⊎ (a ∈ []) → get_or marks (a.register % 64) false ≡ true
     go (inl h) = h
     go (inr n) = absurd (Memᴰ.not-nil n)
+
+-- ---- looking up
+
+pub marked_step : (marks : List Bool) (a : Access) (more : List Access) → any_marked marks (a ∷ more) ≡ either (get_or marks (a.register % 64) false) (any_marked marks more)
+unfolding any_marked any
+marked_step marks a more = refl
+
+pub marked_end : (marks : List Bool) → any_marked marks [] ≡ false
+unfolding any_marked any
+marked_end marks = refl
 
 -- ---- what is not marked is not there
 

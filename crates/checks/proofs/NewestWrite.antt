@@ -51,11 +51,11 @@ unfolding later
 later_first a b t = rw t refl
 
 -- with nothing behind a row, what it gives is what all give
-later_nothing : (a : Found) → 0 < a.version → later a nothing_found ≡ a
+pub later_nothing : (a : Found) → 0 < a.version → later a nothing_found ≡ a
 unfolding later
 later_nothing a l = rw (lt-ltb 0 a.version l) refl
 
-later_none : (a : Found) → a.version ≤ 0 → later a nothing_found ≡ nothing_found
+pub later_none : (a : Found) → a.version ≤ 0 → later a nothing_found ≡ nothing_found
 later_none a l = later_second a nothing_found l
 
 rising_on : (low : ℕ) (r : Row) (rs : List Row) → rising low (r ∷ rs) ≡ true → (low < r.stamp) × (rising r.stamp rs ≡ true)

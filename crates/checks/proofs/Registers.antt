@@ -4,6 +4,7 @@ use mathlib.Core.Bool.{Bool, true, false, cond}
 use mathlib.Core.List.{List, [], ◌∷◌}
 use mathlib.Core.Logic.{◌⊎◌, inl, inr}
 use Prim.Native.Nat.{ℕ, ◌+◌, ◌-◌, ◌*◌, ◌≤◌, ◌<◌}
+use native.Mathlib.Nat.{zero-add}
 use native.Mathlib.Omega.{arith}
 use lib.Dec.{eqb}
 use Rattle.std.proofs.Common.{Option, Some, None, is_some}
@@ -12,23 +13,26 @@ use Rattle.rules.specs.Tests.{both, either, any}
 use Rattle.rules.specs.Stamps.{Access, Body}
 use Rattle.rules.specs.Messages.{Found, nothing_found, write_of}
 use Rattle.rules.specs.Check.{overwrites}
-use Rattle.rules.specs.DayOrder.{stale}
+use Rattle.rules.specs.DayOrder.{stale, common}
 use Rattle.rules.specs.Inner.Clashes.{clash}
 use Rattle.rules.proofs.Logic.{cases, both_false, both_whole, either_none, either_false, eqb_sym}
-use Rattle.rules.proofs.Lists.{none_any}
+use Rattle.rules.proofs.Lists.{none_any, any_append}
 use Rattle.rules.proofs.Check.{overwrites_below}
 use Rattle.rules.proofs.DayOrder.{overwrites_stale}
-use Rattle.rows.specs.Read.{access_at, accesses_at}
-use Rattle.checks.specs.Inner.RegisterWrites.{write_to, early}
-use Rattle.checks.proofs.LentParts.{accesses_turn, accesses_over}
+use Rattle.rows.specs.declared.row.RowFields.{RowFields}
+use Rattle.rows.specs.Read.{access_at, accesses_at, body_at, row_of}
+use Rattle.rows.specs.Inner.Rows.{BodyInside, body_part}
+use Rattle.rows.proofs.Turns.{body_of_part}
+use Rattle.checks.specs.Inner.RegisterWrites.{write_to, early, rewritten}
+use Rattle.checks.proofs.LentParts.{accesses_turn, accesses_over, accesses_joined}
 
 -- ---- searching
 
-write_step : (a : Access) (more : List Access) (k : ℕ) → write_to (a ∷ more) k ≡ cond (eqb a.register k) (Some a.number) (write_to more k)
+pub write_step : (a : Access) (more : List Access) (k : ℕ) → write_to (a ∷ more) k ≡ cond (eqb a.register k) (Some a.number) (write_to more k)
 unfolding write_to
 write_step a more k = refl
 
-write_end : (k : ℕ) → write_to [] k ≡ None
+pub write_end : (k : ℕ) → write_to [] k ≡ None
 unfolding write_to
 write_end k = refl
 
@@ -57,6 +61,14 @@ pub ruleset write_turns = (write_here, write_behind, write_over)
 
 -- ---- a stale read
 
+pub stale_step : (w : ℕ) (writes : List Access) (read : Access) (more : List Access) → stale w writes (read ∷ more) ≡ either (early w writes read) (stale w writes more)
+unfolding stale any
+stale_step w writes read more = refl
+
+pub stale_end : (w : ℕ) (writes : List Access) → stale w writes [] ≡ false
+unfolding stale any
+stale_end w writes = refl
+
 any_whole : (test : Access → Bool) (accs : List Access) → any (λ a. both (test a) true) accs ≡ any test accs
 unfolding any
 any_whole test [] = refl
@@ -70,6 +82,21 @@ pub early_not : (w : ℕ) (writes : List Access) (read : Access) → w ≤ read.
 early_not w writes read l = none_any _ writes (λ a m. rw (le-ltb read.number w l) (both_false (eqb read.register a.register)))
 
 pub ruleset early_sides = (early_found, early_not)
+
+-- ---- a register in common
+
+pub common_step : (a : Access) (more writes : List Access) → common (a ∷ more) writes ≡ either (rewritten writes a) (common more writes)
+unfolding common any
+common_step a more writes = refl
+
+pub common_end : (writes : List Access) → common [] writes ≡ false
+unfolding common any
+common_end writes = refl
+
+-- accesses that stand one behind the other, as a body's reads and its writes do
+pub common_parts : (s : List ℕ) (at n m : ℕ) (writes : List Access) → common (accesses_at s at (n + m)) writes ≡ either (common (accesses_at s at n) writes) (common (accesses_at s (at + 9 * n) m) writes)
+unfolding common
+common_parts s at n m writes = ap (λ (accs : List Access). common accs writes) (accesses_joined s at n m) ∙ any_append (rewritten writes) (accesses_at s at n) (accesses_at s (at + 9 * n) m)
 
 -- ---- clashes by the stamps
 
@@ -110,3 +137,11 @@ written_as stamp (a ∷ more) k = go (eqb a.register k) (written_as stamp more k
     go : (b : Bool) → write_of stamp more k ≡ written_at stamp (write_to more k) → cond b (record { version = stamp; value = a.number }) (write_of stamp more k) ≡ written_at stamp (cond b (Some a.number) (write_to more k))
     go true e = refl
     go false e = e
+
+-- the writes of a row are those in the part where its body lies
+pub writes_in : (s : List ℕ) (f : RowFields) → BodyInside s f → (row_of s f).body.writes ≡ accesses_at (body_part s f) (9 * f.reads) f.writes
+unfolding row_of body_at
+writes_in s f h = sym (rw zero-add at (ap (λ (x : Body). x.writes) (body_of_part s f h)))
+
+pub written_in : (s : List ℕ) (f : RowFields) (k : ℕ) → BodyInside s f → write_of f.stamp (row_of s f).body.writes k ≡ written_at f.stamp (write_to (accesses_at (body_part s f) (9 * f.reads) f.writes) k)
+written_in s f k h = written_as f.stamp _ k ∙ ap (λ (ws : List Access). written_at f.stamp (write_to ws k)) (writes_in s f h)

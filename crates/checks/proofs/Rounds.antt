@@ -4,6 +4,7 @@ use mathlib.Core.Bool.{Bool, true, false, cond, ◌||◌}
 use mathlib.Core.List.{List, [], ◌∷◌, ◌++◌}
 use mathlib.Core.Logic.{◌⊎◌, inl, inr}
 use Prim.Native.Nat.{ℕ, zero, suc, ◌+◌, ◌-◌, ◌*◌, ◌≤◌, ◌<◌}
+use native.Mathlib.Nat.{zero-add}
 use native.Mathlib.Omega.{arith}
 use lib.Dec.{eqb, ltb, leb}
 use borrow.Author.Tests.{lt-ltb, le-ltb, eqb-true, lt-leb}
@@ -22,12 +23,13 @@ use Rattle.rules.proofs.Check.{overwrites_below, Counting}
 use Rattle.rules.proofs.Floor.{Silent, floor_silent, abort_sure}
 use Rattle.rows.specs.declared.row.RowFields.{RowFields}
 use Rattle.rows.specs.Fields.{fields_at}
-use Rattle.rows.specs.Read.{row_of, rows_at}
+use Rattle.rows.specs.Read.{row_of, rows_at, accesses_at, body_at}
 use Rattle.rows.specs.Inner.Places.{lower}
 use Rattle.checks.specs.declared.pass.Seen.{Seen}
 use Rattle.checks.specs.Inner.Passed.{seen_of, nothing_seen, raised, with_named, later, row_clashes, seen_with, PassedTo, PassedRows, answer_of, found_in}
 use Rattle.checks.proofs.StateBytes.{committed_byte}
 use Rattle.checks.proofs.Steps.{rows_step, rows_none, rows_behind}
+use Rattle.checks.proofs.Registers.{common_parts}
 
 -- ---- the check
 
@@ -142,6 +144,13 @@ later_not s x t y l = rw (le-ltb s t l)
 
 pub ruleset later_sides = (later_above, later_not)
 
+-- as a row has its body in the lent bytes: its reads and its writes stand one behind the other
+pub later_lent : (s : ℕ) (body : List ℕ) (reads writes t : ℕ) (held : List ℕ) (n m : ℕ) → both (ltb s t) (common (accesses_at held 0 (n + m)) (accesses_at body (9 * reads) writes)) ≡ later s (body_at body 0 reads writes) t (body_at held 0 n m)
+unfolding later body_at
+later_lent s body reads writes t held n m =
+    let e : 0 + 9 * reads ≡ 9 * reads = zero-add (9 * reads) in
+    rw e (ap (both (ltb s t)) (common_parts held 0 n m (accesses_at body (9 * reads) writes)))
+
 module _ (image : List ℕ) (f : RowFields) (s : ℕ) (x : Body) (seen : Seen) where
   day_named : seen_with day_a day_b s x (row_of image f) seen ≡ cond (accepted (row_of image f)) (with_named (committed (row_of image f)) f.stamp (stale f.stamp (row_of image f).body.writes x.reads) (later s x f.stamp (row_of image f).body) seen) seen
   unfolding seen_with day_a day_b later both row_of
@@ -183,25 +192,25 @@ passed_sure step silent n i seen next l h p q sure = (n - (i - 1), omega arith, 
 
 module _ (A B : Rule) (a-counts : Counting A) (b-counts : Counting B) (image : List ℕ) (begin n s : ℕ) (x : Body) where
   -- what the rows from i on say
-  abbrev SeenFrom : ℕ → Seen → Type 0
+  abbrev pub SeenFrom : ℕ → Seen → Type 0
   SeenFrom i seen = seen ≡ seen_of A B s x (rows_at image (begin + 24 * i) (n - i))
 
   -- nothing was passed
-  pass_begins : SeenFrom n nothing_seen
+  pub pass_begins : SeenFrom n nothing_seen
   pass_begins = sym (ap (seen_of A B s x) (rows_none image _ n) ∙ seen_none A B s x)
 
   -- one more row
-  pass_goes_on : (i : ℕ) (seen : Seen) → 0 < i → i ≤ n → SeenFrom i seen → SeenFrom (i - 1) (seen_with A B s x (row_of image (fields_at image (begin + 24 * (i - 1)))) seen)
+  pub pass_goes_on : (i : ℕ) (seen : Seen) → 0 < i → i ≤ n → SeenFrom i seen → SeenFrom (i - 1) (seen_with A B s x (row_of image (fields_at image (begin + 24 * (i - 1)))) seen)
   pass_goes_on i seen l h e = rw e (sym (ap (seen_of A B s x) (rows_step image begin n i l h) ∙ seen_step A B s x a-counts b-counts _ _))
 
   -- the rows that were not passed lie below the floor: those that were say all that there is to say
-  pass_ends : Silent A → Silent B → rising 0 (rows_at image begin n) ≡ true → (i : ℕ) (seen : Seen) → i ≤ n → i ≤ lower (rows_at image begin n) (floor_of s x.reads) → SeenFrom i seen → answer_of seen ≡ check_by A B (rows_at image begin n) s x
+  pub pass_ends : Silent A → Silent B → rising 0 (rows_at image begin n) ≡ true → (i : ℕ) (seen : Seen) → i ≤ n → i ≤ lower (rows_at image begin n) (floor_of s x.reads) → SeenFrom i seen → answer_of seen ≡ check_by A B (rows_at image begin n) s x
   unfolding lower
   pass_ends silent-a silent-b rise i seen h below e =
       ap answer_of e ∙ answer_check A B s x _ ∙ sym (floor_silent A B s x silent-a silent-b 0 i (rows_at image begin n) rise below ∙ ap (λ (rows : List Row). check_by A B rows s x) (rows_behind image begin n i h))
 
   -- an ABORT is sure, whatever the rows before say
-  pass_sure : (i : ℕ) (seen : Seen) → i ≤ n → seen.abort ≡ true → SeenFrom i seen → answer_of seen ≡ check_by A B (rows_at image begin n) s x
+  pub pass_sure : (i : ℕ) (seen : Seen) → i ≤ n → seen.abort ≡ true → SeenFrom i seen → answer_of seen ≡ check_by A B (rows_at image begin n) s x
   unfolding answer_of seen_of
   pass_sure i seen h sure e =
       let fires : any (A committed s x) (rows_at image (begin + 24 * i) (n - i)) ≡ true = sym (ap (λ (q : Seen). q.abort) e) ∙ sure in

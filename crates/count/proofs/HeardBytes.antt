@@ -1,15 +1,17 @@
--- Replies as bytes, 15 each: what was written is read back and counted as the list of records is.
+-- Replies as bytes, 15 each: what was written is read back and counted as the list of records is, and a walk over the bytes reads one reply after the other.
 use mathlib.Core.Path.{◌≡◌, refl, sym, ap, subst, ◌∙◌}
 use mathlib.Core.Bool.{Bool, true, false}
 use mathlib.Core.Logic.{◌⊎◌, inl, inr}
 use mathlib.Core.List.Memᴰ
 use mathlib.Core.List.{List, [], ◌∷◌, ◌++◌, map}
-use Prim.Native.Nat.{ℕ, zero, suc, ◌*◌, ◌/◌, ◌^◌, ◌<◌}
+use Prim.Native.Nat.{ℕ, zero, suc, ◌*◌, ◌/◌, ◌^◌, ◌<◌, ◌+◌, ◌-◌, ◌≤◌}
+use native.Mathlib.Nat.{add-zero}
 use native.Mathlib.Omega.{arith}
 use lib.Dec.{eqb, leb}
 use lib.ListN.{length, drop, length-append, length-map}
-use lib.Seq.{drop_at}
+use lib.Seq.{drop_at, drop-drop}
 use borrow.Author.Tests.{eqb-false, eq-eqb, ne_eqb}
+use Rattle.wire.specs.Numbers.{number_at}
 use Rattle.wire.proofs.Numbers.{length_bytes}
 use Rattle.wire.proofs.Stands.{stands_between}
 use Rattle.wire.proofs.Fields.{field_read, last_read}
@@ -25,6 +27,25 @@ use Rattle.replies.specs.PlainReplies.{result_read, heard, all_heard}
 use Rattle.count.specs.Calls.{count_of, reply_at, replies_of, count_bytes}
 use Rattle.count.specs.Inner.RecordBytes.{reply_of, record_bytes, records_bytes, all_bytes}
 use Rattle.count.proofs.Counts.{many_bad}
+
+-- ---- a walk over the bytes
+
+-- a reply is read from the rest as from the whole
+pub reply_dropped : (s : List ℕ) (at : ℕ) → reply_at (drop at s) 0 ≡ reply_at s at
+unfolding reply_at number_at
+reply_dropped s at = simp (drop-drop, add-zero)
+
+-- the reply at a place, and then those from the next place on
+pub replies_turn : (s : List ℕ) (at : ℕ) → at + 15 ≤ length s → replies_of ((length s - at) / 15) (drop at s) ≡ reply_at s at ∷ replies_of ((length s - (at + 15)) / 15) (drop (at + 15) s)
+unfolding replies_of
+replies_turn s at l =
+    let e : (length s - at) / 15 ≡ suc ((length s - (at + 15)) / 15) = omega arith in
+    rw (e, reply_dropped s at, drop-drop 15 at s)
+
+-- at the end there are none
+pub replies_end : (s : List ℕ) (at : ℕ) → length s ≤ at → replies_of ((length s - at) / 15) (drop at s) ≡ []
+unfolding replies_of
+replies_end s at l = let e : (length s - at) / 15 ≡ 0 = omega arith in rw e refl
 
 -- ---- whole replies, or not
 

@@ -13,7 +13,7 @@ use Rattle.rows.specs.Fields.{fields_at}
 use Rattle.rows.specs.Read.{body_at, row_of}
 use Rattle.rows.specs.Inner.Rows.{BodyInside}
 use Rattle.table.specs.Images.{format_one}
-use Rattle.table.specs.Parse.{table_at}
+use Rattle.table.specs.Parse.{table_at, BeginsWithImage}
 use Rattle.seek.proofs.HeldRows.{held_here}
 use Rattle.gather.specs.Inner.UsedTables.{used_of, place_in, fields_for, other_in}
 use Rattle.gather.proofs.UsedRows.{FirstHeld}
@@ -26,6 +26,9 @@ other_than_first first f others = first_other (row_of first f) others
 
 -- `first` is that image, and f are the fields that were read there
 module _ (newest stamp : ℕ) (Ts : List Table) (s t : List ℕ) (held : FirstHeld newest stamp Ts s t) (first : List ℕ) (same : first ≡ t) where
+  pub first_begins : BeginsWithImage valley first
+  first_begins = rw same held.has_image
+
   module _ (f : RowFields) (told : f ≡ fields_for first (place_in newest (table_at format_one first) stamp)) where
     pub first_fields : f ≡ fields_at t (24 + 24 * held.i)
     first_fields = told ∙ rw (same, held.place) refl

@@ -24,8 +24,7 @@ use Rattle.table.specs.Parse.{table_at, BeginsWithImage}
 use Rattle.table.proofs.Images.{valley_sound, parsed}
 use Rattle.image_run.specs.Inner.WholeRuns.{tables_of, Images}
 use Rattle.image_run.specs.Inner.Walk.{NextImage}
-use Rattle.image_run.proofs.RunTurns.{turn, rest_of, laid_images_lem}
-use Rattle.image_run.proofs.TablesWalked.{none_left}
+use Rattle.image_run.proofs.RunTurns.{turn, rest_of, laid_images_lem, walked}
 use Rattle.gather.specs.declared.stamps.Cursors.{Cursors}
 use Rattle.gather.specs.declared.held.Gathered.{Gathered}
 use Rattle.gather.specs.Inner.UsedTables.{used_of, place_in, is_held, no_fields, fields_for, from_first, other_in}
@@ -38,7 +37,8 @@ use Rattle.gather.proofs.Places.{filled_from, filled_on, filled_end, filled_padd
 use Rattle.gather.proofs.OneRow.{gathered_held, gathered_not, cursor_behind}
 use Rattle.gather.proofs.StampsInTurn.{next_is_above}
 use Rattle.gather.proofs.Cursors.{cursors_first, cursors_up}
-use Rattle.gather.proofs.NextStamps.{AllRegular, stamps_stamped, next_most, used_regular}
+use Rattle.gather.proofs.NextStamps.{AllRegular, stamps_stamped, next_most, used_regular, next_none}
+use Rattle.image_run.proofs.TablesWalked as walked_over
 
 -- what is left of a run from a place on, as it is handed on
 abbrev pub part_at : List ℕ → ℕ → List ℕ
@@ -51,6 +51,9 @@ left s at = tables_of valley (drop at s)
 -- the tables of whole images are regular
 pub all_regular : (s : List ℕ) → Images valley s → AllRegular (tables_of valley s)
 all_regular s are T m = (table_facts valley T ((laid_images_lem valley s (tables_of valley s) are).1 T m)).0
+
+pub part_bytes : (s : List ℕ) → AllBytes s → (at : ℕ) → AllBytes (part_at s at)
+part_bytes s bytes at = rw (rest_of s at) (all_drop at s bytes)
 
 pub image_part : (s : List ℕ) (at : ℕ) → at < length s → Images valley (drop at s) → BeginsWithImage valley (part_at s at)
 image_part s at more are = rw (rest_of s at) (turn s at more are).has_image
@@ -140,7 +143,7 @@ pub record GatheredTo (newest stamp : ℕ) (run rest places : List ℕ) (k : ℕ
 
 module _ (newest stamp : ℕ) (s left : List ℕ) (n : NextImage s left) (rows others : List RowFields) (row : RowFields) (p : rows ≡ row ∷ others) where
   -- the row beside an image is the one that was gathered from it
-  row_beside : HasAll no_fields rows (fields_in newest stamp (tables_of valley s) s) → (row ≡ fields_for s (place_in newest (table_at format_one s) stamp)) × HasAll no_fields others (fields_in newest stamp (tables_of valley left) left)
+  pub row_beside : HasAll no_fields rows (fields_in newest stamp (tables_of valley s) s) → (row ≡ fields_for s (place_in newest (table_at format_one s) stamp)) × HasAll no_fields others (fields_in newest stamp (tables_of valley left) left)
   row_beside h = has_next no_fields row _ others _ (rw (p, fields_on newest stamp s left n) at h)
 
   pub row_here : HasAll no_fields rows (fields_in newest stamp (tables_of valley s) s) → row ≡ fields_for s (place_in newest (table_at format_one s) stamp)
@@ -169,7 +172,7 @@ module _ (newest stamp : ℕ) (s left : List ℕ) (n : NextImage s left) (rows o
   one_other run x none d = sym (other_on newest stamp s left n x ∙ rw d refl) ∙ none.other
 
 module _ (newest stamp : ℕ) (run s left : List ℕ) (n : NextImage s left) (places others : List ℕ) (place : ℕ) (p : places ≡ place ∷ others) (k : ℕ) (rows : List RowFields) (behind : List ℕ) (to : GatheredTo newest stamp run s places k rows behind) where
-  cursors_on : (place ≡ cursor_in newest stamp (table_at format_one s)) × HasAll 0 others (map (cursor_in newest stamp) (tables_of valley left))
+  pub cursors_on : (place ≡ cursor_in newest stamp (table_at format_one s)) × HasAll 0 others (map (cursor_in newest stamp) (tables_of valley left))
   cursors_on = has_next 0 place _ others _ (rw (p, n.tables) at to.cursors)
 
   pub cursor_here : place ≡ cursor_in newest stamp (table_at format_one s)
@@ -189,6 +192,28 @@ module _ (newest stamp : ℕ) (run s left : List ℕ) (n : NextImage s left) (pl
         four_rows = length-set rows k row ∙ to.four_rows;
         four_places = length-set behind k index ∙ to.four_places;
       }
+
+-- ---- at the end of a run
+
+module _ (newest stamp : ℕ) (s : List ℕ) (at : ℕ) (over : length s ≤ at) where
+  pub rows_end : (rows : List RowFields) (k : ℕ) → filled_from k rows (fields_in newest stamp (left s at) (drop at s)) ≡ rows
+  unfolding fields_in
+  rows_end rows k = rw (walked valley s at over) (filled_end k rows)
+
+  pub places_end : (places : List ℕ) (k x : ℕ) → filled_from k places (map (cursor_in newest x) (left s at)) ≡ places
+  places_end places k x = rw (walked valley s at over) (filled_end k places)
+
+  pub none_left : rows_of (used_of newest (left s at)) stamp ≡ []
+  unfolding those rows_of all_of
+  none_left = rw (walked valley s at over) refl
+
+  pub first_end : from_first newest stamp (left s at) (drop at s) ≡ drop at s
+  unfolding from_first
+  first_end = rw (walked valley s at over) refl
+
+  pub next_over : (next : ℕ) → next ≤ 2 ^ 48 → min next (next_after stamp (stamps (used_of newest (left s at)))) ≡ next
+  unfolding those stamps
+  next_over next l = rw (walked valley s at over, next_none stamp) (omega arith)
 
 -- before the first turn nothing above all stamps is in the way
 pub next_start : (newest last : ℕ) (s : List ℕ) → Images valley s → min (2 ^ 48) (next_after last (stamps (used_of newest (tables_of valley s)))) ≡ next_after last (stamps (used_of newest (tables_of valley s)))
@@ -220,12 +245,12 @@ module _ (run : List ℕ) (few : length (tables_of valley run) ≤ 4) where
       let n = fields_length g.cursors.newest g.cursors.last (tables_of valley run) run in
       has_all_four no_fields g.rows (fields_in g.cursors.newest g.cursors.last (tables_of valley run) run) (ap (λ (x : Gathered). x.rows) from) (omega arith)
 
-  filling_rows : (newest stamp : ℕ) → filled_from 0 (replicate 4 no_fields) (fields_in newest stamp (tables_of valley run) run) ≡ padded 4 no_fields (fields_in newest stamp (tables_of valley run) run)
+  pub filling_rows : (newest stamp : ℕ) → filled_from 0 (replicate 4 no_fields) (fields_in newest stamp (tables_of valley run) run) ≡ padded 4 no_fields (fields_in newest stamp (tables_of valley run) run)
   filling_rows newest stamp =
       let n = fields_length newest stamp (tables_of valley run) run in
       filled_padded no_fields (fields_in newest stamp (tables_of valley run) run) (omega arith)
 
-  filling_places : (newest s : ℕ) → filled_from 0 (replicate 4 0) (map (cursor_in newest s) (tables_of valley run)) ≡ places_at newest s (tables_of valley run)
+  pub filling_places : (newest s : ℕ) → filled_from 0 (replicate 4 0) (map (cursor_in newest s) (tables_of valley run)) ≡ places_at newest s (tables_of valley run)
   filling_places newest s =
       let n = length-map (tables_of valley run) (cursor_in newest s) in
       filled_padded 0 (map (cursor_in newest s) (tables_of valley run)) (omega arith)
@@ -265,7 +290,7 @@ all_gathered newest stamp run rest places k rows behind to over =
 
 no_row_beside : (newest stamp : ℕ) (rest : List ℕ) (rows : List RowFields) → HasAll no_fields rows (fields_in newest stamp (tables_of valley rest) rest) → (rest ≡ []) ⊎ (length rows ≡ 0) → tables_of valley rest ≡ []
 unfolding fields_in
-no_row_beside newest stamp rest rows h (inl e) = none_left rest e
+no_row_beside newest stamp rest rows h (inl e) = walked_over.none_left rest e
 no_row_beside newest stamp rest rows h (inr e) = go (tables_of valley rest) (has_none no_fields rows _ e h)
   where
     go : (Ts : List Table) → fields_in newest stamp Ts rest ≡ [] → Ts ≡ []

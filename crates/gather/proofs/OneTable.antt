@@ -23,7 +23,7 @@ use Rattle.table.specs.Headers.{header_at}
 use Rattle.table.specs.Images.{format_one}
 use Rattle.table.specs.Parse.{table_at, BeginsWithImage}
 use Rattle.table.proofs.Images.{valley_sound}
-use Rattle.edit.proofs.Holding.{one_starts, holds_least, holds_rows_at, holds_row_inside}
+use Rattle.edit.proofs.Holding.{one_starts, holds_least, holds_rows_at, holds_row_inside, holds_rows}
 use Rattle.seek.proofs.HeldRows.{image_holds, image_regular, index_here}
 use Rattle.seek.proofs.SoughtRows.{can_be_sought, rows_inside}
 use Rattle.gather.specs.Inner.UsedTables.{place_in, no_fields, fields_for}
@@ -31,7 +31,7 @@ use Rattle.gather.specs.Inner.Cursors.{cursor_in}
 use Rattle.gather.specs.Inner.Stamps.{next_after, stamp_above, stamp_or_none}
 use Rattle.gather.proofs.UsedRows.{place_not, place_too}
 use Rattle.gather.proofs.NextStamps.{Above, stamp_is, no_stamp_is, stamped_at}
-use Rattle.gather.proofs.Cursors.{above_lower, under_held, under_not}
+use Rattle.gather.proofs.Cursors.{above_lower, under_held, under_not, cursor_most}
 
 pub header_inside : (s : List ℕ) → BeginsWithImage valley s → 24 ≤ length s
 header_inside s has_image = holds_least format_one s one_starts (image_holds valley s has_image)
@@ -52,12 +52,22 @@ module _ (s : List ℕ) (h : Header) (told : h ≡ header_at s) (newest : ℕ) w
   pub rows_told : rows_at s 24 h.rows ≡ (table_at format_one s).rows
   rows_told = rw told (sym (holds_rows_at format_one s))
 
+  pub place_elsewhere : (stamp : ℕ) → (h.view ≡ newest → ⊥) → Absent 0 ≡ place_in newest (table_at format_one s) stamp
+  place_elsewhere stamp d = sym (place_not newest stamp (table_at format_one s) (other_view_lem d))
+
+  -- what stands above a stamp in a table of another view, as a number
+  pub number_elsewhere : (last : ℕ) → (h.view ≡ newest → ⊥) → 2 ^ 48 ≡ stamp_above newest (table_at format_one s) last
+  number_elsewhere last d = rw (other_view_lem d) refl
+
   pub above_elsewhere : (last : ℕ) → (h.view ≡ newest → ⊥) → None ≡ stamp_or_none (stamp_above newest (table_at format_one s) last)
   above_elsewhere last d = rw (other_view_lem d) refl
 
   -- the cursor stands in the rows that are read
   cursor_here : (stamp : ℕ) → h.view ≡ newest → cursor_in newest stamp (table_at format_one s) ≡ lower (rows_at s 24 h.rows) stamp
   cursor_here stamp e = rw (this_view e, rows_told) refl
+
+  pub cursor_small : (stamp index : ℕ) → BeginsWithImage valley s → index ≡ cursor_in newest stamp (table_at format_one s) → index ≤ h.rows
+  cursor_small stamp index has_image e = rw (e, told) (rw (holds_rows format_one s) at (cursor_most newest stamp (table_at format_one s)))
 
   -- the stamp at the cursor, or none
   module _ (last index : ℕ) (has_image : BeginsWithImage valley s) (e : h.view ≡ newest) (at-cursor : index ≡ cursor_in newest (last + 1) (table_at format_one s)) where
@@ -67,13 +77,20 @@ module _ (s : List ℕ) (h : Header) (told : h ≡ header_at s) (newest : ℕ) w
     next_is : next_after last (stamps_of (rows_at s 24 h.rows)) ≡ stamp_above newest (table_at format_one s) last
     next_is = rw (this_view e, rows_told)
 
+    -- as numbers
+    pub number_there : index < h.rows → (fields_at s (24 + 24 * index)).stamp ≡ stamp_above newest (table_at format_one s) last
+    number_there l = above.there l ∙ next_is
+
+    pub number_none : h.rows ≤ index → 2 ^ 48 ≡ stamp_above newest (table_at format_one s) last
+    number_none l = sym (above.none_there l) ∙ next_is
+
     pub above_there : index < h.rows → Some (fields_at s (24 + 24 * index)).stamp ≡ stamp_or_none (stamp_above newest (table_at format_one s) last)
     above_there l =
-        let e : (fields_at s (24 + 24 * index)).stamp ≡ stamp_above newest (table_at format_one s) last = above.there l ∙ next_is in
+        let e : (fields_at s (24 + 24 * index)).stamp ≡ stamp_above newest (table_at format_one s) last = number_there l in
         rw (← e) (sym (stamp_is _ (stamped_at s h.rows 24 index (rw rows_told (image_regular valley s has_image).0.rows) l)))
 
     pub above_none : h.rows ≤ index → None ≡ stamp_or_none (stamp_above newest (table_at format_one s) last)
-    above_none l = let e = sym (above.none_there l) ∙ next_is in sym (no_stamp_is _ (omega arith))
+    above_none l = let e = number_none l in sym (no_stamp_is _ (omega arith))
 
   -- the row at the cursor, if it has the stamp
   pub row_elsewhere : (stamp : ℕ) → (h.view ≡ newest → ⊥) → no_fields ≡ fields_for s (place_in newest (table_at format_one s) stamp)

@@ -4,7 +4,7 @@ use mathlib.Core.Bool.{Bool, true, false, cond}
 use mathlib.Core.Logic.{◌⊎◌, inl, inr}
 use mathlib.Core.List.{List, [], ◌∷◌}
 use mathlib.Core.Option.{some}
-use Prim.Native.Nat.{ℕ, zero, suc, ◌+◌, ◌*◌, ◌<◌, ◌≤◌}
+use Prim.Native.Nat.{ℕ, zero, suc, ◌+◌, ◌*◌, ◌<◌, ◌≤◌, ◌-◌}
 use native.Mathlib.Omega.{arith}
 use lib.Dec.{eqb, leb}
 use lib.ListN.{length, get_or, drop}
@@ -116,6 +116,38 @@ agreed_told agreement gs all g (f ∷ fs) rs (inr (r, later, e, c, t)) =
     (sym (row_agreed agreement all r f.prepare f.retry later c.prepare c.retry))
 
 -- ---- what was gathered from a run
+
+pub four_on : (rows : List RowFields) (k : ℕ) → k < 4 → fields_from rows k (4 - k) ≡ get_or rows k no_fields ∷ fields_from rows (k + 1) (4 - (k + 1))
+unfolding fields_from
+four_on rows k l = let e : 4 - k ≡ suc (4 - (k + 1)) = omega arith in rw e refl
+
+pub four_over : (rows : List RowFields) (k : ℕ) → 4 ≤ k → fields_from rows k (4 - k) ≡ []
+unfolding fields_from
+four_over rows k l = let e : 4 - k ≡ 0 = omega arith in rw e refl
+
+pub votes_on : (test : RowFields → Bool) (rows : List RowFields) (k : ℕ) → k < 4 → count test (fields_from rows k (4 - k)) ≡ bit (test (get_or rows k no_fields)) + count test (fields_from rows (k + 1) (4 - (k + 1)))
+unfolding count
+votes_on test rows k l = rw (four_on rows k l) refl
+
+pub votes_over : (test : RowFields → Bool) (rows : List RowFields) (k : ℕ) → 4 ≤ k → count test (fields_from rows k (4 - k)) ≡ 0
+unfolding count
+votes_over test rows k l = rw (four_over rows k l) refl
+
+pub four_state_on : (x : State) (rows : List RowFields) (k : ℕ) → k < 4 → saw_fields (saw_outcome (get_or rows k no_fields).outcome (saw_prepare (get_or rows k no_fields).prepare (get_or rows k no_fields).retry x)) (fields_from rows (k + 1) (4 - (k + 1))) ≡ saw_fields x (fields_from rows k (4 - k))
+unfolding saw_fields
+four_state_on x rows k l = rw (four_on rows k l) refl
+
+pub four_state_over : (x : State) (rows : List RowFields) (k : ℕ) → 4 ≤ k → saw_fields x (fields_from rows k (4 - k)) ≡ x
+unfolding saw_fields
+four_state_over x rows k l = rw (four_over rows k l) refl
+
+pub four_agreed_on : (agreement : ℕ) (all rows : List RowFields) (k : ℕ) → k < 4 → agreed_among agreement all (fields_from rows k (4 - k)) ≡ cond (enough_have agreement all (get_or rows k no_fields).prepare (get_or rows k no_fields).retry) (Some (record { code = (get_or rows k no_fields).prepare; retry = (get_or rows k no_fields).retry })) (agreed_among agreement all (fields_from rows (k + 1) (4 - (k + 1))))
+unfolding agreed_among
+four_agreed_on agreement all rows k l = rw (four_on rows k l) refl
+
+pub four_agreed_over : (agreement : ℕ) (all rows : List RowFields) (k : ℕ) → 4 ≤ k → agreed_among agreement all (fields_from rows k (4 - k)) ≡ None
+unfolding agreed_among
+four_agreed_over agreement all rows k l = rw (four_over rows k l) refl
 
 -- those that pass are counted
 pub count_filtered : {A : Type 0} (test : A → Bool) (xs : List A) → length (filter test xs) ≡ count test xs

@@ -112,6 +112,23 @@ told_coded stamp view code retry o result false r h e k = rw k tt
 
 -- ---- the kinds
 
+module _ (M : Model) (n : ℕ) (s : List ℕ) where
+  -- 2, by its code
+  pub final_prepare : (stamp view code retry : ℕ) (ok : Bool) → AllBytes s → length s ≡ 22 → stamp ≡ number_at s 1 8 → view ≡ number_at s 9 4 → code ≡ number_at s 13 1 → retry ≡ number_at s 14 8 → ok ≡ both (is_stamp stamp) (result_by_code code retry) → keeping_rules M n (prepare_final s) ≡ provided ok (finalise_prepare stamp view (result_numbered code retry))
+  unfolding prepare_final message_by_rule both
+  final_prepare stamp view code retry ok a l e f g k h =
+      let c = number_at s 13 1 in
+      let q = number_at s 14 8 in
+      let implied = both_implied (result_by_code c q) (result_by_rule (result_numbered c q)) (λ t. (result_coded c q t).by_rule) in
+      rw (h, e, f, g, k, rules_provided, eq-eqb (length s) 22 l, view_fits s 9 a (omega arith), both_swap, implied)
+
+  -- 4, by its code
+  pub final_outcome : (stamp view code : ℕ) (ok : Bool) → AllBytes s → length s ≡ 14 → stamp ≡ number_at s 1 8 → view ≡ number_at s 9 4 → code ≡ number_at s 13 1 → ok ≡ both (is_stamp stamp) (verdict_by_code code) → keeping_rules M n (outcome_final s) ≡ provided ok (finalise_outcome stamp view (verdict_numbered code))
+  unfolding outcome_final message_by_rule both
+  final_outcome stamp view code ok a l e f g h =
+      let v = verdict_by_code (number_at s 13 1) in
+      rw (h, e, f, g, rules_provided, eq-eqb (length s) 14 l, view_fits s 9 a (omega arith), both_whole, both_comm v (is_stamp (number_at s 1 8)))
+
 module _ (M : Model) (n : ℕ) (s : List ℕ) (r : given.Option kinds.Message) where
   -- 1, by its stamp and its counts
   pub proposed_prepare : (stamp reads writes : ℕ) (ok : Bool) → stamp ≡ number_at s 1 8 → reads ≡ number_at s 9 1 → writes ≡ number_at s 10 1 → ok ≡ both (is_stamp stamp) (both (eqb (length s) (11 + body_length reads writes)) (body_by_rule stamp (body_at s 11 reads writes))) → r ≡ then_some ok (ProposePrepare stamp reads writes) → meant format_one s r ≡ keeping_rules M n (prepare_proposal s)
@@ -123,19 +140,11 @@ module _ (M : Model) (n : ℕ) (s : List ℕ) (r : given.Option kinds.Message) w
   short_prepare l = rw (ne_eqb (length s) (11 + body_length (number_at s 9 1) (number_at s 10 1)) (omega arith))
 
   -- 2, of its exact length
-  final_prepare : (stamp view code retry : ℕ) (ok : Bool) → AllBytes s → length s ≡ 22 → stamp ≡ number_at s 1 8 → view ≡ number_at s 9 4 → code ≡ number_at s 13 1 → retry ≡ number_at s 14 8 → ok ≡ both (is_stamp stamp) (result_by_code code retry) → keeping_rules M n (prepare_final s) ≡ provided ok (finalise_prepare stamp view (result_numbered code retry))
-  unfolding prepare_final message_by_rule both
-  final_prepare stamp view code retry ok a l e f g k h =
-      let c = number_at s 13 1 in
-      let q = number_at s 14 8 in
-      let implied = both_implied (result_by_code c q) (result_by_rule (result_numbered c q)) (λ t. (result_coded c q t).by_rule) in
-      rw (h, e, f, g, k, rules_provided, eq-eqb (length s) 22 l, view_fits s 9 a (omega arith), both_swap, implied)
-
   pub finalised_prepare : (stamp view code retry : ℕ) (told : given.Option CheckResult) (result : CheckResult) (ok : Bool) → AllBytes s → length s ≡ 22 → stamp ≡ number_at s 1 8 → view ≡ number_at s 9 4 → code ≡ number_at s 13 1 → retry ≡ number_at s 14 8 → option_map result_meant told ≡ then_some (result_by_code code retry) (result_numbered code retry) → told ≡ given.Some result → ok ≡ is_stamp stamp → r ≡ then_some ok (FinalisePrepare stamp view result) → meant format_one s r ≡ keeping_rules M n (prepare_final s)
   finalised_prepare stamp view code retry told result ok a l e f g h t u k m =
       let w : (result_by_code code retry ≡ true) × (result_numbered code retry ≡ result_meant result) = mapped_some result_meant told result _ _ t u in
       let b : ok ≡ both (is_stamp stamp) (result_by_code code retry) = rw (w.0, both_whole) k in
-      rw (m, meant_then, ← w.1) (sym (final_prepare stamp view code retry ok a l e f g h b))
+      rw (m, meant_then, ← w.1) (sym (final_prepare M n s stamp view code retry ok a l e f g h b))
 
   pub no_result : (code retry : ℕ) (told : given.Option CheckResult) → code ≡ number_at s 13 1 → retry ≡ number_at s 14 8 → option_map result_meant told ≡ then_some (result_by_code code retry) (result_numbered code retry) → told ≡ given.None → r ≡ given.None → meant format_one s r ≡ keeping_rules M n (prepare_final s)
   unfolding prepare_final
@@ -165,17 +174,11 @@ module _ (M : Model) (n : ℕ) (s : List ℕ) (r : given.Option kinds.Message) w
   short_outcome l = rw (ne_eqb (length s) (12 + body_length (number_at s 10 1) (number_at s 11 1)) (omega arith), both_false)
 
   -- 4, of its exact length
-  final_outcome : (stamp view code : ℕ) (ok : Bool) → AllBytes s → length s ≡ 14 → stamp ≡ number_at s 1 8 → view ≡ number_at s 9 4 → code ≡ number_at s 13 1 → ok ≡ both (is_stamp stamp) (verdict_by_code code) → keeping_rules M n (outcome_final s) ≡ provided ok (finalise_outcome stamp view (verdict_numbered code))
-  unfolding outcome_final message_by_rule both
-  final_outcome stamp view code ok a l e f g h =
-      let v = verdict_by_code (number_at s 13 1) in
-      rw (h, e, f, g, rules_provided, eq-eqb (length s) 14 l, view_fits s 9 a (omega arith), both_whole, both_comm v (is_stamp (number_at s 1 8)))
-
   pub finalised_outcome : (stamp view code : ℕ) (told : given.Option rows.Verdict) (verdict : rows.Verdict) (ok : Bool) → AllBytes s → length s ≡ 14 → stamp ≡ number_at s 1 8 → view ≡ number_at s 9 4 → code ≡ number_at s 13 1 → option_map verdict_meant told ≡ then_some (verdict_by_code code) (verdict_numbered code) → told ≡ given.Some verdict → ok ≡ is_stamp stamp → r ≡ then_some ok (FinaliseOutcome stamp view verdict) → meant format_one s r ≡ keeping_rules M n (outcome_final s)
   finalised_outcome stamp view code told verdict ok a l e f g t u k m =
       let w : (verdict_by_code code ≡ true) × (verdict_numbered code ≡ verdict_meant verdict) = mapped_some verdict_meant told verdict _ _ t u in
       let b : ok ≡ both (is_stamp stamp) (verdict_by_code code) = rw (w.0, both_whole) k in
-      rw (m, meant_then, ← w.1) (sym (final_outcome stamp view code ok a l e f g b))
+      rw (m, meant_then, ← w.1) (sym (final_outcome M n s stamp view code ok a l e f g b))
 
   pub no_final_verdict : (code : ℕ) (told : given.Option rows.Verdict) → code ≡ number_at s 13 1 → option_map verdict_meant told ≡ then_some (verdict_by_code code) (verdict_numbered code) → told ≡ given.None → r ≡ given.None → meant format_one s r ≡ keeping_rules M n (outcome_final s)
   unfolding outcome_final

@@ -73,7 +73,7 @@ row_settled s f = ap₂ both (prepare_settled f.prepare f.retry) (outcome_settle
 
 -- ---- rows, i of them passed
 
-settled_turn : (s : List ℕ) (begin n i : ℕ) → i < n →
+pub settled_turn : (s : List ℕ) (begin n i : ℕ) → i < n →
     let f = fields_at s (begin + 24 * i) in
     every settled (rows_at s (begin + 24 * i) (n - i))
     ≡ both (both (either (eqb f.prepare 0) (leb 5 f.prepare)) (either (eqb f.outcome 0) (leb 3 f.outcome))) (every settled (rows_at s (begin + 24 * (i + 1)) (n - (i + 1))))

@@ -26,7 +26,7 @@ use Rattle.table.proofs.Found.{found_table}
 
 -- ---- what the look for an image tells
 
-image_found_lem : (F : Form) (M : Model) (s : List ℕ) (length : ℕ) → image_found F (parse F M s) ≡ given.Some length →
+pub image_found_lem : (F : Form) (M : Model) (s : List ℕ) (length : ℕ) → image_found F (parse F M s) ≡ given.Some length →
     let I = table_at F s in
     (both (table_by_rule M I) (begins s (image F I)) ≡ true) × (length ≡ image_length F I)
 image_found_lem F M s length h =
@@ -35,7 +35,7 @@ image_found_lem F M s length h =
     let f = parse_facts F M s T p in
     (rw e (both_true f.0 f.1), rw e l)
 
-nothing_found_lem : (F : Form) (M : Model) (s : List ℕ) → image_found F (parse F M s) ≡ given.None →
+pub nothing_found_lem : (F : Form) (M : Model) (s : List ℕ) → image_found F (parse F M s) ≡ given.None →
     let I = table_at F s in
     both (table_by_rule M I) (begins s (image F I)) ≡ false
 unfolding parse
@@ -53,7 +53,7 @@ nothing_found_lem F M s h =
     go (inr e) = e
 
 -- the rows of an image lie inside the bytes that begin with it
-rows_inside : (s : List ℕ) → begins s (image format_one (table_at format_one s)) ≡ true → 24 + 24 * (header_at s).rows ≤ length s
+pub rows_inside : (s : List ℕ) → begins s (image format_one (table_at format_one s)) ≡ true → 24 + 24 * (header_at s).rows ≤ length s
 unfolding table_at
 rows_inside s h =
     let I = table_at format_one s in

@@ -18,6 +18,8 @@ use Rattle.rows.specs.Fields.{fields_at}
 use Rattle.rows.specs.Inner.FieldTests.{fields_by_rule}
 use Rattle.rows.specs.Read.{access_at, accesses_at, body_at}
 use Rattle.rows.specs.Inner.Rows.{size_of, body_part, BodyInside, place_by_rule, body_by_rule_at, row_by_rule_at}
+use Rattle.wire.specs.Inner.ByteLists.{AllBytes}
+use Rattle.wire.proofs.Numbers.{number_at-below}
 use Rattle.wire.proofs.Parts.{length_part}
 use Rattle.rows.proofs.Walks.{rows_walk}
 use Rattle.rows.proofs.Bodies.{body_in_part}
@@ -46,16 +48,21 @@ last_tells low register number more = same_test _ _ there back
 -- ---- accesses, i of them passed
 
 -- whether they are registers is asked of the last of them alone
-pub accesses_turn : (s : List ℕ) (from n i low limit : ℕ) → i < n →
+pub accesses_turn : (s : List ℕ) (at next n i low limit : ℕ) → i < n → at + 9 ≡ next →
+    let a = access_at s at in
+    both (leb low 64) (accesses_by_rule limit low (accesses_at s at (n - i)))
+    ≡ both (both (leb low a.register) (ltb a.number limit)) (both (leb (a.register + 1) 64) (accesses_by_rule limit (a.register + 1) (accesses_at s next (n - (i + 1)))))
+unfolding accesses_by_rule accesses_at is_register
+accesses_turn s at next n i low limit h q =
+    let e : n - i ≡ suc (n - (i + 1)) = omega arith in
+    rw (e, ← q, add-one (access_at s at).register) (last_tells low _ _ _)
+
+-- the same of accesses that are counted from the first of a body
+pub accesses_on : (s : List ℕ) (from n i low limit : ℕ) → i < n →
     let a = access_at s (9 * (from + i)) in
     both (leb low 64) (accesses_by_rule limit low (accesses_at s (9 * (from + i)) (n - i)))
     ≡ both (both (leb low a.register) (ltb a.number limit)) (both (leb (a.register + 1) 64) (accesses_by_rule limit (a.register + 1) (accesses_at s (9 * (from + (i + 1))) (n - (i + 1)))))
-unfolding accesses_by_rule accesses_at is_register
-accesses_turn s from n i low limit h =
-    let at = 9 * (from + i) in
-    let e : n - i ≡ suc (n - (i + 1)) = omega arith in
-    let q : 9 * (from + (i + 1)) ≡ 9 * (from + i) + 9 = omega arith in
-    rw (e, q, add-one (access_at s at).register) (last_tells low _ _ _)
+accesses_on s from n i low limit h = accesses_turn s (9 * (from + i)) (9 * (from + (i + 1))) n i low limit h (omega arith)
 
 pub accesses_end : (s : List ℕ) (at n low limit : ℕ) → n ≡ 0 → both (leb low 64) (accesses_by_rule limit low (accesses_at s at n)) ≡ leb low 64
 unfolding accesses_by_rule accesses_at
@@ -85,6 +92,11 @@ pub contents_are : (s : List ℕ) (reads writes stamp : ℕ) →
     ≡ both (accesses_by_rule stamp 0 (accesses_at s 0 reads)) (accesses_by_rule (2 ^ 64) 0 (accesses_at s (9 * reads) writes))
 unfolding contents_by_rule body_at
 contents_are s reads writes stamp = rw zero-add
+
+-- any 8 bytes are a value that may be written
+pub value_fits : (s : List ℕ) (at : ℕ) → AllBytes s → at + 9 ≤ length s → ltb (access_at s at).number (2 ^ 64) ≡ true
+unfolding access_at
+value_fits s at a l = lt-ltb _ _ (number_at-below s (at + 1) 8 a (omega arith))
 
 pub fields_counts : (f : RowFields) → fields_by_rule f ≡ true → (f.reads ≤ 4) × (f.writes ≤ 4)
 unfolding fields_by_rule counts_by_rule

@@ -44,7 +44,7 @@ fn is_below(number: u64, limit: Option<u64>) -> bool
 }
 
 // Registers of the `n` accesses from an index on rise and stay below 64, and each number is below the limit, if there is one. Of registers that rise the last tells for all that they are below 64.
-#[tactic(auto, using(rules::proofs::Chains::tests, crate::proofs::Turns::accesses_turn, crate::proofs::Turns::accesses_end), unfolding(rules::specs::Tests::both))]
+#[tactic(auto, using(rules::proofs::Chains::tests, crate::proofs::Turns::accesses_on, crate::proofs::Turns::accesses_end), unfolding(rules::specs::Tests::both))]
 fn accesses_valid(body: &[u8], from: usize, n: usize, limit: Option<u64>) -> bool
     requires { 9 * (from + n) ≤ length body.now }
     ensures { result ≡ accesses_by_rule (number_limit limit) 0 (accesses_at body.now (9 * from) n) }

@@ -3,11 +3,15 @@ use mathlib.Core.Path.{◌≡◌, refl, sym, ap, ◌∙◌}
 use mathlib.Core.Bool.{Bool, true, false}
 use mathlib.Core.List.{List, [], append-nil}
 use mathlib.Core.Logic.{◌⊎◌, inl, inr}
-use Prim.Native.Nat.{ℕ}
+use Prim.Native.Nat.{ℕ, ◌+◌, ◌<◌}
+use native.Mathlib.Numerals.{add-one}
 use native.Mathlib.Omega.{arith}
-use lib.ListN.{length, drop, drop_of_length-le}
+use lib.Dec.{eqb}
+use lib.ListN.{length, drop, drop_of_length-le, get_or}
+use lib.Seq.{drop-cons}
 use Rattle.std.specs.Bool.{Decides}
 use Rattle.wire.specs.Inner.ByteLists.{AllBytes}
+use Rattle.rules.specs.Tests.{both}
 use Rattle.rules.specs.Stamps.{Body, same_body}
 use Rattle.rules.proofs.Logic.{cases, impossible}
 use Rattle.rules.proofs.Same.{same_body_lem, body_same}
@@ -19,7 +23,15 @@ use Rattle.rows.proofs.Begins.{begins_is, begins_with}
 use Rattle.rows.proofs.Bodies.{body_part_lem}
 use Rattle.rows.proofs.Turns.{body_of_part, length_body_part}
 
--- ---- bytes compared
+-- ---- bytes compared, one by one or all at once
+
+pub begins_turn : (a b : List ℕ) (i : ℕ) → i < length a → i < length b → begins (drop i a) (drop i b) ≡ both (eqb (get_or a i 0) (get_or b i 0)) (begins (drop (i + 1) a) (drop (i + 1) b))
+unfolding begins
+begins_turn a b i p q = rw (drop-cons a i 0 p, drop-cons b i 0 q, add-one i)
+
+pub begins_none : (a b : List ℕ) (i : ℕ) → i ≡ length b → begins (drop i a) (drop i b) ≡ true
+unfolding begins
+begins_none a b i e = let none : drop i b ≡ [] = drop_of_length-le b {i = i} (omega arith) in rw none
 
 -- bytes of one length that begin with others are those
 begins_same : (a b : List ℕ) → length a ≡ length b → begins a b ≡ true → a ≡ b

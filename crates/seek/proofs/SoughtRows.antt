@@ -5,9 +5,11 @@ use mathlib.Core.List.{List}
 use mathlib.Core.Logic.{◌⊎◌, inl, inr}
 use mathlib.Core.Option.{none, some}
 use Prim.Native.Nat.{ℕ, ◌+◌, ◌-◌, ◌*◌, ◌/◌, ◌≤◌}
+use native.Mathlib.Nat.{div-le_self}
+use native.Mathlib.Omega.{arith}
 use lib.Dec.{eqb, ltb}
 use lib.ListN.{length}
-use borrow.Author.Tests.{eq-eqb, eqb-true}
+use borrow.Author.Tests.{eq-eqb, eqb-true, ne_eqb, le-ltb}
 use Rattle.wire.specs.Inner.ByteLists.{AllBytes}
 use Rattle.rules.specs.Groups.{f_of, quorum}
 use Rattle.rules.specs.Tables.{Row, Model, valley, rising}
@@ -54,6 +56,22 @@ not-true false n = refl
 -- ---- the header's words
 
 module _ (s : List ℕ) where
+  pub said_changing : (header_at s).mode ≡ 1 → is_changing (table_at format_one s) ≡ true
+  unfolding is_changing table_at
+  said_changing e = eq-eqb _ _ e
+
+  pub said_normal : ((header_at s).mode ≡ 1 → ⊥) → is_changing (table_at format_one s) ≡ false
+  unfolding is_changing table_at
+  said_normal n = ne_eqb _ _ n
+
+  pub said_other_view : (v : ℕ) → (v ≡ (header_at s).view → ⊥) → for_other_view (table_at format_one s) v ≡ true
+  unfolding for_other_view table_at
+  said_other_view v n = rw (ne_eqb _ _ n)
+
+  pub said_view : (v : ℕ) → v ≡ (header_at s).view → for_other_view (table_at format_one s) v ≡ false
+  unfolding for_other_view table_at
+  said_view v e = rw (eq-eqb _ _ e)
+
   -- what a reader of the header tells of the mode is told of the table
   pub mode_told : (h : Header) (told b : Bool) → h ≡ header_at s → told ≡ eqb h.mode 1 → told ≡ b → is_changing (table_at format_one s) ≡ b
   unfolding is_changing table_at
@@ -113,6 +131,13 @@ module _ (s : List ℕ) (stamp v : ℕ) (h : Header) (is : h ≡ header_at s) wh
 pub room_is : (limit : ℕ) (h : Header) → ltb (h.rows - h.start) ((limit - h.start) / quorum (f_of h.n)) ≡ keeps_room limit (f_of h.n) h.start h.rows
 unfolding keeps_room
 room_is limit h = refl
+
+-- nothing was left, so there is no share
+pub no_room : (limit : ℕ) (h : Header) → limit ≤ h.start → false ≡ keeps_room limit (f_of h.n) h.start h.rows
+unfolding keeps_room
+no_room limit h l =
+    let d = div-le_self (limit - h.start) (f_of h.n + 1) in
+    sym (le-ltb (h.rows - h.start) ((limit - h.start) / (f_of h.n + 1)) (omega arith))
 
 abbrev pub Proposes : List ℕ → ℕ → ℕ → Body → Result Place Refusal → ℕ → Type 0
 Proposes s stamp limit x found n = (found ≡ to_propose (limited limit) (table_at format_one s) stamp x) × (n ≡ compared_to_propose (table_at format_one s) stamp)

@@ -58,6 +58,11 @@ module _ (M : Model) (T : Table) where
   unfolding served_number further_circumstances number first applies both either
   number_7 s k = rw (either_none (is_changing T))
 
+-- a refusal has zeros behind its number
+pub refusal_is : (k : ℕ) → record { number = k; kind = 0; boxnumber = 0; state = 0; view = 0; stamp = 0; value = 0 } ≡ reply_as (refusal k)
+unfolding refusal
+refusal_is k = refl
+
 -- ---- what is then in the reply and in the buffer
 
 -- both promises of a message's function: what it tells, and the buffer after it

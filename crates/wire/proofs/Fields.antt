@@ -1,13 +1,13 @@
 -- A run of fields, each a number of its width: one step of reading what stands there, and one of knowing that what is read stands there.
 -- The place of the next field is an argument with an equation, so that no sum of places has to be brought into one shape.
 use mathlib.Core.Path.{◌≡◌, sym, ap, ◌∙◌}
-use mathlib.Core.List.{List, ◌++◌}
+use mathlib.Core.List.{List, ◌++◌, append_assoc}
 use Prim.Native.Nat.{ℕ, ◌+◌, ◌^◌, ◌≤◌, ◌<◌}
-use lib.ListN.{length}
-use Rattle.wire.specs.Parts.{part}
+use lib.ListN.{length, length-append}
+use Rattle.wire.specs.Parts.{part, replaced}
 use Rattle.wire.specs.Numbers.{number, bytes, number_at}
 use Rattle.wire.specs.Inner.ByteLists.{AllBytes}
-use Rattle.wire.proofs.Parts.{length_part}
+use Rattle.wire.proofs.Parts.{length_part, replaced_joined}
 use Rattle.wire.proofs.Numbers.{length_bytes, number_bytes, bytes_number, bytes_fit, all_part, all_joined}
 use Rattle.wire.proofs.Stands.{Stands, stands_left, stands_right, stands_joined}
 
@@ -45,3 +45,16 @@ stands_bytes s at ws a h = rw h at (all_part s at (length ws) a)
 -- a field among bytes fits its width, and the rest is bytes
 pub field_fits : (width x : ℕ) (ws : List ℕ) → 0 < width → AllBytes (bytes width x ++ ws) → (x < 256 ^ width) × AllBytes ws
 field_fits width x ws p h = let (first, others) = all_joined (bytes width x) ws h in (bytes_fit width x p first, others)
+
+-- four single bytes written one after the other
+pub four_bytes : (s : List ℕ) (at a b c d : ℕ) → at ≤ length s →
+    replaced (replaced (replaced (replaced s at (bytes 1 a)) (at + 1) (bytes 1 b)) (at + 2) (bytes 1 c)) (at + 3) (bytes 1 d) ≡ replaced s at (bytes 1 a ++ (bytes 1 b ++ (bytes 1 c ++ bytes 1 d)))
+four_bytes s at a b c d l =
+    let x : List ℕ = bytes 1 a ++ bytes 1 b in
+    let y : List ℕ = x ++ bytes 1 c in
+    rw (
+      replaced_joined s at (at + 1) (bytes 1 a) (bytes 1 b) l (simp length_bytes),
+      replaced_joined s at (at + 2) x (bytes 1 c) l (simp (length-append, length_bytes)),
+      replaced_joined s at (at + 3) y (bytes 1 d) l (simp (length-append, length_bytes)),
+    )
+    (simp append_assoc)

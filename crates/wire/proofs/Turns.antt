@@ -6,9 +6,9 @@ use native.Mathlib.Nat.{add_assoc, pow-suc, pow-le-pow_right, div-lt_iff_lt-mul}
 use native.Mathlib.Numerals.{add-one}
 use native.Mathlib.Omega.{arith}
 use lib.Arith.{digits_lt}
-use lib.ListN.{length, drop, get_or, set, length-drop, drop_of_length-le}
-use lib.Seq.{drop-cons, take-suc, get_or-drop}
-use Rattle.wire.specs.Parts.{replaced}
+use lib.ListN.{length, drop, get_or, set, length-drop, drop_of_length-le, replicate}
+use lib.Seq.{drop-cons, take-suc, get_or-drop, length-take-le, drop-set-lt, drop-set-add, take-set-le}
+use Rattle.wire.specs.Parts.{replaced, part}
 use Rattle.wire.specs.Numbers.{bytes, number_at}
 use Rattle.wire.proofs.Numbers.{length_bytes, number_last, bytes_none, bytes_last}
 use Rattle.wire.proofs.Parts.{replaced_nothing, replaced_first, replaced_last}
@@ -50,3 +50,37 @@ copy_turn d s at i hs hd =
 
 pub copy_end : (d s : List ℕ) (at i : ℕ) → length s ≤ i → replaced d at (drop i s) ≡ d
 copy_end d s at i h = rw (drop_of_length-le s h) (replaced_nothing d at)
+
+-- ---- parts cleared and moved, i elements of them so far (for a move up: i still to come)
+
+pub fill_turn : (d : List ℕ) (at i n v : ℕ) → i < n → at + i < length d → replaced d (at + i) (replicate (n - i) v) ≡ replaced (set d (at + i) v) (at + (i + 1)) (replicate (n - (i + 1)) v)
+fill_turn d at i n v h hd =
+    let e : n - i ≡ suc (n - (i + 1)) = omega arith in
+    rw (e, replaced_first d (at + i) (replicate (n - (i + 1)) v) v hd, add_assoc)
+
+pub down_turn : (s : List ℕ) (from to i n : ℕ) → to ≤ from → i < n → from + n ≤ length s → replaced s (to + i) (part s (from + i) (n - i)) ≡ replaced (set s (to + i) (get_or s (from + i) 0)) (to + (i + 1)) (part (set s (to + i) (get_or s (from + i) 0)) (from + (i + 1)) (n - (i + 1)))
+down_turn s from to i n hf h hl =
+    let e : n - i ≡ suc (n - (i + 1)) = omega arith in
+    let f : suc (from + i) ≡ from + (i + 1) = omega arith in
+    rw (
+      e,
+      drop-cons s (from + i) 0 (omega arith),
+      f,
+      replaced_first s (to + i) (part s (from + (i + 1)) (n - (i + 1))) (get_or s (from + i) 0) (omega arith),
+      add_assoc,
+      drop-set-lt (from + (i + 1)) s (to + i) (get_or s (from + i) 0) (omega arith),
+    )
+
+part-set_above : (s : List ℕ) (at n j b : ℕ) → at + n ≤ j → part (set s j b) at n ≡ part s at n
+part-set_above s at n j b h =
+    let e : j ≡ at + (j - at) = omega arith in
+    rw (e, drop-set-add, take-set-le n (drop at s) (j - at) b (omega arith))
+
+pub up_turn : (s : List ℕ) (from to i : ℕ) → from ≤ to → to + i < length s → replaced s to (part s from (suc i)) ≡ replaced (set s (to + i) (get_or s (from + i) 0)) to (part (set s (to + i) (get_or s (from + i) 0)) from i)
+up_turn s from to i hf hl =
+    let l : i < length (drop from s) = rw length-drop (omega arith) in
+    let n : length (part s from i) ≡ i = length-take-le i (drop from s) (omega arith) in
+    let e = replaced_last s to (part s from i) (get_or s (from + i) 0) (rw n hl) in
+    rw
+    (part-set_above s from i (to + i) (get_or s (from + i) 0) (omega arith), take-suc (drop from s) i 0 l, get_or-drop)
+    (rw n at e)
