@@ -23,5 +23,5 @@ newest-requires c = rw c.read-h.ensures (rows_inside valley c.args.table.now val
 
 pub returns : goal.returns
 returns c =
-    rw (c.taken.ensures, c.unwrap_or-found.ensures, version_or c.newest.result, value_or c.newest.result, c.newest.ensures, c.read-h.ensures)
-    (read_taken valley c.args.table.now c.args.stamp c.args.register (image_holds valley c.args.table.now c.requires) (mode_told c.args.table.now _ _ _ c.read-h.ensures c.is_changing.ensures c.if-is_changing.false)).0
+    let told = (read_taken valley c.args.table.now c.args.stamp c.args.register (image_holds valley c.args.table.now c.requires) (mode_told c.args.table.now _ _ _ c.read-h.ensures c.is_changing.ensures c.if-is_changing.false)).0 in
+    rw c.taken.ensures (rw (← c.read-h.ensures, ← c.newest.ensures, ← version_or c.newest.result, ← value_or c.newest.result, ← c.unwrap_or-found.ensures) at told)

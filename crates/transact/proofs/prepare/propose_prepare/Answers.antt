@@ -53,4 +53,4 @@ pub returns-in-Ok-Absent : goal.returns-in-Ok-Absent
 unfolding served_compared
 returns-in-Ok-Absent c =
     let (tells, after) = c.add_checked.ensures (limited c.args.limit) (sym c.row_to_propose-sought.ensures.0 ∙ c.in-Ok-Absent.is ∙ ap Ok (rw c.in-Ok-Absent.is at c.in-Ok-Absent.field-0-is)) in
-    rw (c.with-in-Ok-Absent.ensures.0, c.with-in-Ok-Absent.ensures.1) record { reply_value = (tells, c.row_to_propose-sought.ensures.1); table_after = after }
+    rw c.with-in-Ok-Absent.ensures.0 record { reply_value = (tells, c.with-in-Ok-Absent.ensures.1 ∙ c.row_to_propose-sought.ensures.1); table_after = after }
