@@ -34,7 +34,7 @@ use Rattle.seek.proofs.HeldRows.{image_holds, image_regular}
 use Rattle.transact.specs.declared.reply.Reply.{Reply}
 use Rattle.transact.specs.Replies.{reply_as, reply_bytes}
 use Rattle.transact.specs.Inner.DoneReplies.{Tells}
-use Rattle.transact.specs.Inner.Served.{served_number, served}
+use Rattle.transact.specs.Inner.Served.{served_number, served, served_reply, served_buffer, served_compared}
 use Rattle.edit.specs.Inner.Holding.{Holds}
 use Rattle.transact.proofs.Serving.{tells_refusal}
 use Rattle.answer.specs.Inner.BoxAnswers.{answer_to, answer_reply, answer_buffer, answer_compared, heard, heard_reply, heard_buffer, heard_compared}
@@ -86,6 +86,30 @@ module _ (M : Model) (s message : List ℕ) (asked : Option Message) (keeping_ru
 pub none_answered : (M : Model) (s : List ℕ) → Holds format_one s → Tells (Err BadMessage) (answer_reply M none s) × (s ≡ answer_buffer M none s)
 unfolding refused
 none_answered M s holds = (tells_refusal BadMessage _ refl, sym (edited_same format_one (λ T. T) s holds refl))
+
+-- ---- what a call promises that hears the bytes of a message, by what was read of them
+
+module _ (M : Model) (s message : List ℕ) (keeping_rules : BeginsWithImage M s) where
+  -- what is promised of a call that hears it
+  abbrev pub Heard : Result Reply Refusal → List ℕ → ℕ → Type 0
+  Heard told after n = Tells told (heard_reply M message (parse format_one M s)) × (after ≡ heard_buffer M message s (parse format_one M s)) × (n ≡ heard_compared M message (parse format_one M s))
+
+  -- what is answered to what was read is what is promised of the bytes
+  pub heard_answered : (asked : Option Message) → asked ≡ message_to format_one M (header_at s).n message → (told : Result Reply Refusal) (after : List ℕ) (n : ℕ) →
+      Tells told (answer_reply M asked s) → after ≡ answer_buffer M asked s → n ≡ answer_compared asked (table_at format_one s) → Heard told after n
+  heard_answered asked read told after n tells buffer compared =
+      let (reply, is) = heard_so M s message asked keeping_rules read in
+      ((tells.0 ∙ reply, tells.1 ∙ ap (λ (r : Reply). r.number) reply), buffer ∙ is, compared ∙ heard_compared_lem M s message asked keeping_rules read)
+
+  -- no message: 3, and nothing is changed
+  pub heard_none : none ≡ message_to format_one M (header_at s).n message → Heard (Err BadMessage) s 0
+  heard_none told =
+      let (tells, after) = none_answered M s (image_holds M s keeping_rules) in
+      heard_answered none told (Err BadMessage) s 0 tells after refl
+
+  pub heard_message : (m : Message) → some m ≡ message_to format_one M (header_at s).n message → (told : Result Reply Refusal) (after : List ℕ) (n : ℕ) →
+      Tells told (served_reply M m s) → after ≡ served_buffer M m s → n ≡ served_compared (table_at format_one s) m → Heard told after n
+  heard_message m asked told after n tells buffer compared = heard_answered (some m) asked told after n tells buffer compared
 
 -- ---- the call's three promises, of a call with buffers that are large enough
 

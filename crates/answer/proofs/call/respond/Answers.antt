@@ -1,13 +1,12 @@
 -- No table, or what the message is to the table that was found.
-use mathlib.Core.Path.{refl, sym, ap, ◌∙◌}
+use mathlib.Core.Path.{refl, sym, ◌∙◌}
 use Rattle.numbers.specs.declared.Refusal.TheVariants.{BadTable}
 use Rattle.table.specs.Images.{format_one}
 use Rattle.table.specs.Parse.{parse}
 use Rattle.seek.specs.Inner.Limits.{limited}
 use Rattle.seek.proofs.HeldRows.{some_boxes}
-use Rattle.transact.specs.declared.reply.Reply.{Reply}
 use Rattle.transact.proofs.Serving.{tells_refusal}
-use Rattle.answer.proofs.Responding.{found_nothing, found_begins, widened, heard_so, heard_compared_lem}
+use Rattle.answer.proofs.Responding.{found_nothing, found_begins, widened, heard_answered}
 use Rattle.answer.proofs.call.respond.Goals as goal
 
 pub returns-in_default : goal.returns-in_default
@@ -30,8 +29,7 @@ pub returns : goal.returns
 returns c =
     let s = c.args.table.now in
     let begins = found_begins (limited c.args.limit) s _ (sym c.in-Some.is ∙ c.find.ensures) in
-    let told = rw c.read-n.ensures at c.read-asked.ensures.result_value in
-    let (reply, buffer) = heard_so (limited c.args.limit) s c.args.message.now _ begins told in
-    let compared = heard_compared_lem (limited c.args.limit) s c.args.message.now _ begins told in
+    let read = rw c.read-n.ensures at c.read-asked.ensures.result_value in
     let n = c.serve.ensures in
-    record { reply_value = ((n.reply_value.0.0 ∙ reply, n.reply_value.0.1 ∙ ap (λ (r : Reply). r.number) reply), n.reply_value.1 ∙ compared); table_after = n.table_after ∙ buffer }
+    let (tells, after, compared) = heard_answered (limited c.args.limit) s c.args.message.now begins _ read c.serve.result.found c.serve.new.table c.serve.result.compared n.reply_value.0 n.table_after n.reply_value.1 in
+    record { reply_value = (tells, compared); table_after = after }
